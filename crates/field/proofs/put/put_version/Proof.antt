@@ -1,0 +1,73 @@
+-- `field::put::put_version` meets its contract: from the last byte to the first, the loop knows what `Filled` says. Assumes nothing.
+use native.Mathlib.Omega.{arith}
+use Rattle.wire.proofs.WriteLaws.{put-short, put-done}
+use Rattle.wire.specs.Field.{bigEndian}
+use Rattle.wire.proofs.FieldLaws.{big-good, big-length, Filled, fill-begin, fill-on, fill-end}
+use borrow.Author.Needs.{needs}
+use Rattle.field.proofs.put.put_version.Statement.{statement}
+use Rattle.field.proofs.put.put_version.Tie as tie
+
+abbrev Inv-loop : tie.InvT-loop
+Inv-loop out₀ at x₀ i₀ out x i = Filled 8 x₀ at out₀ out x i
+
+abbrev μ-loop : tie.MeasureT-loop
+μ-loop out₀ at x₀ i₀ out x i = i
+
+returns : tie.Need-returns Inv-loop μ-loop
+returns c = put-short (bigEndian 8) _ _ _ (big-good 8 _ (omega arith)) (omega (arith, big-length 8 (c .before .args .v .0)))
+
+sub-if2 : tie.Need-sub-if2 Inv-loop μ-loop
+sub-if2 c = search needs
+
+returns-2 : tie.Need-returns-2 Inv-loop μ-loop
+returns-2 c = put-short (bigEndian 8) _ _ _ (big-good 8 _ (omega arith)) (omega (arith, big-length 8 (c .before .before .args .v .0)))
+
+loop-holds : tie.Need-loop-holds Inv-loop μ-loop
+loop-holds c = fill-begin 8 _ _ _
+
+sub-i : tie.Need-sub-i Inv-loop μ-loop
+sub-i c = search needs
+
+cast-out : tie.Need-cast-out Inv-loop μ-loop
+cast-out c = search needs
+
+add-out : tie.Need-add-out Inv-loop μ-loop
+add-out c = search needs
+
+slice-write-out : tie.Need-slice-write-out Inv-loop μ-loop
+slice-write-out c = omega (arith, c .before .loop .inv .long, c .before .loop .inv .within)
+
+loop-less : tie.Need-loop-less Inv-loop μ-loop
+loop-less c = search needs
+
+loop-again : tie.Need-loop-again Inv-loop μ-loop
+loop-again c = fill-on 8 _ _ _ _ _ _ (c .loop-test .taken) (c .before .loop .inv)
+
+add-result : tie.Need-add-result Inv-loop μ-loop
+add-result c = search needs
+
+same-length : tie.Need-same-length Inv-loop μ-loop
+same-length c = c .before .loop .inv .long
+
+returns-3 : tie.Need-returns-3 Inv-loop μ-loop
+returns-3 c = put-done (bigEndian 8) _ _ _ (big-good 8 _ (omega arith)) (omega (arith, big-length 8 (c .before .before .before .before .args .v .0))) _ _ (fill-end 8 _ _ _ _ _ _ (omega arith) (c .before .loop .inv))
+
+pub put-version-spec : {M : Type 1} → statement M
+put-version-spec =
+    tie.close
+    (tie.spec
+    Inv-loop
+    μ-loop
+    returns
+    sub-if2
+    returns-2
+    loop-holds
+    sub-i
+    cast-out
+    add-out
+    slice-write-out
+    loop-less
+    loop-again
+    add-result
+    same-length
+    returns-3)

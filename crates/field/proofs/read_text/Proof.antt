@@ -1,0 +1,52 @@
+-- `field::read_text` meets its contract: the test comes once the bytes are whole. Assumes nothing.
+use mathlib.Core.Path.{sym, ap, _∙_}
+use Rattle.wire.proofs.At.{at-guard}
+use Rattle.text.specs.Text.{isText}
+use Rattle.field.specs.Answer.{limitedText}
+use Rattle.field.proofs.Parts.{span-stops, span-stays}
+use borrow.Author.Needs.{needs}
+use Rattle.field.proofs.read_text.Statement.{statement}
+use Rattle.field.proofs.read_text.Tie as tie
+
+read-limited-requires : tie.Need-read-limited-requires
+read-limited-requires c κs = search needs
+
+enum-known-r : tie.Need-enum-known-r
+enum-known-r c = search needs
+
+returns : tie.Need-returns
+unfolding limitedText
+returns c = let r = c .before .read-limited in
+    rw (at-guard, ← (r .ensures)) (sym (span-stops (r .result) (c .match .keys2) _ _ ∙ span-stays (r .result) (c .match .keys2) _))
+
+part-requires : tie.Need-part-requires
+part-requires c κs = search needs
+
+is-text-requires : tie.Need-is-text-requires
+is-text-requires c κs = search needs
+
+returns-2 : tie.Need-returns-2
+unfolding limitedText
+returns-2 c = let t = c .before in
+    let p = t .before in
+    let n = p .before .before in
+    rw (at-guard, ← (n .before .before .read-limited .ensures), n .r .given .1, sym (ap isText (p .part .ensures)) ∙ sym (t .is-text .ensures) ∙ c .if1 .taken)
+
+returns-3 : tie.Need-returns-3
+unfolding limitedText
+returns-3 c = let t = c .before in
+    let p = t .before in
+    let n = p .before .before in
+    rw (at-guard, ← (n .before .before .read-limited .ensures), n .r .given .1, sym (ap isText (p .part .ensures)) ∙ sym (t .is-text .ensures) ∙ c .if1 .left)
+
+pub read-text-spec : {M : Type 1} → statement M
+read-text-spec =
+    tie.close
+    (tie.spec
+    read-limited-requires
+    enum-known-r
+    returns
+    part-requires
+    is-text-requires
+    returns-2
+    returns-3)

@@ -1,0 +1,9 @@
+-- What a writer's answer says.
+use Prim.Native.Nat.{ℕ}
+use Rattle.wire.specs.Write as wire
+use Rattle.message.specs.declared.Sent.{Sent}
+use Rattle.message.specs.declared.Sent.the-variants as s
+
+abbrev pub asSent : Sent → wire.Sent
+asSent (s.Written n) = wire.written n
+asSent (s.Refused k) = wire.kept k

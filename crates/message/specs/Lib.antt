@@ -1,0 +1,7 @@
+pub mod Operation
+pub mod Edition
+pub mod Request
+pub mod Reply
+pub mod Refusal
+pub mod Written
+pub mod Answer

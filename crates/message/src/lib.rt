@@ -1,0 +1,156 @@
+// The messages of the protocol: their types, and the limits that belong to them. Their formats are in specs/, the formats' laws in proofs/.
+use field::EntryVersion;
+use field::Span;
+ghost use mathlib.Core.Path.{_≡_};
+ghost use Rattle.field.specs.Answer.{partOf};
+ghost use Rattle.message.specs.Operation.{codeOf, asFound, findCode};
+
+pub enum Operation {
+    Put,
+    Get,
+    PutIfAbsent,
+    Replace,
+    ReplaceIfUnmodified,
+    Remove,
+    RemoveIfUnmodified,
+    ContainsKey,
+    GetWithVersion,
+    Clear,
+    Ping,
+}
+
+// The numbers of a request. A number that the operation does not send is 0.
+pub struct Head {
+    pub id: u64,
+    pub version: u8,
+    pub op: Operation,
+    pub flags: u64,
+    pub intelligence: u8,
+    pub topology: u64,
+    pub lifespan: u64,
+    pub idle: u64,
+    pub entry: EntryVersion,
+}
+
+// A request that was read: its numbers, and where in the bytes its name, key and value stand.
+pub struct Request {
+    pub head: Head,
+    pub name: Span,
+    pub key: Span,
+    pub value: Span,
+}
+
+// The numbers of a reply. A number that the operation and status do not send is 0.
+pub struct Answer {
+    pub id: u64,
+    pub op: u8,
+    pub status: u8,
+    pub entry: EntryVersion,
+}
+
+// A reply that was read: its numbers, and where in the bytes its value and its text stand.
+pub struct Reply {
+    pub answer: Answer,
+    pub value: Span,
+    pub text: Span,
+}
+
+// What the writer of a message answers: how many bytes it wrote, or the refusal for which it wrote none.
+pub enum Sent {
+    Written(usize),
+    Refused(u8),
+}
+
+impl Request {
+    pub const NAME: u64 = 32;
+
+    pub const KEY: u64 = 64;
+
+    pub const VALUE: u64 = 256;
+
+    // The name, the key and the value, as parts of the bytes that the request was read from.
+    pub fn name_in(self, s: &[u8]) -> &[u8]
+        ensures { λ r. ⌜ now r ≡ partOf (now (s .entry)) (self .name) ⌝ }
+    {
+        let p = self.name;
+        field::part(s, p)
+    }
+
+    pub fn key_in(self, s: &[u8]) -> &[u8]
+        ensures { λ r. ⌜ now r ≡ partOf (now (s .entry)) (self .key) ⌝ }
+    {
+        let p = self.key;
+        field::part(s, p)
+    }
+
+    pub fn value_in(self, s: &[u8]) -> &[u8]
+        ensures { λ r. ⌜ now r ≡ partOf (now (s .entry)) (self .value) ⌝ }
+    {
+        let p = self.value;
+        field::part(s, p)
+    }
+}
+
+impl Reply {
+    pub const VALUE: u64 = 256;
+
+    pub const TEXT: u64 = 64;
+
+    pub fn value_in(self, s: &[u8]) -> &[u8]
+        ensures { λ r. ⌜ now r ≡ partOf (now (s .entry)) (self .value) ⌝ }
+    {
+        let p = self.value;
+        field::part(s, p)
+    }
+
+    pub fn text_in(self, s: &[u8]) -> &[u8]
+        ensures { λ r. ⌜ now r ≡ partOf (now (s .entry)) (self .text) ⌝ }
+    {
+        let p = self.text;
+        field::part(s, p)
+    }
+}
+
+// The code of an operation in a request.
+pub fn code(op: Operation) -> u8
+    ensures { λ r. ⌜ r ≡ codeOf op ⌝ }
+{
+    match op {
+        Operation::Put => 0x01,
+        Operation::Get => 0x03,
+        Operation::PutIfAbsent => 0x05,
+        Operation::Replace => 0x07,
+        Operation::ReplaceIfUnmodified => 0x09,
+        Operation::Remove => 0x0b,
+        Operation::RemoveIfUnmodified => 0x0d,
+        Operation::ContainsKey => 0x0f,
+        Operation::GetWithVersion => 0x11,
+        Operation::Clear => 0x13,
+        Operation::Ping => 0x17,
+    }
+}
+
+// What a code stands for. "Every other code is refused, known to the protocol or not."
+pub enum Found {
+    Known(Operation),
+    Unknown,
+}
+
+pub fn find(code: u8) -> Found
+    ensures { λ r. ⌜ asFound r ≡ findCode code ⌝ }
+{
+    match code {
+        0x01 => Found::Known(Operation::Put),
+        0x03 => Found::Known(Operation::Get),
+        0x05 => Found::Known(Operation::PutIfAbsent),
+        0x07 => Found::Known(Operation::Replace),
+        0x09 => Found::Known(Operation::ReplaceIfUnmodified),
+        0x0b => Found::Known(Operation::Remove),
+        0x0d => Found::Known(Operation::RemoveIfUnmodified),
+        0x0f => Found::Known(Operation::ContainsKey),
+        0x11 => Found::Known(Operation::GetWithVersion),
+        0x13 => Found::Known(Operation::Clear),
+        0x17 => Found::Known(Operation::Ping),
+        _ => Found::Unknown,
+    }
+}

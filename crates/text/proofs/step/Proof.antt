@@ -1,0 +1,54 @@
+-- `text::step` meets its contract: each way out has the tests of `stepOf`. Assumes nothing.
+use borrow.Author.Tests.{eq-eqb, ne-eqb, lt-ltb, le-ltb}
+use Rattle.text.specs.Text.{stepOf}
+use borrow.Author.Needs.{needs}
+use Rattle.text.proofs.step.Statement.{statement}
+use Rattle.text.proofs.step.Tie as tie
+
+enum-known-w : tie.Need-enum-known-w
+enum-known-w c = search needs
+
+enum-told : tie.Need-enum-told
+enum-told c = search needs
+
+returns : tie.Need-returns
+unfolding stepOf
+returns c = rw (c .enum-told .given .1)
+
+lead-requires : tie.Need-lead-requires
+lead-requires c κs = search needs
+
+returns-2 : tie.Need-returns-2
+unfolding stepOf
+returns-2 c = rw (c .before .before .before .w .given .1, eq-eqb _ _ (c .before .if1 .taken)) (c .lead .ensures)
+
+returns-3 : tie.Need-returns-3
+unfolding stepOf
+returns-3 c = rw (c .before .before .before .w .given .1, ne-eqb _ _ (c .before .if1 .left), lt-ltb _ _ (c .if2 .taken))
+
+returns-4 : tie.Need-returns-4
+unfolding stepOf
+returns-4 c =
+    rw (c .before .before .before .before .w .given .1, ne-eqb _ _ (c .before .before .if1 .left), le-ltb _ _ (c .before .if2 .left), lt-ltb _ _ (c .if3 .taken))
+
+sub-t7 : tie.Need-sub-t7
+sub-t7 c = search needs
+
+returns-5 : tie.Need-returns-5
+unfolding stepOf
+returns-5 c =
+    rw (c .before .before .before .before .w .given .1, ne-eqb _ _ (c .before .before .if1 .left), le-ltb _ _ (c .before .if2 .left), le-ltb _ _ (c .if3 .left))
+
+pub step-spec : {M : Type 1} → statement M
+step-spec =
+    tie.close
+    (tie.spec
+    enum-known-w
+    enum-told
+    returns
+    lead-requires
+    returns-2
+    returns-3
+    returns-4
+    sub-t7
+    returns-5)

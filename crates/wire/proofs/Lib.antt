@@ -1,0 +1,7 @@
+pub mod Laws
+pub mod NumberLaws
+pub mod NumberRead
+pub mod NumberWrite
+pub mod At
+pub mod FieldLaws
+pub mod WriteLaws

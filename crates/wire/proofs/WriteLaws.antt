@@ -1,0 +1,132 @@
+-- Writing a field and writing a message: each way out, how writes follow one another, and the way back by reading. Assumes nothing.
+use mathlib.Core.Path.{_≡_, refl, sym, ap, _∙_}
+use mathlib.Core.List.{List, [], _∷_, _++_, append-assoc, append-nil}
+use mathlib.Core.Bool.{Bool, true, false, cond}
+use Prim.Native.Nat.{ℕ, suc, _+_, _-_, _≤_, _<_}
+use native.Mathlib.Nat.{zero-add, add-zero, add-suc, suc-add}
+use native.Mathlib.Omega.{arith}
+use lib.ListN.{length, take, drop, set, length-append, length-drop, drop-of-length-le}
+use lib.Seq.{sets, sets-eq, length-sets, drop-at, drop-drop, take-all, take-length, length-take-le}
+use lib.Dec.{leb}
+use borrow.Author.Tests.{le-leb, lt-leb}
+use Rattle.wire.specs.Codec.{whole, Codec, Valid, raw, guard, seq, as-type, readAt}
+use Rattle.wire.specs.Write.{Room, Wrote, putAt, Sent, written, kept, send}
+use Rattle.wire.proofs.Laws.{Laws, never}
+
+-- two writes, one after the other
+sets-append : (l : List ℕ) (i : ℕ) (a b : List ℕ) → sets l i (a ++ b) ≡ sets (sets l i a) (i + length a) b
+sets-append l i [] b = rw add-zero
+sets-append l i (x ∷ a) b = sets-append (set l i x) (suc i) a b ∙ rw (suc-add, ← add-suc)
+
+pub wrote-seq : {A : Type 0} {B : A → Type 0} (c : Codec A) (d : (a : A) → Codec (B a)) {a : A} {b : B a} {o₁ o₂ o₃ : List ℕ} {at r₁ r₂ : ℕ}
+    → Wrote c a o₁ o₂ at r₁ → Wrote (d a) b o₂ o₃ r₁ r₂ → Wrote (seq c d) (a, b) o₁ o₃ at r₂
+unfolding seq
+wrote-seq c d {a = a} {b = b} x y =
+    record {
+      next = omega (arith, length-append (c .enc a) (d a .enc b), x .next, y .next);
+      list = y .list ∙ rw (x .list, x .next, sets-append);
+      long = y .long ∙ x .long;
+    }
+
+-- and what a test or another type leaves as it is
+pub wrote-guard : {A : Type 0} (test : A → Bool) (k : ℕ) (c : Codec A) {a : A} {old new : List ℕ} {at r : ℕ} → Wrote c a old new at r → Wrote (guard test k c) a old new at r
+unfolding guard
+wrote-guard test k c w = record { next = w .next; list = w .list; long = w .long }
+
+pub wrote-type : {A B : Type 0} (test : B → Bool) (to : A → B) (from : B → A) (c : Codec A) {b : B} {old new : List ℕ} {at r : ℕ}
+    → Wrote c (from b) old new at r → Wrote (as-type test to from c) b old new at r
+unfolding as-type
+wrote-type test to from c w = record { next = w .next; list = w .list; long = w .long }
+
+-- the writer of a field
+module _ {A : Type 0} (c : Codec A) (a : A) (at : ℕ) (old : List ℕ) where
+  pub put-broken : c .ok a ≡ false → (at, old) ≡ putAt c a at old
+  unfolding putAt
+  put-broken e = rw e
+
+  pub put-short : Valid c a → length old < at + length (c .enc a) → (at, old) ≡ putAt c a at old
+  unfolding putAt
+  put-short v h = rw (v, lt-leb (at + length (c .enc a)) (length old) h)
+
+  pub put-done : Valid c a → Room c a at old → (new : List ℕ) (r : ℕ) → Wrote c a old new at r → (r, new) ≡ putAt c a at old
+  unfolding putAt
+  put-done v h new r w = rw (v, le-leb (at + length (c .enc a)) (length old) h, w .next, w .list)
+
+  pub put-wrote : Valid c a → Room c a at old → (new : List ℕ) (r : ℕ) → (r, new) ≡ putAt c a at old → Wrote c a old new at r
+  unfolding putAt
+  put-wrote v h new r e =
+      let f : _≡_ {A = ℕ × List ℕ} (r, new) (at + length (c .enc a), sets old at (c .enc a)) = e ∙ rw (v, le-leb (at + length (c .enc a)) (length old) h) in
+      let q : new ≡ sets old at (c .enc a) = ap (λ (p : ℕ × List ℕ). p .1) f in
+      record {
+        next = ap (λ (p : ℕ × List ℕ). p .0) f;
+        list = q;
+        long = ap length q ∙ length-sets old at (c .enc a);
+      }
+
+-- the writer of a message
+kept-none : {X : Type 0} {k n : ℕ} → kept k ≡ written n → X
+kept-none e = never (cc)
+
+count : {m n : ℕ} → written m ≡ written n → m ≡ n
+count e = cc
+
+module _ {A : Type 0} (c : Codec A) (a : A) (old : List ℕ) where
+  pub send-broken : c .ok a ≡ false → (kept 16, old) ≡ send c a old
+  unfolding send
+  send-broken e = rw e
+
+  pub send-short : Valid c a → length old < length (c .enc a) → (kept 12, old) ≡ send c a old
+  unfolding send
+  send-short v h = rw (v, lt-leb (length (c .enc a)) (length old) h)
+
+  pub send-done : Valid c a → length (c .enc a) ≤ length old → (new : List ℕ) (r : ℕ) → Wrote c a old new 0 r → (written r, new) ≡ send c a old
+  unfolding send
+  send-done v h new r w =
+      let e : r ≡ length (c .enc a) = w .next ∙ zero-add _ in
+      let f : new ≡ c .enc a ++ drop (length (c .enc a)) old = w .list ∙ sets-eq (c .enc a) old 0 (omega arith) ∙ rw zero-add in
+      rw (v, le-leb (length (c .enc a)) (length old) h, e, f)
+
+  -- what is sent is read again where it stands, with its length for the bytes taken
+  pub send-read : Laws c → (new : List ℕ) (n : ℕ) → send c a old ≡ (written n, new) → readAt c new 0 ≡ whole a n
+  unfolding send readAt
+  send-read l new n e = go (c .ok a) (leb (length (c .enc a)) (length old)) refl e
+    where
+      go : (t u : Bool) → c .ok a ≡ t
+          → _≡_ {A = Sent × List ℕ} (cond t (cond u (written (length (c .enc a)), c .enc a ++ drop (length (c .enc a)) old) (kept 12, old)) (kept 16, old)) (written n, new)
+          → readAt c new 0 ≡ whole a n
+      go true true v e =
+          let p : length (c .enc a) ≡ n = count (ap (λ (p : Sent × List ℕ). p .0) e) in
+          let q : c .enc a ++ drop (length (c .enc a)) old ≡ new = ap (λ (p : Sent × List ℕ). p .1) e in
+          rw (← q, l .round a (drop (length (c .enc a)) old) v, zero-add, p)
+      go true false v e = kept-none (ap (λ (p : Sent × List ℕ). p .0) e)
+      go false u v e = kept-none (ap (λ (p : Sent × List ℕ). p .0) e)
+
+  pub send-room : Valid c a → Room c a 0 old → send c a old ≡ (written (length (c .enc a)), c .enc a ++ drop (length (c .enc a)) old)
+  unfolding send
+  send-room v h = rw (v, le-leb (length (c .enc a)) (length old) (omega arith))
+
+  -- a message with a written form and room for it comes back from any reader of what was left
+  pub send-back : Laws c → Valid c a → Room c a 0 old → (r : Sent) (new : List ℕ) → (r, new) ≡ send c a old → readAt c new 0 ≡ whole a (length (c .enc a))
+  send-back l v h r new e =
+      let q : new ≡ c .enc a ++ drop (length (c .enc a)) old = ap (λ (p : Sent × List ℕ). p .1) (e ∙ send-room v h) in
+      rw q (send-read l (c .enc a ++ drop (length (c .enc a)) old) (length (c .enc a)) (send-room v h))
+
+-- what was written is read back where it was written
+pub wrote-read : {A : Type 0} (c : Codec A) → Laws c → (a : A) (old new : List ℕ) (at r : ℕ)
+    → Valid c a → at + length (c .enc a) ≤ length old → Wrote c a old new at r → readAt c new at ≡ whole a r
+unfolding readAt
+wrote-read c l a old new at r v h w =
+    let p : drop at new ≡ c .enc a ++ drop (at + length (c .enc a)) old =
+    rw (w .list, sets-eq (c .enc a) old at h, append-assoc) (drop-at (take at old) _ at (length-take-le at old (omega arith))) in
+    rw (p, l .round a (drop (at + length (c .enc a)) old) v, w .next)
+
+-- bytes copied to the front of what stands from `at` on
+pub wrote-copy : (n at : ℕ) (s old new : List ℕ) → at + length s ≤ length old → new ≡ take (length s) s ++ drop (length s) (take (length old - at) (drop at old))
+    → Wrote (raw n) s old (take at old ++ (new ++ drop (length old - at) (drop at old))) at (at + length s)
+unfolding raw
+wrote-copy n at s old new h e =
+    let a : take (length old - at) (drop at old) ≡ drop at old = take-all (length old - at) (drop at old) (simp length-drop (omega arith)) in
+    let b : drop (length old - at) (drop at old) ≡ [] = drop-of-length-le (drop at old) {i = length old - at} (simp length-drop (omega arith)) in
+    let c : new ≡ s ++ drop (at + length s) old = e ∙ rw (a, take-length s, drop-drop) in
+    let d : take at old ++ (new ++ drop (length old - at) (drop at old)) ≡ sets old at s = rw (b, append-nil new, c) (sym (sets-eq s old at h ∙ append-assoc (take at old) s (drop (at + length s) old))) in
+    record { next = refl; list = d; long = ap length d ∙ length-sets old at s }

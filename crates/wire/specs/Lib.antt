@@ -1,0 +1,5 @@
+pub mod Codec
+pub mod Number
+pub mod Field
+pub mod Write
+pub mod Vectors

@@ -1,0 +1,38 @@
+-- What a writer answers, and what it leaves of the list that it was lent.
+use mathlib.Core.List.{List, _++_}
+use mathlib.Core.Path.{_≡_}
+use mathlib.Core.Bool.{cond}
+use Prim.Native.Nat.{ℕ, _+_, _≤_}
+use lib.ListN.{length, drop}
+use lib.Seq.{sets}
+use lib.Dec.{leb}
+use Rattle.wire.specs.Codec.{Codec}
+
+-- there is room for a's bytes at `at`
+abbrev pub Room : {A : Type 0} → Codec A → A → ℕ → List ℕ → Type 0
+Room c a at old = at + length (c .enc a) ≤ length old
+
+-- a's bytes were written at `at`, nothing else was changed, and r is the place behind them
+pub record Wrote {A : Type 0} (c : Codec A) (a : A) (old new : List ℕ) (at r : ℕ) : Type 0 where
+  pub next : r ≡ at + length (c .enc a)
+  pub list : new ≡ sets old at (c .enc a)
+  pub long : length new ≡ length old
+
+-- The writer of a field: where the value has a written form and there is room for it, the place behind its bytes, and the list with them.
+-- Else the place is the same, and so is the list.
+unfoldable pub putAt : {A : Type 0} → Codec A → A → ℕ → List ℕ → ℕ × List ℕ
+putAt c a at old =
+    cond (c .ok a) (cond (leb (at + length (c .enc a)) (length old)) (at + length (c .enc a), sets old at (c .enc a)) (at, old)) (at, old)
+
+-- so many bytes written, or nothing written, by the refusal's number
+pub data Sent : Type 0 where
+  written : ℕ → Sent
+  kept : ℕ → Sent
+
+-- The writer of a message. "Writing: 16, then 12": a message that breaks a rule is 16, room under the encoded length is 12, and both leave the
+-- list as it was. "Behind any message written, the buffer keeps its bytes."
+unfoldable pub send : {A : Type 0} → Codec A → A → List ℕ → Sent × List ℕ
+send c a old =
+    cond (c .ok a)
+    (cond (leb (length (c .enc a)) (length old)) (written (length (c .enc a)), c .enc a ++ drop (length (c .enc a)) old) (kept 12, old))
+    (kept 16, old)

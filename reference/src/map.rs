@@ -1,0 +1,163 @@
+//! The simple map with version numbers.
+
+use std::collections::{BTreeMap, BTreeSet};
+
+use crate::fields::{KEY_LIMIT, VALUE_LIMIT};
+use crate::operation::{
+    body, Body, CLEAR, CONTAINS_KEY, GET, GET_WITH_VERSION, PUT, PUT_IF_ABSENT, REMOVE,
+    REMOVE_IF_UNMODIFIED, REPLACE, REPLACE_IF_UNMODIFIED,
+};
+use crate::reply::Reply;
+use crate::request::{keeps_rules, Request, FLAG_DEFAULT_LIFESPAN};
+
+/// The most keys a table holds.
+pub const MOST_KEYS: usize = 128;
+/// The largest entry version that a table gives out.
+pub const LARGEST_VERSION: u64 = 9_223_372_036_854_775_807;
+/// The largest second plus the largest lifespan.
+pub const LARGEST_DEADLINE: u64 = 8_589_934_590;
+
+#[derive(Clone, Debug, Default, PartialEq, Eq)]
+pub struct Entry {
+    pub value: Vec<u8>,
+    pub version: u64,
+    /// A second, or 0 for none.
+    pub deadline: u64,
+}
+
+#[derive(Clone, Debug, Default, PartialEq, Eq)]
+pub struct Table {
+    pub entries: BTreeMap<Vec<u8>, Entry>,
+    /// The last version issued, 0 when fresh.
+    pub last: u64,
+}
+
+/// Whether the table is one: sizes kept, versions different and in range,
+/// deadlines in range.
+pub fn is_table(table: &Table) -> bool {
+    let mut versions = BTreeSet::new();
+    for (key, entry) in &table.entries {
+        let good = key.len() <= KEY_LIMIT
+            && entry.value.len() <= VALUE_LIMIT
+            && entry.version >= 1
+            && entry.version <= table.last
+            && entry.deadline <= LARGEST_DEADLINE
+            && versions.insert(entry.version);
+        if !good {
+            return false;
+        }
+    }
+    table.entries.len() <= MOST_KEYS && table.last <= LARGEST_VERSION
+}
+
+/// What a request does to the table.
+#[derive(Clone, Copy, PartialEq, Eq)]
+enum Effect {
+    Nothing,
+    Store,
+    Remove,
+    Clear,
+}
+
+/// The status of the reply, by the entry held before the step.
+fn status(request: &Request, held: Option<&Entry>) -> u8 {
+    match request.operation {
+        PUT_IF_ABSENT if held.is_some() => 1,
+        REPLACE if held.is_none() => 1,
+        REPLACE_IF_UNMODIFIED | REMOVE_IF_UNMODIFIED => match held {
+            None => 2,
+            Some(entry) if entry.version == request.entry_version => 0,
+            Some(_) => 1,
+        },
+        REMOVE | GET | GET_WITH_VERSION | CONTAINS_KEY if held.is_none() => 2,
+        _ => 0,
+    }
+}
+
+/// Only status 00 changes the table.
+fn effect(operation: u8, status: u8) -> Effect {
+    if status != 0 {
+        return Effect::Nothing;
+    }
+    match operation {
+        PUT | PUT_IF_ABSENT | REPLACE | REPLACE_IF_UNMODIFIED => Effect::Store,
+        REMOVE | REMOVE_IF_UNMODIFIED => Effect::Remove,
+        CLEAR => Effect::Clear,
+        _ => Effect::Nothing,
+    }
+}
+
+/// The deadline of an entry that this request stores.
+fn deadline(request: &Request, second: u32) -> u64 {
+    if request.lifespan == 0 || request.flags & FLAG_DEFAULT_LIFESPAN != 0 {
+        return 0;
+    }
+    u64::from(second) + u64::from(request.lifespan)
+}
+
+/// The reply to a request that is not refused.
+fn answer(request: &Request, status: u8, held: Option<&Entry>) -> Reply {
+    let mut reply = Reply {
+        id: request.id,
+        operation: request.operation + 1,
+        status,
+        ..Reply::default()
+    };
+    let Some(entry) = held else {
+        return reply;
+    };
+    match body(request.operation, request.wants_old_value(), status) {
+        Body::Nothing | Body::EmptyValue => {}
+        Body::Value => reply.value = entry.value.clone(),
+        Body::VersionAndValue => {
+            reply.version = entry.version;
+            reply.value = entry.value.clone();
+        }
+    }
+    reply
+}
+
+/// One step of the map. A refusal (9, 10 or 11) changes nothing. The map is
+/// meant for well-formed requests; one that breaks a rule is given back as 16
+/// and changes nothing.
+pub fn step(request: &Request, second: u32, table: &mut Table) -> Result<Reply, u8> {
+    if !keeps_rules(request) {
+        return Err(16);
+    }
+    if !request.name.is_empty() {
+        return Err(9);
+    }
+    let held = table.entries.get(&request.key);
+    let status = status(request, held);
+    let effect = effect(request.operation, status);
+    if effect == Effect::Store {
+        if held.is_none() && table.entries.len() >= MOST_KEYS {
+            return Err(10);
+        }
+        if table.last >= LARGEST_VERSION {
+            return Err(11);
+        }
+    }
+    let reply = answer(request, status, held);
+    apply(effect, request, second, table);
+    Ok(reply)
+}
+
+fn apply(effect: Effect, request: &Request, second: u32, table: &mut Table) {
+    match effect {
+        Effect::Nothing => {}
+        Effect::Store => {
+            table.last += 1;
+            let entry = Entry {
+                value: request.value.clone(),
+                version: table.last,
+                deadline: deadline(request, second),
+            };
+            table.entries.insert(request.key.clone(), entry);
+        }
+        Effect::Remove => {
+            table.entries.remove(&request.key);
+        }
+        Effect::Clear => table.entries.clear(),
+    }
+}

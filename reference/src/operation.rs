@@ -1,0 +1,104 @@
+//! The served operations: their codes, and which fields and statuses each has.
+
+pub const PUT: u8 = 0x01;
+pub const GET: u8 = 0x03;
+pub const PUT_IF_ABSENT: u8 = 0x05;
+pub const REPLACE: u8 = 0x07;
+pub const REPLACE_IF_UNMODIFIED: u8 = 0x09;
+pub const REMOVE: u8 = 0x0b;
+pub const REMOVE_IF_UNMODIFIED: u8 = 0x0d;
+pub const CONTAINS_KEY: u8 = 0x0f;
+pub const GET_WITH_VERSION: u8 = 0x11;
+pub const CLEAR: u8 = 0x13;
+pub const PING: u8 = 0x17;
+
+/// The operation code of an error reply.
+pub const ERROR: u8 = 0x50;
+
+/// All served operations, as request codes.
+pub const SERVED: [u8; 11] = [
+    PUT,
+    GET,
+    PUT_IF_ABSENT,
+    REPLACE,
+    REPLACE_IF_UNMODIFIED,
+    REMOVE,
+    REMOVE_IF_UNMODIFIED,
+    CONTAINS_KEY,
+    GET_WITH_VERSION,
+    CLEAR,
+    PING,
+];
+
+pub fn is_served(operation: u8) -> bool {
+    SERVED.contains(&operation)
+}
+
+/// Whether a request of this operation sends a key.
+pub fn sends_key(operation: u8) -> bool {
+    is_served(operation) && operation != CLEAR && operation != PING
+}
+
+/// Whether a request of this operation sends lifespan, max idle and value.
+pub fn sends_value(operation: u8) -> bool {
+    matches!(
+        operation,
+        PUT | PUT_IF_ABSENT | REPLACE | REPLACE_IF_UNMODIFIED
+    )
+}
+
+/// Whether a request of this operation sends an entry version.
+pub fn sends_entry_version(operation: u8) -> bool {
+    matches!(operation, REPLACE_IF_UNMODIFIED | REMOVE_IF_UNMODIFIED)
+}
+
+/// Whether the reply table lists this status for this operation.
+pub fn may_answer(operation: u8, status: u8) -> bool {
+    match operation {
+        PUT | CLEAR | PING => status == 0,
+        PUT_IF_ABSENT | REPLACE => status == 0 || status == 1,
+        REPLACE_IF_UNMODIFIED | REMOVE_IF_UNMODIFIED => status <= 2,
+        REMOVE | GET | GET_WITH_VERSION | CONTAINS_KEY => status == 0 || status == 2,
+        _ => false,
+    }
+}
+
+/// What follows the marker in a reply that is no error.
+#[derive(Clone, Copy, Debug, PartialEq, Eq)]
+pub enum Body {
+    Nothing,
+    /// A length up to the value limit and so many bytes.
+    Value,
+    /// A length that must be 0.
+    EmptyValue,
+    /// An entry version, then a length and so many bytes.
+    VersionAndValue,
+}
+
+/// The body of the reply to `operation` with this status; `flag` says whether
+/// the request asked for the old value.
+pub fn body(operation: u8, flag: bool, status: u8) -> Body {
+    match operation {
+        GET if status == 0 => Body::Value,
+        GET_WITH_VERSION if status == 0 => Body::VersionAndValue,
+        PUT | PUT_IF_ABSENT | REPLACE | REPLACE_IF_UNMODIFIED | REMOVE | REMOVE_IF_UNMODIFIED
+            if flag =>
+        {
+            old_value(operation, status)
+        }
+        _ => Body::Nothing,
+    }
+}
+
+/// The old value is empty where the status says that the key was absent, and
+/// at status 01 of the two IfUnmodified operations.
+fn old_value(operation: u8, status: u8) -> Body {
+    match (operation, status) {
+        (PUT_IF_ABSENT, 0) => Body::EmptyValue,
+        (REPLACE, 1) => Body::EmptyValue,
+        (REPLACE_IF_UNMODIFIED, 1 | 2) => Body::EmptyValue,
+        (REMOVE, 2) => Body::EmptyValue,
+        (REMOVE_IF_UNMODIFIED, 1 | 2) => Body::EmptyValue,
+        _ => Body::Value,
+    }
+}

@@ -1,0 +1,139 @@
+//! Serving calls: bytes in, bytes out, one table.
+
+use crate::fields::{copy_out, Read};
+use crate::map::{is_table, step, Table};
+use crate::reply::{error_bytes, reply_bytes};
+use crate::request::{message_id, read_request, Request};
+
+/// The least reply room of a call.
+pub const LEAST_ROOM: usize = 512;
+
+#[derive(Clone, Copy, Debug, PartialEq, Eq)]
+pub enum Verdict {
+    Served,
+    More,
+    Refused(u8),
+}
+
+/// The answer to one call.
+#[derive(Clone, Copy, Debug, PartialEq, Eq)]
+pub struct Answer {
+    /// The number of input bytes taken.
+    pub taken: usize,
+    /// The number of bytes written to the reply buffer.
+    pub reply_len: usize,
+    pub verdict: Verdict,
+}
+
+/// An answer that takes nothing and writes nothing.
+fn bare(verdict: Verdict) -> Answer {
+    Answer {
+        taken: 0,
+        reply_len: 0,
+        verdict,
+    }
+}
+
+/// Copies the message to the reply buffer and makes the answer.
+fn send(message: &[u8], taken: usize, verdict: Verdict, reply: &mut [u8]) -> Answer {
+    match copy_out(message, reply) {
+        Ok(reply_len) => Answer {
+            taken,
+            reply_len,
+            verdict,
+        },
+        // Not reached: no reply is longer than the least room.
+        Err(number) => bare(Verdict::Refused(number)),
+    }
+}
+
+/// One call: reads one request from the front of the input and answers it.
+/// The order of refusals is 12, 13, then 1 to 8 in field order, then 9, 10, 11.
+pub fn serve(input: &[u8], table: &mut Table, second: u32, reply: &mut [u8]) -> Answer {
+    if reply.len() < LEAST_ROOM {
+        return bare(Verdict::Refused(12));
+    }
+    if !is_table(table) {
+        return bare(Verdict::Refused(13));
+    }
+    match read_request(input) {
+        Read::More => bare(Verdict::More),
+        Read::Refused(number) => {
+            let message = error_bytes(error_id(number, input), number);
+            send(&message, 0, Verdict::Refused(number), reply)
+        }
+        Read::Whole(request, taken) => {
+            let (message, verdict) = answer_request(&request, second, table);
+            send(&message, taken, verdict, reply)
+        }
+    }
+}
+
+/// The message id of the error reply to a request refused in reading.
+pub fn error_id(refusal: u8, input: &[u8]) -> u64 {
+    if refusal == 1 || refusal == 2 {
+        0
+    } else {
+        message_id(input)
+    }
+}
+
+/// Plays a whole request on the table and gives the bytes to send.
+pub fn answer_request(request: &Request, second: u32, table: &mut Table) -> (Vec<u8>, Verdict) {
+    match step(request, second, table) {
+        Ok(reply) => {
+            let flag = request.wants_old_value();
+            let message = reply_bytes(request.operation, flag, &reply);
+            (message, Verdict::Served)
+        }
+        Err(number) => (error_bytes(request.id, number), Verdict::Refused(number)),
+    }
+}
+
+/// The answer to a list of calls on one row of bytes.
+#[derive(Clone, Copy, Debug, PartialEq, Eq)]
+pub struct StreamAnswer {
+    /// The number of input bytes taken by all calls.
+    pub taken: usize,
+    /// The number of bytes written by all calls, one reply behind another.
+    pub reply_len: usize,
+    /// The number of calls that sent a reply, error replies included.
+    pub answered: usize,
+    /// The verdict of the last call.
+    pub verdict: Verdict,
+}
+
+/// Whether another call may follow: after a served request and after 9 to 11.
+fn goes_on(verdict: Verdict) -> bool {
+    matches!(verdict, Verdict::Served | Verdict::Refused(9..=11))
+}
+
+/// Calls `serve` again and again at one second. Each call gets the rest of
+/// the input and the rest of the reply buffer. Stops after 1 to 8, 12 or 13
+/// and when more is needed.
+pub fn serve_stream(
+    input: &[u8],
+    table: &mut Table,
+    second: u32,
+    replies: &mut [u8],
+) -> StreamAnswer {
+    let mut taken = 0;
+    let mut reply_len = 0;
+    let mut answered = 0;
+    loop {
+        let answer = serve(&input[taken..], table, second, &mut replies[reply_len..]);
+        taken += answer.taken;
+        reply_len += answer.reply_len;
+        if answer.reply_len > 0 {
+            answered += 1;
+        }
+        if !goes_on(answer.verdict) {
+            return StreamAnswer {
+                taken,
+                reply_len,
+                answered,
+                verdict: answer.verdict,
+            };
+        }
+    }
+}

@@ -1,0 +1,14 @@
+//! The worked examples of the papers and the cases at the edges.
+
+mod chance;
+mod help;
+mod lines;
+mod map;
+mod number;
+mod program;
+mod reply;
+mod request;
+mod serve;
+mod stored;
+mod stream;
+mod text;

@@ -5,3 +5,4 @@ pub mod Reply
 pub mod Refusal
 pub mod Written
 pub mod Answer
+pub mod Value

@@ -1,0 +1,46 @@
+-- What the simple map holds (document 01, 'The table').
+use mathlib.Core.List.{List, [], _∷_, _++_}
+use mathlib.Core.Bool.{Bool, true, false, cond, _&&_}
+use mathlib.Core.Option.{Option, none, some}
+use Prim.Native.Nat.{ℕ}
+use lib.Dec.{eqb}
+
+-- "Each entry has key, value, entry version and deadline."
+pub record Entry : Type 0 where
+  pub key : List ℕ
+  pub value : List ℕ
+  pub version : ℕ
+  pub deadline : ℕ
+
+-- the entries, ascending by version, and the last version issued
+pub record State : Type 0 where
+  pub entries : List Entry
+  pub last : ℕ
+
+-- the state with other entries
+abbrev pub withEntries : List Entry → State → State
+withEntries es st = record { entries = es; last = st .last }
+
+-- "The table holds the last version issued, 0 when fresh."
+abbrev pub fresh : State
+fresh = record { entries = []; last = 0 }
+
+unfoldable pub sameList : List ℕ → List ℕ → Bool
+sameList [] [] = true
+sameList [] (y ∷ ys) = false
+sameList (x ∷ xs) [] = false
+sameList (x ∷ xs) (y ∷ ys) = eqb x y && sameList xs ys
+
+-- the first entry that passes a test
+unfoldable pub find : (Entry → Bool) → List Entry → Option Entry
+find p [] = none
+find p (e ∷ es) = cond (p e) (some e) (find p es)
+
+-- the entries that do not pass it
+unfoldable pub without : (Entry → Bool) → List Entry → List Entry
+without p [] = []
+without p (e ∷ es) = cond (p e) (without p es) (e ∷ without p es)
+
+-- the test of a key
+abbrev pub hasKey : List ℕ → Entry → Bool
+hasKey k e = sameList (e .key) k

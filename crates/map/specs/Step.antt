@@ -1,0 +1,167 @@
+-- A step of the simple map (document 01, 'The table' and 'A reply').
+use mathlib.Core.List.{List, [], _∷_, _++_}
+use mathlib.Core.Bool.{Bool, true, false, cond, _&&_}
+use mathlib.Core.Option.{Option, none, some}
+use Prim.Native.Nat.{ℕ, suc, _+_, _/_, _%_}
+use lib.ListN.{length}
+use lib.Dec.{eqb, leb, ltb}
+use Rattle.message.specs.declared.Operation.{Operation}
+use Rattle.message.specs.declared.Operation.the-variants.{Put, Get, PutIfAbsent, Replace, ReplaceIfUnmodified, Remove, RemoveIfUnmodified, ContainsKey, GetWithVersion, Clear, Ping}
+use Rattle.message.specs.Request.{Args, Request, isEmpty}
+use Rattle.message.specs.Reply as reply
+use Rattle.message.specs.Reply.{Body, bodyAt, allowed, table}
+use Rattle.map.specs.State.{Entry, State, withEntries, find, without, hasKey}
+
+-- "A served table has at most 128 keys."
+abbrev pub mostKeys : ℕ
+mostKeys = 128
+
+-- "The largest version is 9,223,372,036,854,775,807."
+abbrev pub lastVersion : ℕ
+lastVersion = 0x7fff_ffff_ffff_ffff
+
+-- what a call is given beside the request
+pub record Context : Type 0 where
+  pub second : ℕ
+
+-- what becomes of the entries
+pub data Change : Type 0 where
+  keep store drop empty : Change
+
+pub record Plan : Type 0 where
+  pub status : ℕ
+  pub change : Change
+
+unfoldable pub plans : ℕ → Change → Plan
+plans s c = record { status = s; change = c }
+
+-- The reply table's status and condition: by the operation, the version asked for, and the entry that has the key.
+unfoldable pub plan : Operation → ℕ → Option Entry → Plan
+plan Put v none = plans 0x00 store
+plan Put v (some e) = plans 0x00 store
+plan PutIfAbsent v none = plans 0x00 store
+plan PutIfAbsent v (some e) = plans 0x01 keep
+plan Replace v none = plans 0x01 keep
+plan Replace v (some e) = plans 0x00 store
+plan ReplaceIfUnmodified v none = plans 0x02 keep
+plan ReplaceIfUnmodified v (some e) = cond (eqb (e .version) v) (plans 0x00 store) (plans 0x01 keep)
+plan Remove v none = plans 0x02 keep
+plan Remove v (some e) = plans 0x00 drop
+plan RemoveIfUnmodified v none = plans 0x02 keep
+plan RemoveIfUnmodified v (some e) = cond (eqb (e .version) v) (plans 0x00 drop) (plans 0x01 keep)
+plan Get v none = plans 0x02 keep
+plan Get v (some e) = plans 0x00 keep
+plan GetWithVersion v none = plans 0x02 keep
+plan GetWithVersion v (some e) = plans 0x00 keep
+plan ContainsKey v none = plans 0x02 keep
+plan ContainsKey v (some e) = plans 0x00 keep
+plan Clear v f = plans 0x00 empty
+plan Ping v f = plans 0x00 keep
+
+-- what a reply shows: nothing, length 0, the value of an entry, or its version and value
+pub data Shown : Type 0 where
+  nothing : Shown
+  noValue : Shown
+  value : Entry → Shown
+  versioned : Entry → Shown
+
+-- The reply table's body, of the entry held before the step. "Old value is sent only if flag 0x0001 was set: length and bytes held before the
+-- call, or length 0 if the key was absent."
+unfoldable pub shows : Bool → Body → Option Entry → Shown
+shows flag reply.nothing f = nothing
+shows true reply.old none = noValue
+shows true reply.old (some e) = value e
+shows false reply.old f = nothing
+shows true reply.oldNone f = noValue
+shows false reply.oldNone f = nothing
+shows flag reply.value none = nothing
+shows flag reply.value (some e) = value e
+shows flag reply.versioned none = nothing
+shows flag reply.versioned (some e) = versioned e
+shows flag reply.text f = nothing
+
+pub record Answer : Type 0 where
+  pub status : ℕ
+  pub shown : Shown
+
+-- a refusal 9, 10 or 11, which changes nothing, or an answer with the next state
+pub data Outcome : Type 0 where
+  refused : ℕ → Outcome
+  answered : Answer → State → Outcome
+
+-- flag 0x0001, and flag 0x0002
+abbrev pub wantsOld : Request → Bool
+wantsOld r = eqb (r .flags % 2) 1
+
+abbrev pub noLifespan : Request → Bool
+noLifespan r = eqb (r .flags / 2 % 2) 1
+
+-- "The deadline is that second plus the lifespan, or 0 (none) if the lifespan is 0 or flag 0x0002 is set."
+unfoldable pub deadline : Context → Request → ℕ
+deadline c r = cond (eqb (r .args .lifespan) 0) 0 (cond (noLifespan r) 0 (c .second + r .args .lifespan))
+
+unfoldable pub entry : Context → Request → ℕ → Entry
+entry c r version = record { key = r .args .key; value = r .args .value; version = version; deadline = deadline c r }
+
+-- "'stored', or a put, sets the key's entry to the value, the next version and the deadline"
+unfoldable pub stored : Context → Request → State → State
+stored c r st = record { entries = without (hasKey (r .args .key)) (st .entries) ++ (entry c r (suc (st .last)) ∷ []); last = suc (st .last) }
+
+-- "'removed' drops it"
+unfoldable pub dropped : Request → State → State
+dropped r st = withEntries (without (hasKey (r .args .key)) (st .entries)) st
+
+-- "Clear empties the table and keeps the number."
+unfoldable pub emptied : State → State
+emptied st = withEntries [] st
+
+abbrev pub isNone : Option Entry → Bool
+isNone none = true
+isNone (some e) = false
+
+-- the entry that has the request's key
+unfoldable pub held : Request → State → Option Entry
+held r st = find (hasKey (r .args .key)) (st .entries)
+
+-- "10: the write would add a key and 128 are held"
+unfoldable pub full : Request → State → Bool
+full r st = isNone (held r st) && leb mostKeys (length (st .entries))
+
+unfoldable pub planned : Request → State → Plan
+planned r st = plan (r .op) (r .args .entry) (held r st)
+
+unfoldable pub answer : Request → State → Answer
+answer r st =
+    record {
+      status = planned r st .status;
+      shown = shows (wantsOld r) (allowed (bodyAt (planned r st .status) (table (r .op)))) (held r st);
+    }
+
+-- "11: the write would take effect and no version is left"
+unfoldable pub act : Context → Request → State → Answer → Change → Outcome
+act c r st a keep = answered a st
+act c r st a drop = answered a (dropped r st)
+act c r st a empty = answered a (emptied st)
+act c r st a store = cond (full r st) (refused 10) (cond (ltb (st .last) lastVersion) (answered a (stored c r st)) (refused 11))
+
+-- "9: cache name not empty"
+unfoldable pub step : Context → Request → State → Outcome
+step c r st = cond (isEmpty (r .name)) (act c r st (answer r st) (planned r st .change)) (refused 9)
+
+-- "A step refused 9, 10 or 11 changes nothing."
+abbrev pub stateAfter : State → Outcome → State
+stateAfter st (refused k) = st
+stateAfter st (answered a t) = t
+
+-- a step of a run: the request, its outcome, and the state after it
+pub record Taken : Type 0 where
+  pub request : Request
+  pub outcome : Outcome
+  pub state : State
+
+-- the steps of a list of requests, each with what its call is given
+unfoldable pub run : List (Context × Request) → State → List Taken
+run [] st = []
+run (x ∷ xs) st =
+    let o = step (x .0) (x .1) st in
+    record { request = x .1; outcome = o; state = stateAfter st o } ∷ run xs (stateAfter st o)

@@ -1,0 +1,55 @@
+-- Which states a table can hold: "A table is one if ..", word for word.
+use mathlib.Core.Path.{_≡_}
+use mathlib.Core.List.{List, [], _∷_}
+use mathlib.Core.Bool.{true, false}
+use Prim.Native.Nat.{ℕ, _≤_, _<_}
+use lib.ListN.{length}
+use Rattle.wire.specs.Codec.{isBytes}
+use Rattle.message.specs.Request.{keyLimit, valueLimit}
+use Rattle.map.specs.State.{Entry, State, sameList}
+use Rattle.map.specs.Step.{mostKeys, lastVersion}
+
+-- each entry has the property
+abbrev pub Each : (Entry → Type 0) → List Entry → Type 0
+Each p [] = Unit {0}
+Each p (e ∷ es) = p e × Each p es
+
+-- each entry has the property with each one behind it
+abbrev pub Pairs : (Entry → Entry → Type 0) → List Entry → Type 0
+Pairs p [] = Unit {0}
+Pairs p (e ∷ es) = Each (p e) es × Pairs p es
+
+-- "sizes kept", and "every deadline at most 8,589,934,590"
+pub record Sizes (e : Entry) : Type 0 where
+  pub key : length (e .key) ≤ keyLimit
+  pub value : length (e .value) ≤ valueLimit
+  pub keyBytes : isBytes (e .key) ≡ true
+  pub valueBytes : isBytes (e .value) ≡ true
+  pub deadline : e .deadline ≤ 8_589_934_590
+
+abbrev pub OtherKey : Entry → Entry → Type 0
+OtherKey e f = sameList (f .key) (e .key) ≡ false
+
+abbrev pub OtherVersion : Entry → Entry → Type 0
+OtherVersion e f = e .version ≡ f .version → ⊥
+
+-- a version issued
+abbrev pub Issued : ℕ → Entry → Type 0
+Issued last e = (1 ≤ e .version) × (e .version ≤ last)
+
+pub record IsTable (st : State) : Type 0 where
+  -- "at most 128 keys are held"
+  pub few : length (st .entries) ≤ mostKeys
+  -- "all different"
+  pub keys : Pairs OtherKey (st .entries)
+  pub sizes : Each Sizes (st .entries)
+  -- "versions different"
+  pub versions : Pairs OtherVersion (st .entries)
+  -- "and between 1 and the last issued"
+  pub issued : Each (Issued (st .last)) (st .entries)
+  -- "that one within its limit"
+  pub last : st .last ≤ lastVersion
+
+-- the order in which a state lists its entries: versions ascend
+abbrev pub Ascending : List Entry → Type 0
+Ascending es = Pairs (λ e f. e .version < f .version) es

@@ -1,0 +1,10 @@
+pub mod RequestLaws
+pub mod RequestParts
+pub mod Lists
+pub mod Most
+pub mod Sizes
+pub mod Value
+pub mod ReplyLaws
+pub mod ReplyParts
+pub mod ReplySize
+pub mod ErrorLaws

@@ -1,0 +1,108 @@
+-- A reply keeps the laws of a codec, whatever was asked. Assumes nothing.
+use mathlib.Core.Path.{_≡_, refl, sym, ap₂}
+use mathlib.Core.List.{List, []}
+use mathlib.Core.Option.{Option, none, some}
+use mathlib.Core.Bool.{Bool, true, false, _&&_}
+use Prim.Native.Nat.{ℕ}
+use lib.Dec.{eqb}
+use borrow.Author.Tests.{eqb-true}
+use Rattle.wire.specs.Codec.{Valid, more, empty, byte, guard, seq, as-type, all}
+use Rattle.wire.specs.Field.{entryVersion, limited}
+use Rattle.wire.proofs.Laws.{Laws, both, seq-valid, guard-valid, seq-laws, guard-laws, type-laws, empty-laws, refuse-laws, byte-laws}
+use Rattle.wire.proofs.NumberLaws.{vLong-laws}
+use Rattle.wire.proofs.FieldLaws.{big-laws, limited-laws}
+use Rattle.field.specs.Answer.{limitedText}
+use Rattle.message.specs.declared.Operation.{Operation}
+use Rattle.message.specs.Operation.{findCode}
+use Rattle.message.specs.Request.{valueLimit}
+use Rattle.message.specs.Reply.{textLimit, Asked, Body, nothing, old, oldNone, value, versioned, text, errors, errorCode, bodyAt, isAllowed, allowed, Payload, payload, noEntry, noValue, noText, noBody, valueBody, versionedBody, textBody, bodyOf, Fields, fields, toReply, fromReply, message, isAwaited, rowsOf, replyTo, reply, errorReply}
+use Rattle.message.proofs.RequestLaws.{is-empty, is-zero, text-laws}
+
+-- what a reply carries
+same-payload : (p : Payload) {e : ℕ} {v t : List ℕ} → e ≡ p .entry → v ≡ p .value → t ≡ p .text → payload e v t ≡ p
+same-payload p q r s = rw (q, r, s)
+
+noBody-laws : Laws noBody
+unfolding noBody
+noBody-laws =
+    type-laws (λ p. noEntry p && (noValue p && noText p)) (λ u. payload 0 [] []) (λ p. tt) empty empty-laws
+    (λ p t.
+    let x = both (noEntry p) (noValue p && noText p) t in
+    let y = both (noValue p) (noText p) (x .1) in
+    same-payload p (is-zero _ (x .0)) (is-empty _ (y .0)) (is-empty _ (y .1)))
+    (λ u v. (refl, refl))
+
+valueBody-laws : (lim : ℕ) → Laws (valueBody lim)
+unfolding valueBody
+valueBody-laws lim =
+    type-laws (λ p. noEntry p && noText p) (λ v. payload 0 v []) (λ p. p .value) (limited lim) (limited-laws lim)
+    (λ p t. let x = both (noEntry p) (noText p) t in same-payload p (is-zero _ (x .0)) refl (is-empty _ (x .1))) (λ s v. (refl, refl))
+
+versionedBody-laws : Laws versionedBody
+unfolding versionedBody
+versionedBody-laws =
+    type-laws noText (λ p. payload (p .0) (p .1) []) (λ p. (p .entry, p .value)) (seq entryVersion λ _. limited valueLimit)
+    (seq-laws _ _ (big-laws 8) λ _. limited-laws valueLimit) (λ p t. same-payload p refl refl (is-empty _ t)) (λ s v. (refl, refl))
+
+textBody-laws : Laws textBody
+unfolding textBody
+textBody-laws =
+    type-laws (λ p. noEntry p && noValue p) (λ t. payload 0 [] t) (λ p. p .text) (limitedText textLimit) (text-laws textLimit)
+    (λ p t. let x = both (noEntry p) (noValue p) t in same-payload p (is-zero _ (x .0)) (is-empty _ (x .1)) refl) (λ s v. (refl, refl))
+
+pub bodyOf-laws : (flag : Bool) (b : Body) → Laws (bodyOf flag b)
+unfolding bodyOf
+bodyOf-laws flag nothing = noBody-laws
+bodyOf-laws true old = valueBody-laws valueLimit
+bodyOf-laws false old = noBody-laws
+bodyOf-laws true oldNone = valueBody-laws 0
+bodyOf-laws false oldNone = noBody-laws
+bodyOf-laws flag value = valueBody-laws valueLimit
+bodyOf-laws flag versioned = versionedBody-laws
+bodyOf-laws flag text = textBody-laws
+
+-- a message, whatever operations may come and whatever their rows are
+module _ (comes : ℕ → Bool) (rows : ℕ → List (ℕ × Body)) (flag : Bool) where
+  fields-laws : Laws (fields comes rows flag)
+  unfolding fields
+  fields-laws =
+      seq-laws _ _ (guard-laws (λ m. eqb m 0xa1) 1 byte byte-laws) λ _.
+      seq-laws _ _ vLong-laws λ _.
+      seq-laws _ _ (guard-laws comes 4 byte byte-laws) λ op.
+      seq-laws _ _ (guard-laws (λ s. isAllowed (bodyAt s (rows op))) 8 byte byte-laws) λ status.
+      seq-laws _ _ (guard-laws (λ m. eqb m 0) 8 byte byte-laws) λ _. bodyOf-laws flag (allowed (bodyAt status (rows op)))
+
+  -- the magic and the marker of what is read
+  fields-back : (p : ℕ × Fields) → Valid (fields comes rows flag) p → fromReply (toReply p) ≡ p
+  unfolding fields
+  fields-back p v =
+      let a = seq-valid _ _ p v in
+      let b = seq-valid _ _ _ (seq-valid _ _ _ (seq-valid _ _ _ (seq-valid _ _ _ (a .1) .1) .1) .1) in
+      let m = eqb-true (p .0) 0xa1 (guard-valid (λ m. eqb m 0xa1) 1 byte (p .0) (a .0) .0) in
+      let k = eqb-true (p .1 .1 .1 .1 .0) 0 (guard-valid (λ m. eqb m 0) 8 byte (p .1 .1 .1 .1 .0) (b .0) .0) in
+      ap₂ {C = ℕ × Fields} (λ (m k : ℕ). (m, (p .1 .0, (p .1 .1 .0, (p .1 .1 .1 .0, (k, p .1 .1 .1 .1 .1)))))) (sym m) (sym k)
+
+  pub message-laws : Laws (message comes rows flag)
+  unfolding message
+  message-laws = type-laws all toReply fromReply (fields comes rows flag) fields-laws (λ r e. refl) (λ p v. (fields-back p v, refl))
+
+  -- of no bytes nothing is read
+  pub message-starts : message comes rows flag .dec [] ≡ more
+  unfolding message fields seq guard byte as-type
+  message-starts = refl
+
+reply-to-laws : (o : Option Operation) (flag : Bool) → Laws (replyTo o flag)
+reply-to-laws none flag = refuse-laws 4
+reply-to-laws (some o) flag = message-laws (isAwaited o) (rowsOf o) flag
+
+pub reply-laws : (a : Asked) → Laws (reply a)
+unfolding reply
+reply-laws a = reply-to-laws (findCode (a .op)) (a .flag)
+
+pub reply-starts : (a : Asked) (o : Operation) → findCode (a .op) ≡ some o → reply a .dec [] ≡ more
+unfolding reply
+reply-starts a o e = rw e (message-starts (isAwaited o) (rowsOf o) (a .flag))
+
+pub error-laws : Laws errorReply
+unfolding errorReply
+error-laws = message-laws (λ op. eqb op errorCode) (λ op. errors) false

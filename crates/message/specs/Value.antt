@@ -1,0 +1,20 @@
+-- A request with another value.
+use mathlib.Core.List.{List}
+use Prim.Native.Nat.{ℕ}
+use Rattle.message.specs.Request.{Args, args, Request}
+
+abbrev pub valued : List ℕ → Args → Args
+valued w a = args (a .key) (a .lifespan) (a .maxIdle) (a .entry) w
+
+abbrev pub withValue : List ℕ → Request → Request
+withValue w r =
+    record {
+      id = r .id;
+      version = r .version;
+      op = r .op;
+      name = r .name;
+      flags = r .flags;
+      intelligence = r .intelligence;
+      topology = r .topology;
+      args = valued w (r .args);
+    }

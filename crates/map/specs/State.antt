@@ -12,7 +12,7 @@ pub record Entry : Type 0 where
   pub version : ℕ
   pub deadline : ℕ
 
--- the entries, ascending by version, and the last version issued
+-- the entries, which a table lists ascending by version (`Ascending` in Table.antt), and the last version issued
 pub record State : Type 0 where
   pub entries : List Entry
   pub last : ℕ

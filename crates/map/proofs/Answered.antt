@@ -1,0 +1,47 @@
+-- What a step that is answered says: its answer, and the change of the state. Assumes nothing.
+use mathlib.Core.Path.{_≡_, refl}
+use mathlib.Core.Bool.{Bool, true, false, cond}
+use Prim.Native.Nat.{ℕ, _<_}
+use lib.Dec.{ltb}
+use borrow.Author.Tests.{ltb-true}
+use Rattle.wire.proofs.Laws.{never}
+use Rattle.message.specs.Request.{Request, isEmpty}
+use Rattle.map.specs.State.{State}
+use Rattle.map.specs.Step.{Context, Change, keep, store, drop, empty, Answer, Outcome, refused, answered, lastVersion, stored, dropped, emptied, full, planned, answer, act, step}
+
+-- the state behind a change
+unfoldable pub changed : Context → Request → State → Change → State
+changed c r st keep = st
+changed c r st store = stored c r st
+changed c r st drop = dropped r st
+changed c r st empty = emptied st
+
+-- what is refused is not answered
+unless : {a : Answer} {t : State} (b : Bool) (k : ℕ) (o : Outcome) → cond b (refused k) o ≡ answered a t → (b ≡ false) × (o ≡ answered a t)
+unless true k o e = never (cc)
+unless false k o e = (refl, e)
+
+if : {a : Answer} {t : State} (b : Bool) (k : ℕ) (o : Outcome) → cond b o (refused k) ≡ answered a t → (b ≡ true) × (o ≡ answered a t)
+if true k o e = (refl, e)
+if false k o e = never (cc)
+
+module _ (c : Context) (r : Request) (st : State) (a : Answer) (t : State) where
+  pub record Did (b : Answer) (d : Change) : Type 0 where
+    pub same : a ≡ b
+    pub state : t ≡ changed c r st d
+    pub room : d ≡ store → (full r st ≡ false) × (st .last < lastVersion)
+
+  act-did : (b : Answer) (d : Change) → act c r st b d ≡ answered a t → Did b d
+  unfolding act changed
+  act-did b keep e = record { same = cc; state = cc; room = λ q. never (cc) }
+  act-did b drop e = record { same = cc; state = cc; room = λ q. never (cc) }
+  act-did b empty e = record { same = cc; state = cc; room = λ q. never (cc) }
+  act-did b store e =
+      let x = unless (full r st) 10 _ e in
+      let y = if (ltb (st .last) lastVersion) 11 _ (x .1) in
+      let q = y .1 in
+      record { same = cc; state = cc; room = λ z. (x .0, ltb-true (st .last) lastVersion (y .0)) }
+
+  pub did : step c r st ≡ answered a t → Did (answer r st) (planned r st .change)
+  unfolding step
+  did e = act-did (answer r st) (planned r st .change) (if (isEmpty (r .name)) 9 _ e .1)

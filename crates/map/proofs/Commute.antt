@@ -1,0 +1,155 @@
+-- A step looks at no value: it commutes with another value for the entry of a version already issued; and of the value of the request
+-- itself it only makes the value of the entry that it writes. Assumes nothing.
+use mathlib.Core.Path.{_≡_, refl, sym, ap, _∙_}
+use mathlib.Core.List.{List}
+use mathlib.Core.Bool.{Bool, true, false}
+use mathlib.Core.Option.{Option, none, some}
+use mathlib.Core.Logic.{_⊎_, inl, inr}
+use Prim.Native.Nat.{ℕ, suc, _≤_}
+use native.Mathlib.Omega.{arith}
+use lib.Dec.{ltb}
+use borrow.Author.Tests.{ne-eqb, eq-eqb}
+use Rattle.message.specs.declared.Operation.{Operation}
+use Rattle.message.specs.declared.Operation.the-variants.{Put, Get, PutIfAbsent, Replace, ReplaceIfUnmodified, Remove, RemoveIfUnmodified, ContainsKey, GetWithVersion, Clear, Ping}
+use Rattle.message.specs.Request.{Request, isEmpty}
+use Rattle.message.specs.Value.{withValue}
+use Rattle.message.specs.Reply as reply
+use Rattle.message.specs.Reply.{Body}
+use Rattle.map.specs.State.{Entry, State, without, hasKey}
+use Rattle.map.specs.Step.{Context, Change, keep, store, drop, empty, plan, shows, Answer, answered, lastVersion, deadline, entry, stored, dropped, emptied, isNone, held, full, planned, answer, act, step}
+use Rattle.map.specs.Table.{Each}
+use Rattle.map.specs.Revalue.{entriesWith, stateWith, foundWith, shownWith, answerWith, outcomeWith, outcomeState}
+use Rattle.map.proofs.Answered.{changed, did}
+use Rattle.map.proofs.Finding.{cond-of, find-with, without-with, length-with, append-with, fresh}
+
+module _ (v : ℕ) (w : List ℕ) where
+  plan-with : (o : Operation) (x : ℕ) (f : Option Entry) → plan o x (foundWith v w f) ≡ plan o x f
+  unfolding plan
+  plan-with o x none = refl
+  plan-with Put x (some e) = refl
+  plan-with Get x (some e) = refl
+  plan-with PutIfAbsent x (some e) = refl
+  plan-with Replace x (some e) = refl
+  plan-with ReplaceIfUnmodified x (some e) = refl
+  plan-with Remove x (some e) = refl
+  plan-with RemoveIfUnmodified x (some e) = refl
+  plan-with ContainsKey x (some e) = refl
+  plan-with GetWithVersion x (some e) = refl
+  plan-with Clear x (some e) = refl
+  plan-with Ping x (some e) = refl
+
+  shows-with : (t : Bool) (b : Body) (f : Option Entry) → shows t b (foundWith v w f) ≡ shownWith v w (shows t b f)
+  unfolding shows shownWith
+  shows-with t reply.nothing f = refl
+  shows-with true reply.old none = refl
+  shows-with true reply.old (some e) = refl
+  shows-with false reply.old f = refl
+  shows-with true reply.oldNone f = refl
+  shows-with false reply.oldNone f = refl
+  shows-with t reply.value none = refl
+  shows-with t reply.value (some e) = refl
+  shows-with t reply.versioned none = refl
+  shows-with t reply.versioned (some e) = refl
+  shows-with t reply.text f = refl
+
+  none-with : (f : Option Entry) → isNone (foundWith v w f) ≡ isNone f
+  none-with none = refl
+  none-with (some e) = refl
+
+  module _ (c : Context) (r : Request) (st : State) where
+    held-with : held r (stateWith v w st) ≡ foundWith v w (held r st)
+    unfolding held stateWith
+    held-with = find-with v w (hasKey (r .args .key)) (λ e. refl) (st .entries)
+
+    planned-with : planned r (stateWith v w st) ≡ planned r st
+    unfolding planned
+    planned-with = rw held-with (plan-with (r .op) (r .args .entry) (held r st))
+
+    full-with : full r (stateWith v w st) ≡ full r st
+    unfolding full stateWith
+    full-with = rw (held-with, none-with, length-with)
+
+    answer-with : answer r (stateWith v w st) ≡ answerWith v w (answer r st)
+    unfolding answer answerWith
+    answer-with = rw (planned-with, held-with, shows-with)
+
+    drops : dropped r (stateWith v w st) ≡ stateWith v w (dropped r st)
+    unfolding dropped stateWith
+    drops = rw (without-with v w (hasKey (r .args .key)) (λ e. refl) (st .entries))
+
+    stored-with : v ≤ st .last → stored c r (stateWith v w st) ≡ stateWith v w (stored c r st)
+    unfolding stored stateWith entriesWith entry
+    stored-with h =
+        rw (without-with v w (hasKey (r .args .key)) (λ e. refl) (st .entries), append-with, ne-eqb (suc (st .last)) v (λ q. omega arith))
+
+    act-with : v ≤ st .last → (a : Answer) (d : Change) → act c r (stateWith v w st) (answerWith v w a) d ≡ outcomeWith v w (act c r st a d)
+    unfolding act outcomeWith emptied stateWith entriesWith
+    act-with h a keep = refl
+    act-with h a drop = ap (answered (answerWith v w a)) drops
+    act-with h a empty = refl
+    act-with h a store =
+        rw (full-with, stored-with h, cond-of (outcomeWith v w) (full r st), cond-of (outcomeWith v w) (ltb (st .last) lastVersion))
+
+    -- a step commutes with another value for the entry of version v, if v was issued before it
+    pub step-with : v ≤ st .last → step c r (stateWith v w st) ≡ outcomeWith v w (step c r st)
+    unfolding step outcomeWith
+    step-with h =
+        rw (planned-with, answer-with, act-with h (answer r st) (planned r st .change), cond-of (outcomeWith v w) (isEmpty (r .name)))
+
+-- the value of the request itself: the two outcomes differ in that of the entry of the next version
+module _ (w : List ℕ) (c : Context) (r : Request) (st : State) (h : Each (λ e. e .version ≤ st .last) (st .entries)) where
+  none-there : entriesWith (suc (st .last)) w (st .entries) ≡ st .entries
+  none-there = fresh (suc (st .last)) w (st .last) (st .entries) h (omega arith)
+
+  rest-there : entriesWith (suc (st .last)) w (without (hasKey (r .args .key)) (st .entries)) ≡ without (hasKey (r .args .key)) (st .entries)
+  rest-there = sym (without-with (suc (st .last)) w (hasKey (r .args .key)) (λ e. refl) (st .entries)) ∙ rw none-there
+
+  stores-value : stored c (withValue w r) st ≡ stateWith (suc (st .last)) w (stored c r st)
+  unfolding stored stateWith entriesWith entry deadline
+  stores-value = rw (append-with, rest-there, eq-eqb (suc (st .last)) (suc (st .last)) refl)
+
+  act-value : (a : Answer) (d : Change) → act c (withValue w r) st a d ≡ outcomeState (suc (st .last)) w (act c r st a d)
+  unfolding act outcomeState stateWith entriesWith dropped emptied full held
+  act-value a keep = rw none-there
+  act-value a drop = rw rest-there
+  act-value a empty = refl
+  act-value a store =
+      rw (
+        stores-value,
+        cond-of (outcomeState (suc (st .last)) w) (full r st),
+        cond-of (outcomeState (suc (st .last)) w) (ltb (st .last) lastVersion),
+      )
+
+  pub step-value : step c (withValue w r) st ≡ outcomeState (suc (st .last)) w (step c r st)
+  unfolding step outcomeState planned answer held
+  step-value =
+      rw (act-value (answer r st) (planned r st .change), cond-of (outcomeState (suc (st .last)) w) (isEmpty (r .name)))
+
+-- the last version issued behind a change: only what is stored gets one
+abbrev pub lastBehind : Change → ℕ → ℕ
+lastBehind keep n = n
+lastBehind store n = suc n
+lastBehind drop n = n
+lastBehind empty n = n
+
+last-changed : (c : Context) (r : Request) (st : State) (d : Change) → changed c r st d .last ≡ lastBehind d (st .last)
+unfolding changed stored dropped emptied
+last-changed c r st keep = refl
+last-changed c r st store = refl
+last-changed c r st drop = refl
+last-changed c r st empty = refl
+
+last-step : (n : ℕ) (d : Change) → (lastBehind d n ≡ n) ⊎ (lastBehind d n ≡ suc n)
+last-step n keep = inl refl
+last-step n store = inr refl
+last-step n drop = inl refl
+last-step n empty = inl refl
+
+module _ (c : Context) (r : Request) (st : State) (a : Answer) (t : State) (e : step c r st ≡ answered a t) where
+  -- a step that is answered issues a version if it stores, and none if it removes, clears or keeps
+  pub issues-by : t .last ≡ lastBehind (planned r st .change) (st .last)
+  issues-by = rw (did c r st a t e .state) (last-changed c r st (planned r st .change))
+
+  -- so it issues none, or the next one
+  pub issues : (t .last ≡ st .last) ⊎ (t .last ≡ suc (st .last))
+  issues = rw issues-by (last-step (st .last) (planned r st .change))

@@ -1,0 +1,56 @@
+-- What holds of each entry of a list, or of each two: without some of the entries, and with one more. Assumes nothing.
+use mathlib.Core.Path.{_≡_, refl}
+use mathlib.Core.List.{List, [], _∷_, _++_}
+use mathlib.Core.Bool.{Bool, true, false, cond}
+use mathlib.Core.Option.{Option, none, some}
+use Rattle.message.proofs.RequestLaws.{pick}
+use Rattle.map.specs.State.{Entry, find, without}
+use Rattle.map.specs.Table.{Each, Pairs}
+
+pub each-map : (P Q : Entry → Type 0) → ((e : Entry) → P e → Q e) → (es : List Entry) → Each P es → Each Q es
+each-map P Q f [] h = tt
+each-map P Q f (e ∷ es) h = (f e (h .0), each-map P Q f es (h .1))
+
+pub each-both : (P Q R : Entry → Type 0) → ((e : Entry) → P e → Q e → R e) → (es : List Entry) → Each P es → Each Q es → Each R es
+each-both P Q R f [] h g = tt
+each-both P Q R f (e ∷ es) h g = (f e (h .0) (g .0), each-both P Q R f es (h .1) (g .1))
+
+-- what is said of an entry, if there is one
+abbrev pub Maybe : (Entry → Type 0) → Option Entry → Type 0
+Maybe P none = Unit {0}
+Maybe P (some e) = P e
+
+module _ (p : Entry → Bool) where
+  pub each-find : (P : Entry → Type 0) (es : List Entry) → Each P es → Maybe P (find p es)
+  unfolding find
+  each-find P [] h = tt
+  each-find P (e ∷ es) h = pick (Maybe P) (p e) (λ q. h .0) (each-find P es (h .1))
+
+  pub each-without : (P : Entry → Type 0) (es : List Entry) → Each P es → Each P (without p es)
+  unfolding without
+  each-without P [] h = tt
+  each-without P (e ∷ es) h = let g = each-without P es (h .1) in pick (Each P) (p e) (λ q. g) (h .0, g)
+
+  pub pairs-without : (R : Entry → Entry → Type 0) (es : List Entry) → Pairs R es → Pairs R (without p es)
+  unfolding without
+  pairs-without R [] h = tt
+  pairs-without R (e ∷ es) h = let g = pairs-without R es (h .1) in pick (Pairs R) (p e) (λ q. g) (each-without (R e) es (h .0), g)
+
+  -- none that is left passes the test
+  pub each-left : (es : List Entry) → Each (λ e. p e ≡ false) (without p es)
+  unfolding without
+  each-left [] = tt
+  each-left (e ∷ es) = go (p e) refl (each-left es)
+    where
+      go : (t : Bool) → p e ≡ t → Each (λ e. p e ≡ false) (without p es) → Each (λ e. p e ≡ false) (cond t (without p es) (e ∷ without p es))
+      go true q g = g
+      go false q g = (q, g)
+
+module _ (x : Entry) where
+  pub each-add : (P : Entry → Type 0) (es : List Entry) → Each P es → P x → Each P (es ++ (x ∷ []))
+  each-add P [] h g = (g, tt)
+  each-add P (e ∷ es) h g = (h .0, each-add P es (h .1) g)
+
+  pub pairs-add : (R : Entry → Entry → Type 0) (es : List Entry) → Pairs R es → Each (λ e. R e x) es → Pairs R (es ++ (x ∷ []))
+  pairs-add R [] h g = (tt, tt)
+  pairs-add R (e ∷ es) h g = (each-add (R e) es (h .0) (g .0), pairs-add R es (h .1) (g .1))

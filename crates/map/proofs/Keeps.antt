@@ -1,0 +1,139 @@
+-- A step keeps a table one, and its entries in the order of their versions. Assumes nothing.
+use mathlib.Core.Path.{_≡_, refl}
+use mathlib.Core.List.{List, [], _∷_}
+use mathlib.Core.Bool.{Bool, true, false, cond, _&&_}
+use mathlib.Core.Option.{some}
+use Prim.Native.Nat.{ℕ, suc, _≤_, _<_, zero-le, suc-le-suc}
+use native.Mathlib.Omega.{arith}
+use lib.ListN.{length, length-append}
+use lib.Dec.{eqb, leb}
+use borrow.Author.Tests.{leb-false}
+use Rattle.wire.specs.Codec.{Valid}
+use Rattle.wire.proofs.Laws.{never}
+use Rattle.message.specs.Request.{Request, request}
+use Rattle.message.proofs.RequestLaws.{pick}
+use Rattle.message.proofs.Sizes.{small}
+use Rattle.map.specs.State.{Entry, State, find, without, hasKey}
+use Rattle.map.specs.Step.{mostKeys, lastVersion, Context, Change, keep, store, drop, empty, Answer, answered, noLifespan, deadline, entry, stored, dropped, emptied, isNone, held, full, planned, step}
+use Rattle.map.specs.Table.{Each, Sizes, OtherKey, OtherVersion, Issued, IsTable, Ascending}
+use Rattle.map.proofs.Each.{each-map, each-without, pairs-without, each-left, each-add, pairs-add}
+use Rattle.map.proofs.Answered.{changed, did}
+use Rattle.map.proofs.Laws.{same-sym}
+
+-- no entry is above the last version
+pub below : (st : State) → IsTable st → Each (λ e. e .version ≤ st .last) (st .entries)
+below st s = each-map (Issued (st .last)) (λ e. e .version ≤ st .last) (λ e h. h .1) (st .entries) (s .issued)
+
+-- the entry that a request writes is within the sizes
+pub entry-sizes : (c : Context) (r : Request) (n : ℕ) → Valid request r → c .second < 0x1_0000_0000 → Sizes (entry c r n)
+unfolding entry deadline
+entry-sizes c r n v h =
+    let s = small r v in
+    record {
+      key = s .key;
+      value = s .value;
+      keyBytes = s .keyBytes;
+      valueBytes = s .valueBytes;
+      deadline = pick Within (eqb (r .args .lifespan) 0) (λ q. zero-le) (pick Within (noLifespan r) (λ q. zero-le) (omega (arith, s .lifespan)));
+    }
+  where
+    Within : ℕ → Type 0
+    Within n = n ≤ 8_589_934_590
+
+module _ (p : Entry → Bool) where
+  fewer : (es : List Entry) → length (without p es) ≤ length es
+  unfolding without
+  fewer [] = zero-le
+  fewer (e ∷ es) = let g = fewer es in pick (λ (l : List Entry). length l ≤ suc (length es)) (p e) (λ q. omega arith) (suc-le-suc g)
+
+  -- where one is found, one less is left
+  less : (es : List Entry) → isNone (find p es) ≡ false → length (without p es) < length es
+  unfolding without find
+  less [] h = never (cc)
+  less (e ∷ es) h = go (p e) (less es) h
+    where
+      go : (t : Bool) → (isNone (find p es) ≡ false → length (without p es) < length es) → isNone (cond t (some e) (find p es)) ≡ false
+          → length (cond t (without p es) (e ∷ without p es)) < suc (length es)
+      go true ih h = suc-le-suc (fewer es)
+      go false ih h = suc-le-suc (ih h)
+
+-- the pairs of `Ascending`
+abbrev Less : Entry → Entry → Type 0
+Less e f = e .version < f .version
+
+module _ (c : Context) (r : Request) (st : State) (s : IsTable st) where
+  abbrev rest : List Entry
+  rest = without (hasKey (r .args .key)) (st .entries)
+
+  rest-issued : Each (Issued (st .last)) rest
+  rest-issued = each-without (hasKey (r .args .key)) (Issued (st .last)) (st .entries) (s .issued)
+
+  room : (n : Bool) → isNone (held r st) ≡ n → n && leb mostKeys (length (st .entries)) ≡ false → length rest < mostKeys
+  unfolding held
+  room true e h = omega (arith, leb-false mostKeys (length (st .entries)) h, fewer (hasKey (r .args .key)) (st .entries))
+  room false e h = omega (arith, less (hasKey (r .args .key)) (st .entries) e, s .few)
+
+  rest-table : IsTable (dropped r st)
+  unfolding dropped
+  rest-table =
+      let p = hasKey (r .args .key) in
+      record {
+        few = omega (arith, fewer p (st .entries), s .few);
+        keys = pairs-without p OtherKey (st .entries) (s .keys);
+        sizes = each-without p Sizes (st .entries) (s .sizes);
+        versions = pairs-without p OtherVersion (st .entries) (s .versions);
+        issued = rest-issued;
+        last = s .last;
+      }
+
+  module _ (fits : Sizes (entry c r (suc (st .last)))) where
+    stored-table : full r st ≡ false → st .last < lastVersion → IsTable (stored c r st)
+    unfolding stored dropped full entry
+    stored-table h l =
+        let t = rest-table in
+        let x = entry c r (suc (st .last)) in
+        record {
+          few = omega (arith, length-append rest (x ∷ []), room (isNone (held r st)) refl h);
+          keys = pairs-add x OtherKey rest (t .keys)
+              (each-map (λ e. hasKey (r .args .key) e ≡ false) (λ e. OtherKey e x) (λ e q. same-sym (e .key) (r .args .key) q) rest
+              (each-left (hasKey (r .args .key)) (st .entries)));
+          sizes = each-add x Sizes rest (t .sizes) fits;
+          versions = pairs-add x OtherVersion rest (t .versions)
+              (each-map (Issued (st .last)) (λ e. OtherVersion e x) (λ e i q. omega (arith, i .1)) rest rest-issued);
+          issued = each-add x (Issued (suc (st .last))) rest
+              (each-map (Issued (st .last)) (Issued (suc (st .last))) (λ e i. (i .0, omega (arith, i .1))) rest rest-issued)
+              (omega arith, omega arith);
+          last = l;
+        }
+
+    table-changed : (d : Change) → (d ≡ store → (full r st ≡ false) × (st .last < lastVersion)) → IsTable (changed c r st d)
+    unfolding changed emptied
+    table-changed keep h = s
+    table-changed store h = let g = h refl in stored-table (g .0) (g .1)
+    table-changed drop h = rest-table
+    table-changed empty h = record { few = zero-le; keys = tt; sizes = tt; versions = tt; issued = tt; last = s .last }
+
+  module _ (o : Ascending (st .entries)) where
+    rest-order : Ascending rest
+    rest-order = pairs-without (hasKey (r .args .key)) Less (st .entries) o
+
+    order-changed : (d : Change) → Ascending (changed c r st d .entries)
+    unfolding changed stored dropped emptied entry
+    order-changed keep = o
+    order-changed store =
+        let x = entry c r (suc (st .last)) in
+        pairs-add x Less rest rest-order (each-map (Issued (st .last)) (λ e. Less e x) (λ e i. omega (arith, i .1)) rest rest-issued)
+    order-changed drop = rest-order
+    order-changed empty = tt
+
+  module _ (a : Answer) (t : State) (e : step c r st ≡ answered a t) where
+    pub keeps-order : Ascending (st .entries) → Ascending (t .entries)
+    keeps-order o = rw (did c r st a t e .state) (order-changed o (planned r st .change))
+
+    pub keeps-table : Valid request r → c .second < 0x1_0000_0000 → IsTable t
+    keeps-table v h =
+        let d = did c r st a t e in
+        rw (d .state) (table-changed (entry-sizes c r (suc (st .last)) v h) (planned r st .change) (d .room))
+
+    pub keeps : Valid request r → c .second < 0x1_0000_0000 → Ascending (st .entries) → IsTable t × Ascending (t .entries)
+    keeps v h o = (keeps-table v h, keeps-order o)

@@ -1,0 +1,121 @@
+-- What is found in a list of entries behind a write, and that no version is issued twice. Assumes nothing.
+use mathlib.Core.Path.{_≡_, refl, ap₂, _∙_}
+use mathlib.Core.List.{List, [], _∷_, _++_}
+use mathlib.Core.Bool.{Bool, true, false, cond}
+use mathlib.Core.Option.{Option, none, some}
+use mathlib.Core.Logic.{_⊎_, inl, inr}
+use Prim.Native.Nat.{ℕ, suc, _<_}
+use native.Mathlib.Omega.{arith}
+use lib.Dec.{eqb, ltb}
+use borrow.Author.Tests.{eqb-true, eq-eqb, lt-ltb, le-ltb}
+use Rattle.wire.proofs.Laws.{never, both}
+use Rattle.message.specs.Request.{Request}
+use Rattle.map.specs.State.{Entry, State, sameList, find, without, hasKey}
+use Rattle.map.specs.Step.{Context, Outcome, refused, answered, step, stateAfter, Taken, run}
+use Rattle.map.specs.Table.{Each}
+use Rattle.map.proofs.Each.{each-left}
+use Rattle.map.proofs.Commute.{issues}
+
+-- equal keys
+pub same-true : (a b : List ℕ) → sameList a b ≡ true → a ≡ b
+unfolding sameList
+same-true [] [] e = refl
+same-true [] (y ∷ b) e = never (cc)
+same-true (x ∷ a) [] e = never (cc)
+same-true (x ∷ a) (y ∷ b) e = let h = both (eqb x y) (sameList a b) e in ap₂ _∷_ (eqb-true x y (h .0)) (same-true a b (h .1))
+
+pub same-refl : (a : List ℕ) → sameList a a ≡ true
+unfolding sameList
+same-refl [] = refl
+same-refl (x ∷ a) = rw (eq-eqb x x refl) (same-refl a)
+
+pub same-sym : (a b : List ℕ) → sameList a b ≡ false → sameList b a ≡ false
+same-sym a b h = go (sameList b a) refl
+  where
+    go : (t : Bool) → sameList b a ≡ t → t ≡ false
+    go true e = let i : sameList a b ≡ true = rw (same-true b a e) (same-refl a) in never (cc)
+    go false e = refl
+
+-- what is found behind a removal, and behind a write
+abbrev orElse : Option Entry → Option Entry → Option Entry
+orElse none b = b
+orElse (some e) b = some e
+
+or-none : (o : Option Entry) → orElse o none ≡ o
+or-none none = refl
+or-none (some e) = refl
+
+module _ (p : Entry → Bool) where
+  find-without : (q : Entry → Bool) → ((e : Entry) → q e ≡ true → p e ≡ false) → (es : List Entry) → find p (without q es) ≡ find p es
+  unfolding find without
+  find-without q h [] = refl
+  find-without q h (e ∷ es) = go (q e) refl (find-without q h es)
+    where
+      go : (t : Bool) → q e ≡ t → find p (without q es) ≡ find p es → find p (cond t (without q es) (e ∷ without q es)) ≡ cond (p e) (some e) (find p es)
+      go true i ih = rw (h e i, ih)
+      go false i ih = rw ih
+
+  find-none : (es : List Entry) → Each (λ e. p e ≡ false) es → find p es ≡ none
+  unfolding find
+  find-none [] h = refl
+  find-none (e ∷ es) h = rw (h .0, find-none es (h .1))
+
+  find-append : (es : List Entry) (e : Entry) → find p (es ++ (e ∷ [])) ≡ orElse (find p es) (cond (p e) (some e) none)
+  unfolding find
+  find-append [] e = refl
+  find-append (x ∷ es) e = go (p x) (find-append es e)
+    where
+      go : (t : Bool) → find p (es ++ (e ∷ [])) ≡ orElse (find p es) (cond (p e) (some e) none)
+          → cond t (some x) (find p (es ++ (e ∷ []))) ≡ orElse (cond t (some x) (find p es)) (cond (p e) (some e) none)
+      go true ih = refl
+      go false ih = ih
+
+pub find-stored : (k : List ℕ) (es : List Entry) (e : Entry)
+    → find (hasKey k) (without (hasKey (e .key)) es ++ (e ∷ [])) ≡ cond (hasKey k e) (some e) (find (hasKey k) es)
+find-stored k es e = find-append (hasKey k) (without (hasKey (e .key)) es) e ∙ go (hasKey k e) refl
+  where
+    go : (t : Bool) → hasKey k e ≡ t
+        → orElse (find (hasKey k) (without (hasKey (e .key)) es)) (cond t (some e) none) ≡ cond t (some e) (find (hasKey k) es)
+    go true i = rw (same-true (e .key) k i, find-none (hasKey k) (without (hasKey k) es) (each-left (hasKey k) es))
+    go false i =
+        or-none (find (hasKey k) (without (hasKey (e .key)) es))
+        ∙ find-without (hasKey k) (hasKey (e .key)) (λ f j. rw (same-true (f .key) (e .key) j) i) es
+
+-- the versions that the steps of a run issue, where n is the last one before it
+unfoldable pub issued : ℕ → List Taken → List ℕ
+issued n [] = []
+issued n (x ∷ xs) = cond (ltb n (x .state .last)) (x .state .last ∷ issued (x .state .last) xs) (issued (x .state .last) xs)
+
+abbrev pub Above : ℕ → List ℕ → Type 0
+Above n [] = Unit {0}
+Above n (v ∷ vs) = (n < v) × Above n vs
+
+-- each is less than all behind it
+abbrev pub Ascends : List ℕ → Type 0
+Ascends [] = Unit {0}
+Ascends (v ∷ vs) = Above v vs × Ascends vs
+
+above-less : (n m : ℕ) → n < m → (vs : List ℕ) → Above m vs → Above n vs
+above-less n m l [] h = tt
+above-less n m l (v ∷ vs) h = (omega (arith, h .0), above-less n m l vs (h .1))
+
+abbrev pub AscendFrom : ℕ → List ℕ → Type 0
+AscendFrom n vs = Above n vs × Ascends vs
+
+-- the state behind a step, answered or refused: none is issued, or the next one
+pub issues-after : (c : Context) (r : Request) (st : State) (o : Outcome) → step c r st ≡ o
+    → (stateAfter st o .last ≡ st .last) ⊎ (stateAfter st o .last ≡ suc (st .last))
+issues-after c r st (refused k) e = inl refl
+issues-after c r st (answered a t) e = issues c r st a t e
+
+ascend-next : (n m : ℕ) (vs : List ℕ) → (m ≡ n) ⊎ (m ≡ suc n) → AscendFrom m vs → AscendFrom n (cond (ltb n m) (m ∷ vs) vs)
+ascend-next n m vs (inl e) h = rw (e, le-ltb n n (omega arith)) (rw e at h)
+ascend-next n m vs (inr e) h = rw (lt-ltb n m (omega arith)) ((omega arith, above-less n m (omega arith) vs (h .0)), h)
+
+-- no version is issued twice: those of a run ascend, from the last one before the run
+pub never-twice : (xs : List (Context × Request)) (st : State) → AscendFrom (st .last) (issued (st .last) (run xs st))
+unfolding issued run
+never-twice [] st = (tt, tt)
+never-twice (x ∷ xs) st =
+    let o = step (x .0) (x .1) st in
+    ascend-next (st .last) (stateAfter st o .last) _ (issues-after (x .0) (x .1) st o refl) (never-twice xs (stateAfter st o))

@@ -1,0 +1,9 @@
+pub mod Each
+pub mod Finding
+pub mod Answered
+pub mod Commute
+pub mod Laws
+pub mod Keeps
+pub mod Order
+pub mod Sent
+pub mod Format

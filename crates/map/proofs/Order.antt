@@ -1,0 +1,131 @@
+-- A step does not look at the order of the entries. Assumes nothing.
+use mathlib.Core.Path.{_≡_, refl, ap, _∙_}
+use mathlib.Core.List.{List, [], _∷_, _++_}
+use mathlib.Core.Bool.{Bool, true, false, cond}
+use mathlib.Core.Option.{Option, some}
+use Prim.Native.Nat.{ℕ, suc}
+use lib.ListN.{length}
+use lib.Dec.{ltb}
+use Rattle.wire.proofs.Laws.{never}
+use Rattle.message.specs.Request.{Request, isEmpty}
+use Rattle.map.specs.State.{Entry, State, sameList, find, without, hasKey}
+use Rattle.map.specs.Step.{Context, Change, keep, store, drop, empty, Answer, Outcome, lastVersion, stored, dropped, emptied, held, full, planned, answer, act, step}
+use Rattle.map.specs.Table.{Each, Pairs, OtherKey, IsTable}
+use Rattle.map.specs.Order as spec
+use Rattle.map.specs.Order.{Same, cons, swap, then, SameState, SameOutcome}
+use Rattle.map.proofs.Laws.{same-true, same-refl, same-sym}
+
+pub same-self : (es : List Entry) → Same es es
+same-self [] = spec.none
+same-self (e ∷ es) = cons (same-self es)
+
+-- what is said of each entry, or of each two in either order, is said of a list in any order
+pub same-each : (P : Entry → Type 0) {es fs : List Entry} → Same es fs → Each P es → Each P fs
+same-each P spec.none h = tt
+same-each P (cons s) h = (h .0, same-each P s (h .1))
+same-each P swap h = (h .1 .0, (h .0, h .1 .1))
+same-each P (then s t) h = same-each P t (same-each P s h)
+
+pub same-pairs : (R : Entry → Entry → Type 0) → ((e f : Entry) → R e f → R f e) → {es fs : List Entry} → Same es fs → Pairs R es → Pairs R fs
+same-pairs R turn spec.none h = tt
+same-pairs R turn (cons {e} s) h = (same-each (R e) s (h .0), same-pairs R turn s (h .1))
+same-pairs R turn (swap {e} {f}) h = ((turn e f (h .0 .0), h .1 .0), (h .0 .1, h .1 .1))
+same-pairs R turn (then s t) h = same-pairs R turn t (same-pairs R turn s h)
+
+pub same-length : {es fs : List Entry} → Same es fs → length es ≡ length fs
+same-length spec.none = refl
+same-length (cons s) = ap suc (same-length s)
+same-length swap = refl
+same-length (then s t) = same-length s ∙ same-length t
+
+pub same-append : (x : List Entry) {es fs : List Entry} → Same es fs → Same (es ++ x) (fs ++ x)
+same-append x spec.none = same-self x
+same-append x (cons s) = cons (same-append x s)
+same-append x swap = swap
+same-append x (then s t) = then (same-append x s) (same-append x t)
+
+without-cons : (b : Bool) (e : Entry) {es fs : List Entry} → Same es fs → Same (cond b es (e ∷ es)) (cond b fs (e ∷ fs))
+without-cons true e s = s
+without-cons false e s = cons s
+
+without-swap : (a b : Bool) (e f : Entry) (es : List Entry)
+    → Same (cond a (cond b es (f ∷ es)) (e ∷ cond b es (f ∷ es))) (cond b (cond a es (e ∷ es)) (f ∷ cond a es (e ∷ es)))
+without-swap true true e f es = same-self es
+without-swap true false e f es = same-self (f ∷ es)
+without-swap false true e f es = same-self (e ∷ es)
+without-swap false false e f es = swap
+
+module _ (p : Entry → Bool) where
+  pub same-without : {es fs : List Entry} → Same es fs → Same (without p es) (without p fs)
+  unfolding without
+  same-without spec.none = spec.none
+  same-without (cons {e} s) = without-cons (p e) e (same-without s)
+  same-without (swap {e} {f} {es}) = without-swap (p e) (p f) e f (without p es)
+  same-without (then s t) = then (same-without s) (same-without t)
+
+other-turn : (e f : Entry) → OtherKey e f → OtherKey f e
+other-turn e f h = same-sym (f .key) (e .key) h
+
+-- one entry has a key, so it is found in any order
+module _ (k : List ℕ) where
+  find-swap : (e f : Entry) (o : Option Entry) → OtherKey e f
+      → cond (hasKey k e) (some e) (cond (hasKey k f) (some f) o) ≡ cond (hasKey k f) (some f) (cond (hasKey k e) (some e) o)
+  find-swap e f o h = go (hasKey k e) (hasKey k f) refl refl
+    where
+      go : (a b : Bool) → hasKey k e ≡ a → hasKey k f ≡ b → cond a (some e) (cond b (some f) o) ≡ cond b (some f) (cond a (some e) o)
+      go true true p q =
+          let i : sameList (f .key) (e .key) ≡ true = rw (same-true (e .key) k p, same-true (f .key) k q) (same-refl k) in
+          never (cc)
+      go true false p q = refl
+      go false true p q = refl
+      go false false p q = refl
+
+  pub same-find : {es fs : List Entry} → Same es fs → Pairs OtherKey es → find (hasKey k) es ≡ find (hasKey k) fs
+  unfolding find
+  same-find spec.none h = refl
+  same-find (cons {e} s) h = ap (cond (hasKey k e) (some e)) (same-find s (h .1))
+  same-find (swap {e} {f} {es}) h = find-swap e f (find (hasKey k) es) (h .0 .0)
+  same-find (then s t) h = same-find s h ∙ same-find t (same-pairs OtherKey other-turn s h)
+
+-- two outcomes by one test
+same-if : (b : Bool) (x y u v : Outcome) → SameOutcome x u → SameOutcome y v → SameOutcome (cond b x y) (cond b u v)
+same-if true x y u v p q = p
+same-if false x y u v p q = q
+
+module _ (c : Context) (r : Request) (st us : State) (s : SameState st us) (h : IsTable st) where
+  same-held : held r st ≡ held r us
+  unfolding held
+  same-held = same-find (r .args .key) (s .entries) (h .keys)
+
+  same-full : full r st ≡ full r us
+  unfolding full
+  same-full = rw (same-held, same-length (s .entries))
+
+  same-planned : planned r st ≡ planned r us
+  unfolding planned
+  same-planned = rw same-held
+
+  same-answer : answer r st ≡ answer r us
+  unfolding answer
+  same-answer = rw (same-planned, same-held)
+
+  same-rest : Same (without (hasKey (r .args .key)) (st .entries)) (without (hasKey (r .args .key)) (us .entries))
+  same-rest = same-without (hasKey (r .args .key)) (s .entries)
+
+  same-stored : SameState (stored c r st) (stored c r us)
+  unfolding stored
+  same-stored = rw (s .last) (record { entries = same-append _ same-rest; last = refl })
+
+  same-act : (a : Answer) (d : Change) → SameOutcome (act c r st a d) (act c r us a d)
+  unfolding act dropped emptied
+  same-act a keep = (refl, s)
+  same-act a drop = (refl, record { entries = same-rest; last = s .last })
+  same-act a empty = (refl, record { entries = spec.none; last = s .last })
+  same-act a store =
+      let e : ltb (st .last) lastVersion ≡ ltb (us .last) lastVersion = rw (s .last) in
+      rw (same-full, e)
+      (same-if (full r us) _ _ _ _ refl (same-if (ltb (us .last) lastVersion) _ _ _ _ (refl, same-stored) refl))
+
+  pub order : SameOutcome (step c r st) (step c r us)
+  unfolding step
+  order = rw (same-planned, same-answer) (same-if (isEmpty (r .name)) _ _ _ _ (same-act (answer r us) (planned r us .change)) refl)

@@ -8,3 +8,4 @@ pub mod ReplyLaws
 pub mod ReplyParts
 pub mod ReplySize
 pub mod ErrorLaws
+pub mod Refusals

@@ -1,0 +1,5 @@
+pub mod Digits
+pub mod HexLaws
+pub mod Pairs
+pub mod Paste
+pub mod Second

@@ -1,0 +1,114 @@
+-- `hex::encode` meets its contract: between two bytes the loop knows what `Pasted` says. Assumes nothing.
+use Prim.Native.Nat.{_*_, _-_}
+use native.Mathlib.Omega.{arith}
+use lib.ListN.{length, length-set}
+use Rattle.hex.specs.Hex.{toHex}
+use Rattle.hex.proofs.HexLaws.{hex-length}
+use Rattle.hex.proofs.Paste.{Pasted, paste-begin, encode-on, encode-short, encode-done}
+use borrow.Author.Needs.{needs}
+use Rattle.hex.proofs.encode.Statement.{statement}
+use Rattle.hex.proofs.encode.Tie as tie
+
+abbrev Inv-loop : tie.InvT-loop
+Inv-loop s out₀ at i₀ out i = Pasted (toHex s) out₀ at out (2 * i)
+
+abbrev μ-loop : tie.MeasureT-loop
+μ-loop s out₀ at i₀ out i = length s - i
+
+returns : tie.Need-returns Inv-loop μ-loop
+returns c = encode-short _ _ _ (omega arith)
+
+sub-if2 : tie.Need-sub-if2 Inv-loop μ-loop
+sub-if2 c = search needs
+
+returns-2 : tie.Need-returns-2 Inv-loop μ-loop
+returns-2 c = encode-short _ _ _ (omega arith)
+
+loop-holds : tie.Need-loop-holds Inv-loop μ-loop
+loop-holds c = paste-begin _ _ _
+
+shared-slice-read-b : tie.Need-shared-slice-read-b Inv-loop μ-loop
+shared-slice-read-b c = search needs
+
+digit-requires : tie.Need-digit-requires Inv-loop μ-loop
+digit-requires c κs = omega (arith, c .shared-slice-known2 .given (c .before .before .loop .i))
+
+mul-out : tie.Need-mul-out Inv-loop μ-loop
+mul-out c = search needs
+
+add-out : tie.Need-add-out Inv-loop μ-loop
+add-out c = search needs
+
+slice-write-out : tie.Need-slice-write-out Inv-loop μ-loop
+slice-write-out c = omega (arith, c .before .before .before .loop .inv .long)
+
+digit-requires-2 : tie.Need-digit-requires-2 Inv-loop μ-loop
+digit-requires-2 c κs = search needs
+
+mul-out-2 : tie.Need-mul-out-2 Inv-loop μ-loop
+mul-out-2 c = search needs
+
+add-out-2 : tie.Need-add-out-2 Inv-loop μ-loop
+add-out-2 c = search needs
+
+add-out-3 : tie.Need-add-out-3 Inv-loop μ-loop
+add-out-3 c = search needs
+
+slice-write-out-2 : tie.Need-slice-write-out-2 Inv-loop μ-loop
+slice-write-out-2 c = simp length-set (omega (arith, c .before .before .before .before .loop .inv .long))
+
+add-i : tie.Need-add-i Inv-loop μ-loop
+add-i c = search needs
+
+loop-less : tie.Need-loop-less Inv-loop μ-loop
+loop-less c = search needs
+
+loop-again : tie.Need-loop-again Inv-loop μ-loop
+loop-again c =
+    let d = c .before in
+    let t = d .before .before in
+    let l = t .before in
+    rw (d .digit .ensures, c .digit2 .ensures) (encode-on _ _ _ (l .loop .i) (omega arith) (t .loop-test .taken) (l .loop .inv))
+
+mul-result : tie.Need-mul-result Inv-loop μ-loop
+mul-result c = search needs
+
+add-result : tie.Need-add-result Inv-loop μ-loop
+add-result c = search needs
+
+same-length : tie.Need-same-length Inv-loop μ-loop
+same-length c = c .before .loop .inv .long
+
+returns-3 : tie.Need-returns-3 Inv-loop μ-loop
+returns-3 c =
+    let l = c .before in
+    let s = l .before .before .before .before .before .args .s .now in
+    encode-done _ _ _ (2 * l .loop .i) (omega arith) (omega (arith, hex-length s, l .loop .inv .within)) (l .loop .inv)
+
+pub encode-spec : {M : Type 1} → statement M
+encode-spec =
+    tie.close
+    (tie.spec
+    Inv-loop
+    μ-loop
+    returns
+    sub-if2
+    returns-2
+    loop-holds
+    shared-slice-read-b
+    digit-requires
+    mul-out
+    add-out
+    slice-write-out
+    digit-requires-2
+    mul-out-2
+    add-out-2
+    add-out-3
+    slice-write-out-2
+    add-i
+    loop-less
+    loop-again
+    mul-result
+    add-result
+    same-length
+    returns-3)

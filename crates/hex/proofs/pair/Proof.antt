@@ -1,0 +1,52 @@
+-- `hex::pair` meets its contract. Assumes nothing.
+use native.Mathlib.Omega.{arith}
+use Rattle.hex.proofs.Digits.{value-below}
+use Rattle.hex.proofs.Pairs.{digit-at}
+use borrow.Author.Needs.{needs}
+use Rattle.hex.proofs.pair.Statement.{statement}
+use Rattle.hex.proofs.pair.Tie as tie
+
+mul-digit-value : tie.Need-mul-digit-value
+mul-digit-value c = search needs
+
+shared-slice-read-digit-value : tie.Need-shared-slice-read-digit-value
+shared-slice-read-digit-value c = search needs
+
+digit-value-requires : tie.Need-digit-value-requires
+digit-value-requires c κs = digit-at _ _ (c .before .before .pre .1) (omega arith)
+
+mul-digit-value-2 : tie.Need-mul-digit-value-2
+mul-digit-value-2 c = search needs
+
+add-digit-value : tie.Need-add-digit-value
+add-digit-value c = search needs
+
+shared-slice-read-digit-value-2 : tie.Need-shared-slice-read-digit-value-2
+shared-slice-read-digit-value-2 c = search needs
+
+digit-value-requires-2 : tie.Need-digit-value-requires-2
+digit-value-requires-2 c κs = digit-at _ _ (c .before .before .before .before .pre .1) (omega arith)
+
+mul-result : tie.Need-mul-result
+mul-result c = omega (arith, value-below _ (digit-value-requires (c .before .before .before) tt), value-below _ (digit-value-requires-2 (c .before) tt))
+
+add-result : tie.Need-add-result
+add-result c = omega (arith, value-below _ (digit-value-requires (c .before .before .before) tt), value-below _ (digit-value-requires-2 (c .before) tt))
+
+returns : tie.Need-returns
+returns c = omega arith
+
+pub pair-spec : {M : Type 1} → statement M
+pair-spec =
+    tie.close
+    (tie.spec
+    mul-digit-value
+    shared-slice-read-digit-value
+    digit-value-requires
+    mul-digit-value-2
+    add-digit-value
+    shared-slice-read-digit-value-2
+    digit-value-requires-2
+    mul-result
+    add-result
+    returns)

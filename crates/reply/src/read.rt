@@ -1,0 +1,177 @@
+// The parts of the reader of a reply.
+use crate::ReplyRead;
+use crate::body;
+use crate::body::Form;
+use field::ByteRead;
+use field::Cursor;
+use field::EntryVersion;
+use field::Kind;
+use field::NumberRead;
+use field::Span;
+use field::SpanRead;
+use field::VersionRead;
+use message::Answer;
+use message::Operation;
+use message::Reply;
+ghost use mathlib.Core.Path.{_≡_};
+ghost use mathlib.Core.List.{List, []};
+ghost use Prim.Native.Nat.{ℕ};
+ghost use lib.Dec.{eqb};
+ghost use Rattle.wire.specs.Codec.{readAt, byte, guard, after, whole};
+ghost use Rattle.wire.specs.Field.{limited};
+ghost use Rattle.field.specs.Answer.{asNumber, asSpan, stopped, limitedText};
+ghost use Rattle.message.specs.Reply.{message, isAwaited, rowsOf, versionedBody, textLimit, replyOf};
+ghost use Rattle.reply.specs.Answer.{asReply};
+ghost use Rattle.reply.specs.Body.{fieldsOf, replyWith};
+
+// A byte that has to be `b`; another is refused with the number `k`.
+fn read_fixed(s: &[u8], c: Cursor, b: u8, k: u8) -> NumberRead
+    ensures { λ r. ⌜ asNumber r ≡ readAt (guard (λ m. eqb m b) k byte) (now (s .entry)) (c .at) ⌝ }
+{
+    let r = field::read_byte(s, c);
+    let ByteRead::Whole(m, next) = r else {
+        return NumberRead::More;
+    };
+    if m == b {
+        NumberRead::Whole(m as u64, next)
+    } else {
+        NumberRead::Refused(k)
+    }
+}
+
+// What a field that is not whole makes of the reply.
+fn stop_number(r: NumberRead) -> ReplyRead
+    ensures { λ h. ⌜ ((s : List ℕ) → asReply s h ≡ stopped (asNumber r)) ⌝ }
+{
+    match r {
+        NumberRead::Whole(_, _) => ReplyRead::More,
+        NumberRead::More => ReplyRead::More,
+        NumberRead::Refused(k) => ReplyRead::Refused(k),
+    }
+}
+
+fn stop_span(r: SpanRead) -> ReplyRead
+    ensures { λ h. ⌜ ((s : List ℕ) → asReply s h ≡ stopped (asSpan s r)) ⌝ }
+{
+    match r {
+        SpanRead::Whole(_, _) => ReplyRead::More,
+        SpanRead::More => ReplyRead::More,
+        SpanRead::Refused(k) => ReplyRead::Refused(k),
+    }
+}
+
+// A body that is a value of at most a length; an entry version and a value; a text.
+fn read_value(s: &[u8], c: Cursor, a: Answer, lim: u64) -> ReplyRead
+    ensures { λ r. ⌜ asReply (now (s .entry)) r ≡ after (readAt (limited lim) (now (s .entry)) (c .at)) (λ v j. whole (replyOf a v []) j) ⌝ }
+{
+    let r = field::read_limited(s, c, lim);
+    let SpanRead::Whole(value, next) = r else {
+        return stop_span(r);
+    };
+    let none = Span { start: 0, len: 0 };
+    ReplyRead::Whole(
+        Reply {
+            answer: a,
+            value: value,
+            text: none,
+        },
+        next.at,
+    )
+}
+
+fn read_versioned(s: &[u8], c: Cursor, a: Answer) -> ReplyRead
+    ensures { λ r. ⌜ asReply (now (s .entry)) r ≡ after (readAt versionedBody (now (s .entry)) (c .at)) (λ p j. whole (replyWith a p) j) ⌝ }
+{
+    let r = field::read_version(s, c);
+    let VersionRead::Whole(entry, next) = r else {
+        return ReplyRead::More;
+    };
+    let b = Answer {
+        id: a.id,
+        op: a.op,
+        status: a.status,
+        entry: entry,
+    };
+    read_value(s, next, b, Reply::VALUE)
+}
+
+fn read_text(s: &[u8], c: Cursor, a: Answer) -> ReplyRead
+    ensures { λ r. ⌜ asReply (now (s .entry)) r ≡ after (readAt (limitedText textLimit) (now (s .entry)) (c .at)) (λ t j. whole (replyOf a [] t) j) ⌝ }
+{
+    let r = field::read_text(s, c, Reply::TEXT);
+    let SpanRead::Whole(text, next) = r else {
+        return stop_span(r);
+    };
+    let none = Span { start: 0, len: 0 };
+    ReplyRead::Whole(
+        Reply {
+            answer: a,
+            value: none,
+            text: text,
+        },
+        next.at,
+    )
+}
+
+// The body behind a header, whose entry version is not read yet.
+fn read_body(s: &[u8], c: Cursor, a: Answer, f: Form) -> ReplyRead
+    requires { ⌜ a .entry .0 ≡ 0 ⌝ }
+    ensures { λ r. ⌜ asReply (now (s .entry)) r ≡ after (readAt (fieldsOf f) (now (s .entry)) (c .at)) (λ p j. whole (replyWith a p) j) ⌝ }
+{
+    match f {
+        Form::Nothing => {
+            let none = Span { start: 0, len: 0 };
+            ReplyRead::Whole(
+                Reply {
+                    answer: a,
+                    value: none,
+                    text: none,
+                },
+                c.at,
+            )
+        }
+        Form::Value(lim) => read_value(s, c, a, lim),
+        Form::Versioned => read_versioned(s, c, a),
+        Form::Text => read_text(s, c, a),
+    }
+}
+
+// The reply to an operation that is served.
+pub(crate) fn read_message(s: &[u8], o: Operation, flag: bool) -> ReplyRead
+    ensures { λ r. ⌜ asReply (now (s .entry)) r ≡ readAt (message (isAwaited o) (rowsOf o) flag) (now (s .entry)) 0 ⌝ }
+{
+    let r1 = read_fixed(s, Cursor { at: 0 }, 0xa1, 1);
+    let NumberRead::Whole(_, c1) = r1 else {
+        return stop_number(r1);
+    };
+    let r2 = field::read_number(s, c1, Kind::VLong);
+    let NumberRead::Whole(id, c2) = r2 else {
+        return stop_number(r2);
+    };
+    let r3 = field::read_byte(s, c2);
+    let ByteRead::Whole(op, c3) = r3 else {
+        return ReplyRead::More;
+    };
+    if !body::is_awaited(o, op) {
+        return ReplyRead::Refused(4);
+    }
+    let r4 = field::read_byte(s, c3);
+    let ByteRead::Whole(status, c4) = r4 else {
+        return ReplyRead::More;
+    };
+    let b = body::body_at(o, op, status);
+    if !body::is_allowed(b) {
+        return ReplyRead::Refused(8);
+    }
+    let r5 = read_fixed(s, c4, 0, 8);
+    let NumberRead::Whole(_, c5) = r5 else {
+        return stop_number(r5);
+    };
+    let a = Answer {
+        id: id,
+        op: op,
+        status: status,
+        entry: EntryVersion(0),
+    };
+    read_body(s, c5, a, body::form_of(flag, b))
+}

@@ -1,0 +1,5 @@
+pub mod Editions
+pub mod Read
+pub mod Rules
+pub mod Sizes
+pub mod Puts

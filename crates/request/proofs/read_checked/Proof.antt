@@ -1,0 +1,38 @@
+-- `request::read_checked` meets its contract: the byte decides. Assumes nothing.
+use borrow.Author.Tests.{le-leb, lt-leb}
+use Rattle.request.proofs.Read.{at-between}
+use borrow.Author.Needs.{needs}
+use Rattle.request.proofs.read_checked.Statement.{statement}
+use Rattle.request.proofs.read_checked.Tie as tie
+
+read-byte-requires : tie.Need-read-byte-requires
+read-byte-requires c κs = search needs
+
+enum-known-r : tie.Need-enum-known-r
+enum-known-r c = search needs
+
+enum-told : tie.Need-enum-told
+enum-told c = search needs
+
+returns : tie.Need-returns
+returns c = rw (at-between, ← (c .before .before .read-byte .ensures), c .enum-told .given .1)
+
+returns-2 : tie.Need-returns-2
+returns-2 c =
+    let r = c .before .before in
+    rw (at-between, ← (r .before .before .read-byte .ensures), r .r .given .1, lt-leb _ _ (c .if1 .taken))
+
+returns-3 : tie.Need-returns-3
+returns-3 c =
+    let r = c .before .before .before in
+    rw (at-between, ← (r .before .before .read-byte .ensures), r .r .given .1, le-leb _ _ (c .before .if1 .left), lt-leb _ _ (c .if2 .taken))
+
+returns-4 : tie.Need-returns-4
+returns-4 c =
+    let r = c .before .before .before in
+    rw (at-between, ← (r .before .before .read-byte .ensures), r .r .given .1, le-leb _ _ (c .before .if1 .left), le-leb _ _ (c .if2 .left))
+
+pub read-checked-spec : {M : Type 1} → statement M
+read-checked-spec =
+    tie.close
+    (tie.spec read-byte-requires enum-known-r enum-told returns returns-2 returns-3 returns-4)

@@ -1,0 +1,27 @@
+-- `request::read_id` meets its contract: an id that is not whole is 0. Assumes nothing.
+use Rattle.request.proofs.Read.{no-id}
+use Rattle.request.specs.Answer.{idIn}
+use borrow.Author.Needs.{needs}
+use Rattle.request.proofs.read_id.Statement.{statement}
+use Rattle.request.proofs.read_id.Tie as tie
+
+read-start-requires : tie.Need-read-start-requires
+read-start-requires c κs = search needs
+
+enum-known-r : tie.Need-enum-known-r
+enum-known-r c = search needs
+
+returns : tie.Need-returns
+unfolding idIn
+returns c =
+    let r = c .before .read-start in
+    rw (← (r .ensures)) (no-id (r .result) (c .match .keys2))
+
+returns-2 : tie.Need-returns-2
+unfolding idIn
+returns-2 c =
+    let r = c .before in
+    rw (← (r .before .before .read-start .ensures), r .r .given .1)
+
+pub read-id-spec : {M : Type 1} → statement M
+read-id-spec = tie.close (tie.spec read-start-requires enum-known-r returns returns-2)

@@ -1,0 +1,10 @@
+pub mod Sounds
+pub mod Calls
+pub mod Like
+pub mod After
+pub mod Own
+pub mod Ahead
+pub mod Served
+pub mod Demand3
+pub mod Determined
+pub mod Exist

@@ -1,0 +1,5 @@
+pub mod Sound
+pub mod Serve
+pub mod Stream
+pub mod Demand3
+pub mod Many

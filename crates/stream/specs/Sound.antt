@@ -1,0 +1,98 @@
+-- Whether memory is a sound table can be decided, so that a definition may go by it. What each of these decides is said by its type.
+use mathlib.Core.Path.{_≡_, refl}
+use mathlib.Core.List.{List, [], _∷_}
+use mathlib.Core.Bool.{Bool, true, false}
+use Prim.Native.Nat.{ℕ, zero, suc, _+_, _≤_, _<_}
+use native.Mathlib.Decide.{decLe, decLt}
+use native.Mathlib.Omega.{arith}
+use lib.ListN.{length}
+use lib.Dec.{eqb}
+use borrow.Author.Tests.{eqb-true, eqb-false}
+use Rattle.message.specs.Request.{keyLimit, valueLimit}
+use Rattle.wire.specs.Codec.{isBytes}
+use Rattle.map.specs.State.{Entry, State, sameList}
+use Rattle.map.specs.Step.{mostKeys, lastVersion}
+use Rattle.map.specs.Table.{Each, Pairs, Sizes, OtherKey, OtherVersion, Issued, IsTable, Ascending}
+use Rattle.table.specs.Bytes.{be8}
+use Rattle.table.specs.Memory.{size, rowAt, countOf, stateOf, Form, Sound}
+
+decMap : {P Q : Type 0} → (P → Q) → (Q → P) → Dec P → Dec Q
+decMap f g (yes p) = yes (f p)
+decMap f g (no n) = no (λ q. n (g q))
+
+decBoth : {P Q : Type 0} → Dec P → Dec Q → Dec (P × Q)
+decBoth (yes p) (yes q) = yes (p, q)
+decBoth (yes p) (no n) = no (λ z. n (z .1))
+decBoth (no n) d = no (λ z. n (z .0))
+
+decNot : {P : Type 0} → Dec P → Dec (P → ⊥)
+decNot (yes p) = no (λ n. n p)
+decNot (no n) = yes n
+
+clash : {X : Type 0} → _≡_ {A = ℕ} 0 1 → X
+clash e = absurd (omega arith)
+
+decBool : (a b : Bool) → Dec (a ≡ b)
+decBool true true = yes refl
+decBool true false = no (λ e. clash (cc))
+decBool false true = no (λ e. clash (cc))
+decBool false false = yes refl
+
+decEq : (a b : ℕ) → Dec (a ≡ b)
+decEq a b = go (eqb a b) refl
+  where
+    go : (t : Bool) → eqb a b ≡ t → Dec (a ≡ b)
+    go true e = yes (eqb-true a b e)
+    go false e = no (eqb-false a b e)
+
+-- a property of each number below n
+decBelow : (P : ℕ → Type 0) → ((i : ℕ) → Dec (P i)) → (n : ℕ) → Dec ((i : ℕ) → i < n → P i)
+decBelow P d zero = yes (λ i h. absurd (omega arith))
+decBelow P d (suc n) = decMap (λ z i h. go z i h (decLt i n)) (λ z. ((λ i h. z i (omega arith)), z n (omega arith))) (decBoth (decBelow P d n) (d n))
+  where
+    go : ((i : ℕ) → i < n → P i) × P n → (i : ℕ) → i < suc n → Dec (i < n) → P i
+    go z i h (yes l) = z .0 i l
+    go z i h (no l) = let e : n ≡ i = omega arith in rw (← e) (z .1)
+
+module _ {P : Entry → Type 0} (d : (e : Entry) → Dec (P e)) where
+  decEach : (es : List Entry) → Dec (Each P es)
+  decEach [] = yes tt
+  decEach (e ∷ es) = decBoth (d e) (decEach es)
+
+module _ {P : Entry → Entry → Type 0} (d : (e f : Entry) → Dec (P e f)) where
+  decPairs : (es : List Entry) → Dec (Pairs P es)
+  decPairs [] = yes tt
+  decPairs (e ∷ es) = decBoth (decEach (d e) es) (decPairs es)
+
+decSizes : (e : Entry) → Dec (Sizes e)
+decSizes e =
+    decMap (λ z. record { key = z .0; value = z .1 .0; keyBytes = z .1 .1 .0; valueBytes = z .1 .1 .1 .0; deadline = z .1 .1 .1 .1 })
+    (λ s. (s .key, (s .value, (s .keyBytes, (s .valueBytes, s .deadline)))))
+    (decBoth (decLe (length (e .key)) keyLimit) (decBoth (decLe (length (e .value)) valueLimit)
+    (decBoth (decBool (isBytes (e .key)) true) (decBoth (decBool (isBytes (e .value)) true) (decLe (e .deadline) 8_589_934_590)))))
+
+decTable : (st : State) → Dec (IsTable st)
+decTable st =
+    decMap (λ z. record { few = z .0; keys = z .1 .0; sizes = z .1 .1 .0; versions = z .1 .1 .1 .0; issued = z .1 .1 .1 .1 .0; last = z .1 .1 .1 .1 .1 })
+    (λ s. (s .few, (s .keys, (s .sizes, (s .versions, (s .issued, s .last))))))
+    (decBoth (decLe (length (st .entries)) mostKeys) (decBoth (decPairs (λ e f. decBool (sameList (f .key) (e .key)) false) (st .entries))
+    (decBoth (decEach decSizes (st .entries)) (decBoth (decPairs (λ e f. decNot (decEq (e .version) (f .version))) (st .entries))
+    (decBoth (decEach (λ e. decBoth (decLe 1 (e .version)) (decLe (e .version) (st .last))) (st .entries)) (decLe (st .last) lastVersion))))))
+
+decForm : (t : List ℕ) → Dec (Form t)
+decForm t =
+    decMap (λ z. record { long = z .0; counted = z .1 .0; lengths = z .1 .1 .0; order = z .1 .1 .1 }) (λ f. (f .long, (f .counted, (f .lengths, f .order))))
+    (decBoth (decEq (length t) size) (decBoth (decLe (be8 t 0) mostKeys)
+    (decBoth (decBelow _ (λ i. decBoth (decLe (be8 t (rowAt i + 16)) keyLimit) (decLe (be8 t (rowAt i + 24)) valueLimit)) (countOf t))
+    (decPairs (λ e f. decLt (e .version) (f .version)) (stateOf t .entries)))))
+
+pub decSound : (t : List ℕ) → Dec (Sound t)
+decSound t = decMap (λ z. record { form = z .0; table = z .1 }) (λ s. (s .form, s .table)) (decBoth (decForm t) (decTable (stateOf t)))
+
+abbrev pub isYes : {P : Type 0} → Dec P → Bool
+isYes (yes p) = true
+isYes (no n) = false
+
+-- whether the table is sound, that is not refused 13
+unfoldable pub isSound : List ℕ → Bool
+isSound t = isYes (decSound t)

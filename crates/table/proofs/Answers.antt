@@ -1,0 +1,124 @@
+-- What the public functions answer: of memory of another length, of a row that is not held, and where nothing is changed. Assumes nothing.
+use mathlib.Core.Path.{_≡_, refl, sym, ap, _∙_}
+use mathlib.Core.List.{List, []}
+use mathlib.Core.Bool.{Bool, true, false, cond, _&&_}
+use mathlib.Core.Option.{Option, none, some}
+use Prim.Native.Nat.{ℕ, _≤_, _<_}
+use native.Mathlib.Omega.{arith}
+use lib.ListN.{length, List·getD-eq-default}
+use lib.Dec.{eqb, leb, ltb}
+use borrow.Author.Tests.{eqb-true, eqb-false, eq-eqb, ne-eqb, lt-ltb, le-ltb, le-leb, lt-leb}
+use Rattle.wire.proofs.Laws.{never, and, and-false}
+use Rattle.message.specs.Request.{keyLimit, valueLimit}
+use Rattle.map.specs.State.{Entry, State, withEntries, fresh}
+use Rattle.map.specs.Step.{mostKeys, lastVersion}
+use Rattle.table.specs.Memory.{size, entry, countOf, stateOf}
+use Rattle.table.specs.Found.{entryAt, FoundIs}
+use Rattle.table.specs.Check.{FoundFrom}
+use Rattle.table.specs.declared.Found.{Found}
+use Rattle.table.specs.declared.Found.the-variants.{At, Absent}
+use Rattle.table.specs.Change.{Changed, Left, isSome, made, added, removed, cleared}
+use Rattle.table.specs.Write.{grown, shrunk}
+use Rattle.table.proofs.RowLaws.{length-entries, entry-is}
+
+pub other-length : (t : List ℕ) → (length t ≡ size → ⊥) → stateOf t ≡ fresh
+unfolding stateOf
+other-length t h = rw (ne-eqb (length t) size h)
+
+pub other-entries : (t : List ℕ) → (length t ≡ size → ⊥) → length (stateOf t .entries) ≡ 0
+other-entries t h = ap (λ (st : State). length (st .entries)) (other-length t h)
+
+-- a row that is held, and one that is not
+pub held-row : (t : List ℕ) (i : ℕ) → i < length (stateOf t .entries) → (length t ≡ size) × (i < countOf t)
+held-row t i l = go (eqb (length t) size) refl
+  where
+    go : (b : Bool) → eqb (length t) size ≡ b → (length t ≡ size) × (i < countOf t)
+    go true e = let h = eqb-true (length t) size e in (h, omega (arith, length-entries t h))
+    go false e = absurd (omega (arith, other-entries t (eqb-false (length t) size e)))
+
+pub no-row : (t : List ℕ) (i : ℕ) → length (stateOf t .entries) ≤ i → entryAt t i ≡ entry [] [] 0 0
+unfolding entryAt
+no-row t i l = List·getD-eq-default (stateOf t .entries) (entry [] [] 0 0) {n = i} l
+
+-- what a writer answers
+abbrev Answers : List ℕ → Option State → Bool → List ℕ → Type 0
+Answers old o r new = (r ≡ isSome o) × Left old o new
+
+taken : (old new : List ℕ) (st : State) (b : Bool) → b ≡ true → Changed old new st → Answers old (cond b (some st) none) true new
+taken old new st true e h = (refl, h)
+taken old new st false e h = never (cc)
+
+left : (old : List ℕ) (st : State) (b : Bool) → b ≡ false → Answers old (cond b (some st) none) false old
+left old st true e = never (cc)
+left old st false e = (refl, refl)
+
+module _ (t : List ℕ) where
+  pub made-yes : (u : List ℕ) → length t ≡ size → Changed t u fresh → Answers t (made t) true u
+  unfolding made
+  made-yes u h x = taken t u fresh _ (eq-eqb (length t) size h) x
+
+  pub made-no : (length t ≡ size → ⊥) → Answers t (made t) false t
+  unfolding made
+  made-no h = left t fresh _ (ne-eqb (length t) size h)
+
+  pub cleared-yes : (u : List ℕ) → length t ≡ size → Changed t u (withEntries [] (stateOf t)) → Answers t (cleared t) true u
+  unfolding cleared
+  cleared-yes u h x = taken t u _ _ (eq-eqb (length t) size h) x
+
+  pub cleared-no : (length t ≡ size → ⊥) → Answers t (cleared t) false t
+  unfolding cleared
+  cleared-no h = left t _ _ (ne-eqb (length t) size h)
+
+  pub removed-yes : (i : ℕ) (u : List ℕ) → i < length (stateOf t .entries) → Changed t u (shrunk i (stateOf t)) → Answers t (removed i t) true u
+  unfolding removed
+  removed-yes i u l x = taken t u _ _ (lt-ltb i (length (stateOf t .entries)) l) x
+
+  pub removed-no : (i : ℕ) → length (stateOf t .entries) ≤ i → Answers t (removed i t) false t
+  unfolding removed
+  removed-no i l = left t _ _ (le-ltb i (length (stateOf t .entries)) l)
+
+-- what an entry more takes
+module _ (k v : List ℕ) (d : ℕ) (t : List ℕ) where
+  abbrev room : Bool
+  room =
+      eqb (length t) size && (leb (length k) keyLimit && (leb (length v) valueLimit && (ltb (length (stateOf t .entries)) mostKeys && ltb (stateOf t .last) lastVersion)))
+
+  pub added-yes : (u : List ℕ) → length t ≡ size → length k ≤ keyLimit → length v ≤ valueLimit → length (stateOf t .entries) < mostKeys → stateOf t .last < lastVersion
+      → Changed t u (grown k v d (stateOf t)) → Answers t (added k v d t) true u
+  unfolding added
+  added-yes u h hk hv hn hl x =
+      taken t u _ room (and (eq-eqb _ _ h) (and (le-leb _ _ hk) (and (le-leb _ _ hv) (and (lt-ltb _ _ hn) (lt-ltb _ _ hl))))) x
+
+  none-more : room ≡ false → Answers t (added k v d t) false t
+  unfolding added
+  none-more e = left t _ room e
+
+  pub added-sized : (length t ≡ size → ⊥) → Answers t (added k v d t) false t
+  added-sized h = none-more (rw (ne-eqb (length t) size h))
+
+  pub added-key : keyLimit < length k → Answers t (added k v d t) false t
+  added-key h = none-more (rw (lt-leb (length k) keyLimit h) (simp and-false))
+
+  pub added-value : valueLimit < length v → Answers t (added k v d t) false t
+  added-value h = none-more (rw (lt-leb (length v) valueLimit h) (simp and-false))
+
+  pub added-full : mostKeys ≤ length (stateOf t .entries) → Answers t (added k v d t) false t
+  added-full h = none-more (rw (le-ltb (length (stateOf t .entries)) mostKeys h) (simp and-false))
+
+  pub added-last : lastVersion ≤ stateOf t .last → Answers t (added k v d t) false t
+  added-last h = none-more (rw (le-ltb (stateOf t .last) lastVersion h) (simp and-false))
+
+-- what a search says of the state
+pub found-other : (t k : List ℕ) → (length t ≡ size → ⊥) → FoundIs t k Absent
+found-other t k h j l = absurd (omega (arith, other-entries t h))
+
+pub found-first : (t k : List ℕ) → length t ≡ size → (r : Found) → FoundFrom t k 0 r → FoundIs t k r
+found-first t k h (At i) f = (
+  omega (arith, length-entries t h, f .1),
+  ap (λ (e : Entry). e .key) (entry-is t h i (f .1)) ∙ f .2,
+  λ j l q. f .3 j l (omega arith) (sym (ap (λ (e : Entry). e .key) (entry-is t h j (omega (arith, f .1)))) ∙ q),
+)
+found-first t k h Absent f =
+    λ j l q.
+    let m : j < countOf t = omega (arith, length-entries t h) in
+    f j m (omega arith) (sym (ap (λ (e : Entry). e .key) (entry-is t h j m)) ∙ q)

@@ -1,0 +1,232 @@
+-- Every state that a table can hold, with its entries ascending, has memory that is its sound form; and memory that was made is sound.
+-- Assumes nothing.
+use mathlib.Core.Path.{_≡_, refl, sym, ap, _∙_, subst}
+use mathlib.Core.List.{List, [], _∷_, _++_, append-nil}
+use mathlib.Core.Logic.{⊎-elim}
+use mathlib.Core.Option.{none, some}
+use mathlib.Core.Bool.{Bool, true, cond}
+use Prim.Native.Nat.{ℕ, _+_, _%_, _≤_, _<_, _^_, min}
+use native.Mathlib.Omega.{arith}
+use lib.ListN.{length, getD, List·getD-eq-default}
+use lib.Seq.{append-snoc}
+use lib.Dec.{ltb}
+use borrow.Author.Tests.{eq-eqb, lt-ltb}
+use Rattle.wire.specs.Codec.{Bytes, isBytes}
+use Rattle.wire.proofs.Laws.{bytes-are}
+use Rattle.map.specs.State.{Entry, State, fresh}
+use Rattle.map.specs.Step.{mostKeys}
+use Rattle.map.specs.Table.{Each, Sizes, IsTable, Ascending}
+use Rattle.table.specs.Bytes.{be8, upto}
+use Rattle.table.specs.Memory.{size, rowAt, entry, entryOf, countOf, entriesOf, stateOf, Form, Sound}
+use Rattle.table.specs.Change.{Changed, Left, made}
+use Rattle.table.specs.Write.{put, digits, Written}
+use Rattle.table.specs.Form.{zeros, rowOf, withRow, withRows, form}
+use Rattle.table.proofs.Lists.{length-upto, getD-upto, upto-ext, lt-or-ge}
+use Rattle.table.proofs.Order.{each-both}
+use Rattle.table.proofs.Parts.{length-put, bytes-put}
+use Rattle.table.proofs.RowLaws.{SameRow, be8-same, length-digits, state-is, length-entries, count-most}
+use Rattle.table.proofs.Writes.{Patched, AllFit, fit, counts, row-before, written, entries-more, lengths-more, patched, patched-last}
+
+-- a list of n bytes
+record Held (n : ℕ) (t : List ℕ) : Type 0 where
+  long : length t ≡ n
+  bytes : Bytes t
+
+mod-byte : (x : ℕ) → ltb (x % 256) 256 ≡ true
+mod-byte x = lt-ltb (x % 256) 256 (omega arith)
+
+bytes-digits : (x : ℕ) → Bytes (digits x)
+unfolding digits isBytes
+bytes-digits x = bytes-are (digits x) (simp mod-byte)
+
+held-put : {n : ℕ} {t : List ℕ} (a : ℕ) (vs : List ℕ) → Held n t → Bytes vs → a + length vs ≤ n → Held n (put t a vs)
+held-put {n} {t} a vs h b l =
+    let m : a + length vs ≤ length t = omega (arith, h .long) in
+    record { long = length-put t a vs m ∙ h .long; bytes = bytes-put t a vs m (h .bytes) b }
+
+held-put8 : {n : ℕ} {t : List ℕ} (a x : ℕ) → Held n t → a + 8 ≤ n → Held n (put t a (digits x))
+held-put8 a x h l = held-put a (digits x) h (bytes-digits x) (omega (arith, length-digits x))
+
+zero-at : (n k : ℕ) → getD (zeros n) k 0 ≡ 0
+unfolding zeros
+zero-at n k =
+    ⊎-elim
+    (λ l. getD-upto {A = ℕ} (λ i. 0) n k 0 l)
+    (λ l. List·getD-eq-default (upto {A = ℕ} (λ i. 0) n) 0 {n = k} (omega (arith, length-upto {A = ℕ} (λ i. 0) n)))
+    (lt-or-ge k n)
+
+held-zeros : (n : ℕ) → Held n (zeros n)
+unfolding zeros
+held-zeros n = record { long = length-upto {A = ℕ} (λ i. 0) n; bytes = λ i. omega (arith, zero-at n i) }
+
+-- an entry that a row can hold, and its row
+record Kept (e : Entry) : Type 0 where
+  sizes : Sizes e
+  version : e .version < 2 ^ 64
+
+kept : (st : State) → IsTable st → Each Kept (st .entries)
+kept st h =
+    each-both (st .entries) (λ e s i. record { sizes = s; version = omega (arith, i .1, h .last) }) (h .sizes) (h .issued)
+
+row-held : (e : Entry) → Kept e → Held 352 (rowOf e)
+unfolding rowOf
+row-held e k =
+    let s = k .sizes in
+    held-put 96 (e .value)
+    (held-put 32 (e .key) (held-put8 24 _ (held-put8 16 _ (held-put8 8 _ (held-put8 0 _ (held-zeros 352) (omega arith)) (omega arith)) (omega arith)) (omega arith))
+    (bytes-are _ (s .keyBytes)) (omega (arith, s .key)))
+    (bytes-are _ (s .valueBytes)) (omega (arith, s .value))
+
+row-written : (e : Entry) → Kept e → Written (rowOf e) (e .key) (e .value) (e .version) (e .deadline)
+unfolding rowOf
+row-written e k =
+    written (zeros 352) (e .key) (e .value) (e .version) (e .deadline) (held-zeros 352 .long) (k .sizes .key) (k .sizes .value) (k .version)
+    (omega (arith, k .sizes .deadline))
+
+-- memory as rows are written to it
+record Growing (t : List ℕ) : Type 0 where
+  held : Held size t
+  counted : be8 t 0 ≤ mostKeys
+  lengths : AllFit t
+
+no-bytes : be8 [] 0 ≡ 0
+unfolding be8
+no-bytes = refl
+
+start : Growing (zeros size) × (entriesOf (zeros size) ≡ []) × (countOf (zeros size) ≡ 0)
+unfolding entriesOf countOf upto
+start =
+    let e : be8 (zeros size) 0 ≡ 0 = be8-same (zeros size) [] 0 0 (λ k l. zero-at size (0 + k)) ∙ no-bytes in
+    let m : min (be8 (zeros size) 0) 128 ≡ 0 = omega arith in
+    (record { held = held-zeros size; counted = omega arith; lengths = λ i l. absurd (omega arith) }, ap (upto _) m, m)
+
+module _ (t : List ℕ) (e : Entry) (g : Growing t) (k : Kept e) (room : countOf t < mostKeys) where
+  abbrev n : ℕ
+  n = countOf t
+
+  row-patched : Patched t (withRow t e) (rowAt n) (rowOf e) (n + 1) (e .version)
+  unfolding withRow
+  row-patched =
+      let w = row-held e k .long in
+      patched-last t _ (rowAt n) (rowOf e) (n + 1) _ (e .version)
+      (patched t (rowAt n) (rowOf e) (n + 1) (g .held .long) (omega arith) (omega arith) (omega arith)) (k .version)
+
+  row-bytes : Held size (withRow t e)
+  unfolding withRow
+  row-bytes =
+      let w = row-held e k .long in
+      held-put8 8 _ (held-put8 0 _ (held-put (rowAt n) (rowOf e) (g .held) (row-held e k .bytes) (omega arith)) (omega arith)) (omega arith)
+
+  row-more : Growing (withRow t e) × (entriesOf (withRow t e) ≡ entriesOf t ++ (e ∷ [])) × (countOf (withRow t e) ≡ n + 1)
+  unfolding entry
+  row-more =
+      let p = row-patched in
+      let w = row-held e k .long in (
+        record {
+          held = row-bytes;
+          counted = omega (arith, p .count, p .few);
+          lengths = lengths-more t _ (rowOf e) _ _ _ n _ refl room w (row-written e k) p (g .lengths);
+        },
+        entries-more t _ (rowOf e) _ _ _ n _ refl room w (row-written e k) p,
+        counts t _ _ _ _ _ p,
+      )
+
+rows : (es : List Entry) (t : List ℕ) → Growing t → Each Kept es → countOf t + length es ≤ mostKeys
+    → Growing (withRows t es) × (entriesOf (withRows t es) ≡ entriesOf t ++ es)
+unfolding withRows
+rows [] t g h l = (g, sym (append-nil (entriesOf t)))
+rows (e ∷ es) t g h l =
+    let m = row-more t e g (h .0) (omega arith) in
+    let r = rows es (withRow t e) (m .0) (h .1) (omega (arith, m .2)) in
+    (r .0, r .1 ∙ ap (λ (xs : List Entry). xs ++ es) (m .1) ∙ append-snoc (entriesOf t) e es)
+
+-- the last version is written last
+module _ (t : List ℕ) (x : ℕ) (g : Growing t) (small : x < 2 ^ 64) where
+  abbrev u : List ℕ
+  u = put t 8 (digits x)
+
+  last-patched : Patched t u size [] (be8 t 0) x
+  last-patched =
+      patched-last t t size [] (be8 t 0) (be8 t 8) x
+      (record {
+        old = g .held .long;
+        long = g .held .long;
+        few = g .counted;
+        low = omega arith;
+        fits = omega arith;
+        count = refl;
+        last = refl;
+        same = λ k l m. refl;
+        laid = λ k l. absurd (omega arith);
+      })
+      small
+
+  count-same : countOf u ≡ countOf t
+  unfolding countOf
+  count-same = ap (λ (n : ℕ). min n 128) (last-patched .count)
+
+  row-kept : (i : ℕ) → i < countOf t → SameRow u (rowAt i) t (rowAt i)
+  row-kept i l = row-before t u size [] _ x last-patched (rowAt i) (omega arith) (omega (arith, count-most t))
+
+  entries-same : entriesOf u ≡ entriesOf t
+  unfolding entriesOf
+  entries-same =
+      ap (upto (λ (i : ℕ). entryOf u (rowAt i))) count-same
+      ∙ upto-ext (λ (i : ℕ). entryOf t (rowAt i)) (λ (i : ℕ). entryOf u (rowAt i)) (countOf t) (λ i l. row-kept i l .entry)
+
+  last-form : Ascending (stateOf u .entries) → Form u
+  last-form a =
+      record {
+        long = last-patched .long;
+        counted = omega (arith, last-patched .count, g .counted);
+        lengths = λ i l. let m : i < countOf t = omega (arith, count-same) in fit (row-kept i m) (g .lengths i m);
+        order = a;
+      }
+
+-- what memory that is the form of a state has
+pub record Formed (st : State) (t : List ℕ) : Type 0 where
+  pub state : stateOf t ≡ st
+  pub sound : Sound t
+  pub bytes : Bytes t
+
+pub has-form : (st : State) → IsTable st → Ascending (st .entries) → Formed st (form st)
+unfolding form
+has-form st h a =
+    let z = start in
+    let r = rows (st .entries) (zeros size) (z .0) (kept st h) (omega (arith, z .2, h .few)) in
+    let small : st .last < 2 ^ 64 = omega (arith, h .last) in
+    let p = last-patched _ (st .last) (r .0) small in
+    let e : stateOf (form st) ≡ st =
+    state-is (form st) st (p .long) (entries-same _ (st .last) (r .0) small ∙ r .1 ∙ ap (λ (xs : List Entry). xs ++ st .entries) (z .1)) (p .last) in
+    record {
+      state = e;
+      sound = record {
+        form = last-form _ (st .last) (r .0) small (subst (λ (s : State). Ascending (s .entries)) (sym e) a);
+        table = subst IsTable (sym e) h;
+      };
+      bytes = held-put8 8 (st .last) (r .0 .held) (omega arith) .bytes;
+    }
+
+-- memory that was made
+fresh-table : IsTable fresh
+fresh-table = record { few = omega arith; keys = tt; sizes = tt; versions = tt; issued = tt; last = omega arith }
+
+fresh-sound : (u : List ℕ) → length u ≡ size → stateOf u ≡ fresh → Sound u
+unfolding countOf
+fresh-sound u h e =
+    let n : min (be8 u 0) 128 ≡ 0 = sym (length-entries u h) ∙ ap (λ (st : State). length (st .entries)) e in
+    record {
+      form = record {
+        long = h;
+        counted = omega arith;
+        lengths = λ i l. absurd (omega arith);
+        order = subst (λ (st : State). Ascending (st .entries)) (sym e) tt;
+      };
+      table = subst IsTable (sym e) fresh-table;
+    }
+
+pub made-sound : (t u : List ℕ) → length t ≡ size → Left t (made t) u → Sound u
+unfolding made
+made-sound t u h l =
+    let c : Changed t u fresh = subst (λ (b : Bool). Left t (cond b (some fresh) none) u) (eq-eqb (length t) size h) l in
+    fresh-sound u (c .long ∙ h) (c .state)

@@ -1,0 +1,10 @@
+pub mod Lists
+pub mod Parts
+pub mod RowLaws
+pub mod Order
+pub mod Writes
+pub mod Answers
+pub mod Keys
+pub mod SoundLaws
+pub mod Behind
+pub mod HasForm

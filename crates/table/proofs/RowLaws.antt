@@ -1,0 +1,130 @@
+-- Which bytes a row depends on, and what the row functions' writes leave. Assumes nothing.
+use mathlib.Core.Path.{_≡_, refl, ap, _∙_}
+use mathlib.Core.List.{List, []}
+use Prim.Native.Nat.{ℕ, _+_, _*_, _/_, _%_, _≤_, _<_, _^_, min}
+use native.Mathlib.Omega.{arith}
+use lib.ListN.{length, getD}
+use borrow.Author.Tests.{eq-eqb}
+use Rattle.map.specs.State.{Entry, State}
+use Rattle.map.specs.Step.{mostKeys}
+use Rattle.table.specs.Bytes.{be8}
+use Rattle.table.specs.Memory.{size, rowAt, entry, entryOf, countOf, entriesOf, stateOf}
+use Rattle.table.specs.Found.{entryAt}
+use Rattle.table.specs.Write.{put, digits}
+use Rattle.table.proofs.Lists.{length-upto, getD-upto}
+use Rattle.table.proofs.Parts.{part-ext, length-put, put-before, put-after, put-in}
+
+-- eight-byte numbers
+pub be8-same : (t u : List ℕ) (a b : ℕ) → ((k : ℕ) → k < 8 → getD t (a + k) 0 ≡ getD u (b + k) 0) → be8 t a ≡ be8 u b
+unfolding be8
+be8-same t u a b h =
+    let e : a + 0 ≡ a = omega arith in
+    let f : b + 0 ≡ b = omega arith in
+    cc (h 0 (omega arith), h 1 (omega arith), h 2 (omega arith), h 3 (omega arith), h 4 (omega arith), h 5 (omega arith), h 6 (omega arith), h 7 (omega arith))
+
+spelt : (x : ℕ) → x < 2 ^ 64 → be8 (digits x) 0 ≡ x
+unfolding be8 digits
+spelt x h =
+    let e8 : x / 72057594037927936 % 256 ≡ x / 72057594037927936 = omega arith in
+    let e7 : x / 72057594037927936 * 256 + x / 281474976710656 % 256 ≡ x / 281474976710656 = omega arith in
+    let e6 : x / 281474976710656 * 256 + x / 1099511627776 % 256 ≡ x / 1099511627776 = omega arith in
+    let e5 : x / 1099511627776 * 256 + x / 4294967296 % 256 ≡ x / 4294967296 = omega arith in
+    let e4 : x / 4294967296 * 256 + x / 16777216 % 256 ≡ x / 16777216 = omega arith in
+    let e3 : x / 16777216 * 256 + x / 65536 % 256 ≡ x / 65536 = omega arith in
+    let e2 : x / 65536 * 256 + x / 256 % 256 ≡ x / 256 = omega arith in
+    let e1 : x / 256 * 256 + x % 256 ≡ x = omega arith in
+    cc
+
+pub length-digits : (x : ℕ) → length (digits x) ≡ 8
+unfolding digits
+length-digits x = refl
+
+module _ (t : List ℕ) (a x : ℕ) (fits : a + 8 ≤ length t) where
+  pub length-put8 : length (put t a (digits x)) ≡ length t
+  length-put8 = length-put t a (digits x) (omega (arith, length-digits x))
+
+  pub be8-put : x < 2 ^ 64 → be8 (put t a (digits x)) a ≡ x
+  be8-put h =
+      be8-same (put t a (digits x)) (digits x) a 0
+      (λ k l. let e : 0 + k ≡ k = omega arith in
+      cc (put-in t a (digits x) (omega (arith, length-digits x)) k (omega (arith, length-digits x))))
+      ∙ spelt x h
+
+  pub put8-before : (k : ℕ) → k < a → getD (put t a (digits x)) k 0 ≡ getD t k 0
+  put8-before k h = put-before t a (digits x) (omega (arith, length-digits x)) k h
+
+  pub put8-after : (k : ℕ) → a + 8 ≤ k → getD (put t a (digits x)) k 0 ≡ getD t k 0
+  put8-after k h = put-after t a (digits x) (omega (arith, length-digits x)) k (omega (arith, length-digits x))
+
+  pub be8-after : (b : ℕ) → a + 8 ≤ b → be8 (put t a (digits x)) b ≡ be8 t b
+  be8-after b h = be8-same _ _ b b (λ k l. put8-after (b + k) (omega arith))
+
+pub be8-before : (t : List ℕ) (a : ℕ) (vs : List ℕ) (b : ℕ) → a + length vs ≤ length t → b + 8 ≤ a → be8 (put t a vs) b ≡ be8 t b
+be8-before t a vs b h g = be8-same (put t a vs) t b b (λ k l. put-before t a vs h (b + k) (omega arith))
+
+-- two rows with the same bytes
+pub record SameRow (t : List ℕ) (a : ℕ) (u : List ℕ) (b : ℕ) : Type 0 where
+  pub entry : entryOf t a ≡ entryOf u b
+  pub key : be8 t (a + 16) ≡ be8 u (b + 16)
+  pub value : be8 t (a + 24) ≡ be8 u (b + 24)
+
+module _ (t u : List ℕ) (a b : ℕ) (ht : a + 352 ≤ length t) (hu : b + 352 ≤ length u) (h : (k : ℕ) → k < 352 → getD t (a + k) 0 ≡ getD u (b + k) 0) where
+  off : (o n : ℕ) → o + n ≤ 352 → (k : ℕ) → k < n → getD t (a + o + k) 0 ≡ getD u (b + o + k) 0
+  off o n l k q =
+      let e : a + o + k ≡ a + (o + k) = omega arith in
+      let f : b + o + k ≡ b + (o + k) = omega arith in
+      cc (h (o + k) (omega arith))
+
+  n₁ : be8 t (a + 16) ≡ be8 u (b + 16)
+  n₁ = be8-same t u (a + 16) (b + 16) (off 16 8 (omega arith))
+
+  n₂ : be8 t (a + 24) ≡ be8 u (b + 24)
+  n₂ = be8-same t u (a + 24) (b + 24) (off 24 8 (omega arith))
+
+  entry-same : entryOf t a ≡ entryOf u b
+  unfolding entryOf
+  entry-same =
+      let m₁ : ℕ = min (be8 t (a + 16)) 64 in
+      let m₂ : ℕ = min (be8 t (a + 24)) 256 in
+      let k₁ : m₁ ≤ 64 = omega arith in
+      let k₂ : m₂ ≤ 256 = omega arith in
+      cc (
+        n₁,
+        n₂,
+        be8-same t u a b (λ k l. h k (omega arith)),
+        be8-same t u (a + 8) (b + 8) (off 8 8 (omega arith)),
+        part-ext t u (a + 32) (b + 32) m₁ (omega arith) (omega arith) (off 32 m₁ (omega arith)),
+        part-ext t u (a + 96) (b + 96) m₂ (omega arith) (omega arith) (off 96 m₂ (omega arith)),
+      )
+
+  pub row-same : SameRow t a u b
+  row-same = record { entry = entry-same; key = n₁; value = n₂ }
+
+-- the state of memory of the right length, and of another
+pub state-is : (t : List ℕ) (st : State) → length t ≡ size → entriesOf t ≡ st .entries → be8 t 8 ≡ st .last → stateOf t ≡ st
+unfolding stateOf
+state-is t st h e f = rw (eq-eqb (length t) size h, e, f)
+
+module _ (t : List ℕ) (h : length t ≡ size) where
+  sized : stateOf t ≡ record { entries = entriesOf t; last = be8 t 8 }
+  sized = state-is t _ h refl refl
+
+  pub entries-are : stateOf t .entries ≡ entriesOf t
+  entries-are = ap (λ (st : State). st .entries) sized
+
+  pub last-is : stateOf t .last ≡ be8 t 8
+  last-is = ap (λ (st : State). st .last) sized
+
+  pub length-entries : length (stateOf t .entries) ≡ countOf t
+  unfolding entriesOf
+  length-entries = ap length entries-are ∙ length-upto _ _
+
+  pub entry-is : (i : ℕ) → i < countOf t → entryAt t i ≡ entryOf t (rowAt i)
+  unfolding entryAt entriesOf
+  entry-is i l =
+      ap (λ (es : List Entry). getD es i (entry [] [] 0 0)) entries-are
+      ∙ getD-upto (λ (j : ℕ). entryOf t (rowAt j)) (countOf t) i (entry [] [] 0 0) l
+
+pub count-most : (t : List ℕ) → countOf t ≤ mostKeys
+unfolding countOf
+count-most t = omega arith

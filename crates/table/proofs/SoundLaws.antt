@@ -1,0 +1,152 @@
+-- What the check of a table finds, row by row, is that the memory is sound. Assumes nothing.
+use mathlib.Core.Path.{_≡_, sym, ap, _∙_, subst}
+use mathlib.Core.List.{List, []}
+use mathlib.Core.Logic.{⊎-elim}
+use Prim.Native.Nat.{ℕ, zero, suc, _+_, _≤_, _<_, min}
+use native.Mathlib.Omega.{arith}
+use borrow.Author.Count.{below-more}
+use lib.ListN.{length}
+use Rattle.wire.specs.Codec.{Bytes}
+use Rattle.wire.proofs.Laws.{is-bytes}
+use Rattle.map.specs.State.{Entry}
+use Rattle.map.specs.Step.{mostKeys, lastVersion}
+use Rattle.map.specs.Table.{Each, Pairs, Sizes, OtherKey, OtherVersion, Issued, Ascending}
+use Rattle.table.specs.Bytes.{be8}
+use Rattle.table.specs.Memory.{size, rowAt, entry, entryOf, countOf, stateOf, Sound}
+use Rattle.table.specs.Found.{entryAt}
+use Rattle.table.specs.Check.{Within, AllWithin, Rising, Differ}
+use Rattle.table.proofs.Lists.{lt-or-ge}
+use Rattle.table.proofs.Order.{each-at, each-all, pairs-at, pairs-all}
+use Rattle.table.proofs.Parts.{length-part, bytes-part}
+use Rattle.table.proofs.Keys.{same-other, other-differ}
+use Rattle.table.proofs.RowLaws.{entry-is, length-entries, last-is, count-most}
+
+-- a version more, above those passed
+pub rising-more : (t : List ℕ) (i low v : ℕ) → Rising t i low → v ≡ be8 t (rowAt i) → low < v → Rising t (i + 1) v
+rising-more t i low v r e l =
+    record {
+      first = below-more (λ (j : ℕ). 1 ≤ be8 t (rowAt j)) i (r .first) (omega arith);
+      rise = λ j h.
+          ⊎-elim
+          (λ q. r .rise j q)
+          (λ q. let f : be8 t (rowAt (j + 1)) ≡ v = ap (λ (n : ℕ). be8 t (rowAt n)) (omega arith) ∙ sym e in omega (arith, r .most j (omega arith)))
+          (lt-or-ge (j + 1) i);
+      most = below-more (λ (j : ℕ). be8 t (rowAt j) ≤ v) i (λ j h. omega (arith, r .most j h)) (omega arith);
+    }
+
+-- versions rise between any two rows
+pub climbs : (t : List ℕ) (n top : ℕ) → Rising t n top → (i j : ℕ) → i < j → j < n → be8 t (rowAt i) < be8 t (rowAt j)
+climbs t n top r i zero l h = absurd (omega arith)
+climbs t n top r i (suc j) l h =
+    let s : be8 t (rowAt j) < be8 t (rowAt (j + 1)) = r .rise j (omega arith) in
+    let e : be8 t (rowAt (j + 1)) ≡ be8 t (rowAt (suc j)) = ap (λ (n : ℕ). be8 t (rowAt n)) (omega arith) in
+    ⊎-elim
+    (λ q. omega (arith, climbs t n top r i j q (omega arith)))
+    (λ q. let f : be8 t (rowAt i) ≡ be8 t (rowAt j) = ap (λ (n : ℕ). be8 t (rowAt n)) (omega arith) in omega arith)
+    (lt-or-ge i j)
+
+-- the fields of a row that is held
+module _ (t : List ℕ) (h : length t ≡ size) (i : ℕ) (l : i < countOf t) where
+  pub key-is : entryAt t i .key ≡ entryOf t (rowAt i) .key
+  key-is = ap (λ (e : Entry). e .key) (entry-is t h i l)
+
+  pub version-is : entryAt t i .version ≡ be8 t (rowAt i)
+  unfolding entryOf entry
+  version-is = ap (λ (e : Entry). e .version) (entry-is t h i l)
+
+  pub deadline-is : entryAt t i .deadline ≡ be8 t (rowAt i + 8)
+  unfolding entryOf entry
+  deadline-is = ap (λ (e : Entry). e .deadline) (entry-is t h i l)
+
+  pub sizes-are : Bytes t → Within t (rowAt i) → Sizes (entryAt t i)
+  unfolding entryOf entry
+  sizes-are b w =
+      let k : ℕ = min (be8 t (rowAt i + 16)) 64 in
+      let v : ℕ = min (be8 t (rowAt i + 24)) 256 in
+      let m : countOf t ≤ 128 = count-most t in
+      subst Sizes (sym (entry-is t h i l))
+      (record {
+        key = omega (arith, length-part t (rowAt i + 32) k (omega arith));
+        value = omega (arith, length-part t (rowAt i + 96) v (omega arith));
+        keyBytes = is-bytes _ (bytes-part t (rowAt i + 32) k b);
+        valueBytes = is-bytes _ (bytes-part t (rowAt i + 96) v b);
+        deadline = w .deadline;
+      })
+
+-- memory that passes the check is sound
+module _ (t : List ℕ) (h : length t ≡ size) (counted : be8 t 0 ≤ mostKeys) (last : be8 t 8 ≤ lastVersion) (all : AllWithin t)
+    (r : Rising t (countOf t) (be8 t 8)) (d : Differ t) (b : Bytes t) where
+  abbrev es : List Entry
+  es = stateOf t .entries
+
+  in-count : {i : ℕ} → i < length es → i < countOf t
+  in-count l = omega (arith, length-entries t h)
+
+  by-each : (p : Entry → Type 0) → ((i : ℕ) → i < countOf t → p (entryAt t i)) → Each p es
+  unfolding entryAt
+  by-each p f = each-all p es (entry [] [] 0 0) (λ i l. f i (in-count l))
+
+  by-pairs : (p : Entry → Entry → Type 0) → ((i j : ℕ) → i < j → j < countOf t → p (entryAt t i) (entryAt t j)) → Pairs p es
+  unfolding entryAt
+  by-pairs p f = pairs-all p es (entry [] [] 0 0) (λ i j l m. f i j l (in-count m))
+
+  order : Ascending es
+  order =
+      by-pairs (λ e f. e .version < f .version)
+      (λ i j l m. omega (arith, version-is t h i (omega arith), version-is t h j m, climbs t _ _ r i j l m))
+
+  pub checked : Sound t
+  checked =
+      record {
+        form = record { long = h; counted = counted; lengths = λ i l. (all i l .key, all i l .value); order = order };
+        table = record {
+          few = omega (arith, length-entries t h, count-most t);
+          keys = by-pairs OtherKey
+              (λ i j l m. same-other _ _ (λ e. d i (omega arith) j m (omega arith) (sym (key-is t h j m) ∙ e ∙ key-is t h i (omega arith))));
+          sizes = by-each Sizes (λ i l. sizes-are t h i l b (all i l));
+          versions = by-pairs OtherVersion
+              (λ i j l m e. omega (arith, version-is t h i (omega arith), version-is t h j m, climbs t _ _ r i j l m));
+          issued = by-each (Issued (stateOf t .last))
+              (λ i l. let v = version-is t h i l in (omega (arith, r .first i l), omega (arith, r .most i l, last-is t h)));
+          last = omega (arith, last-is t h);
+        };
+      }
+
+-- sound memory passes it
+module _ (t : List ℕ) (s : Sound t) where
+  in-entries : {i : ℕ} → i < countOf t → i < length (stateOf t .entries)
+  in-entries l = omega (arith, length-entries t (s .form .long))
+
+  one : (p : Entry → Type 0) → Each p (stateOf t .entries) → (i : ℕ) → i < countOf t → p (entryAt t i)
+  unfolding entryAt
+  one p f i l = each-at p (stateOf t .entries) (entry [] [] 0 0) i f (in-entries l)
+
+  two : (p : Entry → Entry → Type 0) → Pairs p (stateOf t .entries) → (i j : ℕ) → i < j → j < countOf t → p (entryAt t i) (entryAt t j)
+  unfolding entryAt
+  two p f i j l m = pairs-at p (stateOf t .entries) (entry [] [] 0 0) i j f l (in-entries m)
+
+  pub sound-within : AllWithin t
+  sound-within i l =
+      record {
+        key = s .form .lengths i l .0;
+        value = s .form .lengths i l .1;
+        deadline = omega (arith, deadline-is t (s .form .long) i l, one Sizes (s .table .sizes) i l .deadline);
+      }
+
+  pub sound-rising : Rising t (countOf t) (be8 t 8)
+  sound-rising =
+      let h = s .form .long in
+      record {
+        first = λ i l. omega (arith, version-is t h i l, one (Issued (stateOf t .last)) (s .table .issued) i l .0);
+        rise = λ i l.
+            omega (arith, version-is t h i (omega arith), version-is t h (i + 1) l, two (λ e f. e .version < f .version) (s .form .order) i (i + 1) (omega arith) l);
+        most = λ i l. omega (arith, version-is t h i l, last-is t h, one (Issued (stateOf t .last)) (s .table .issued) i l .1);
+      }
+
+  pub sound-differ : Differ t
+  sound-differ i l j m g e =
+      let h = s .form .long in
+      other-differ _ _ (two OtherKey (s .table .keys) i j (omega arith) m) (key-is t h j m ∙ e ∙ sym (key-is t h i l))
+
+  pub sound-last : be8 t 8 ≤ lastVersion
+  sound-last = omega (arith, last-is t (s .form .long), s .table .last)

@@ -1,0 +1,68 @@
+-- `table::check::all_within` meets its contract. The loop's invariant: the rows passed are within. Assumes nothing.
+use mathlib.Core.Path.{_≡_, sym, subst}
+use Prim.Native.Nat.{ℕ, _-_, _<_}
+use native.Mathlib.Omega.{arith}
+use borrow.Author.Count.{below-more}
+use borrow.Author.Tests.{not-true, not-false}
+use Rattle.table.specs.Memory.{rowAt, countOf}
+use Rattle.table.proofs.Lists.{says-yes, says-no, refuted}
+use Rattle.table.specs.Check.{Within}
+use borrow.Author.Needs.{needs}
+use Rattle.table.proofs.check.all_within.Statement.{statement}
+use Rattle.table.proofs.check.all_within.Tie as tie
+
+abbrev Inv-loop : tie.InvT-loop
+Inv-loop t n i₀ i = (j : ℕ) → j < i → Within t (rowAt j)
+
+abbrev μ-loop : tie.MeasureT-loop
+μ-loop t n i₀ i = n - i
+
+count-requires : tie.Need-count-requires Inv-loop μ-loop
+count-requires c κs = search needs
+
+loop-holds : tie.Need-loop-holds Inv-loop μ-loop
+loop-holds c = λ j l. absurd (omega arith)
+
+row-at-requires : tie.Need-row-at-requires Inv-loop μ-loop
+row-at-requires c κs = search needs
+
+within-requires : tie.Need-within-requires Inv-loop μ-loop
+within-requires c κs = search needs
+
+returns : tie.Need-returns Inv-loop μ-loop
+returns c = let l = c .before .before .before .before in
+    let t = l .before .before .before .args .t .now in
+    let n : l .before .count .result ≡ countOf t = l .before .count .ensures .0 in
+    says-no (λ p. refuted (c .before .within .ensures) (not-true _ (c .if1 .taken)) (subst (Within t) (sym (c .before .before .row-at .ensures)) (p (l .loop .i) (omega arith))))
+
+add-i : tie.Need-add-i Inv-loop μ-loop
+add-i c = search needs
+
+loop-less : tie.Need-loop-less Inv-loop μ-loop
+loop-less c = search needs
+
+loop-again : tie.Need-loop-again Inv-loop μ-loop
+loop-again c = let l = c .before .before .before .before in
+    let t = l .before .before .before .args .t .now in
+    below-more (λ (j : ℕ). Within t (rowAt j)) (l .loop .i) (l .loop .inv)
+    (subst (Within t) (c .before .before .row-at .ensures) (c .before .within .ensures .0 (not-false _ (c .if1 .left))))
+
+returns-2 : tie.Need-returns-2 Inv-loop μ-loop
+returns-2 c = let n : c .before .before .count .result ≡ countOf (c .before .before .before .before .args .t .now) = c .before .before .count .ensures .0 in
+    says-yes (λ j l. c .before .loop .inv j (omega arith))
+
+pub all-within-spec : {M : Type 1} → statement M
+all-within-spec =
+    tie.close
+    (tie.spec
+    Inv-loop
+    μ-loop
+    count-requires
+    loop-holds
+    row-at-requires
+    within-requires
+    returns
+    add-i
+    loop-less
+    loop-again
+    returns-2)

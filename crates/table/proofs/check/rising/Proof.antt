@@ -1,0 +1,85 @@
+-- `table::check::rising` meets its contract. The loop's invariant: the versions passed rise, and `low` is the least number that they are at most. Assumes nothing.
+use mathlib.Core.Path.{_≡_, ap, _∙_, subst}
+use Prim.Native.Nat.{ℕ, _-_, _≤_, _<_}
+use native.Mathlib.Omega.{arith}
+use Rattle.table.specs.Bytes.{be8}
+use Rattle.table.specs.Memory.{rowAt, countOf}
+use Rattle.table.specs.Check.{Rising}
+use Rattle.table.proofs.Lists.{says-yes, says-no}
+use Rattle.table.proofs.SoundLaws.{rising-more, climbs}
+use borrow.Author.Needs.{needs}
+use Rattle.table.proofs.check.rising.Statement.{statement}
+use Rattle.table.proofs.check.rising.Tie as tie
+
+abbrev Inv-loop : tie.InvT-loop
+Inv-loop t n low₀ i₀ low i = (i ≤ n) × Rising t i low × ((x : ℕ) → ((j : ℕ) → j < i → be8 t (rowAt j) ≤ x) → low ≤ x)
+
+abbrev μ-loop : tie.MeasureT-loop
+μ-loop t n low₀ i₀ low i = n - i
+
+count-requires : tie.Need-count-requires Inv-loop μ-loop
+count-requires c κs = search needs
+
+loop-holds : tie.Need-loop-holds Inv-loop μ-loop
+loop-holds c = (omega arith, record { first = λ j l. absurd (omega arith); rise = λ j l. absurd (omega arith); most = λ j l. absurd (omega arith) }, λ x h. omega arith)
+
+row-at-requires : tie.Need-row-at-requires Inv-loop μ-loop
+row-at-requires c κs = search needs
+
+get64-requires : tie.Need-get64-requires Inv-loop μ-loop
+get64-requires c κs = search needs
+
+returns : tie.Need-returns Inv-loop μ-loop
+returns c = let l = c .before .before .before .before in
+    let t = l .before .before .before .args .t .now in
+    let n : l .before .count .result ≡ countOf t = l .before .count .ensures .0 in
+    let i = l .loop .i in
+    let v : c .before .get64 .result ≡ be8 t (rowAt i) = c .before .get64 .ensures ∙ ap (be8 t) (c .before .before .row-at .ensures) in
+    says-no (λ p. omega (arith, p .first i (omega arith), l .loop .inv .2 (be8 t (rowAt i) - 1) (λ j h. omega (arith, climbs t _ _ p j i h (omega arith)))))
+
+add-i : tie.Need-add-i Inv-loop μ-loop
+add-i c = search needs
+
+loop-less : tie.Need-loop-less Inv-loop μ-loop
+loop-less c = search needs
+
+loop-again : tie.Need-loop-again Inv-loop μ-loop
+loop-again c = let l = c .before .before .before .before in
+    let t = l .before .before .before .args .t .now in
+    let i = l .loop .i in
+    let v : c .before .get64 .result ≡ be8 t (rowAt i) = c .before .get64 .ensures ∙ ap (be8 t) (c .before .before .row-at .ensures) in
+    (omega arith, rising-more t i _ _ (l .loop .inv .1) v (omega arith), λ x h. omega (arith, h i (omega arith)))
+
+get64-requires-2 : tie.Need-get64-requires-2 Inv-loop μ-loop
+get64-requires-2 c κs = search needs
+
+returns-2 : tie.Need-returns-2 Inv-loop μ-loop
+returns-2 c = let l = c .before .before .before in
+    let t = l .before .before .before .args .t .now in
+    let n : l .loop .i ≡ countOf t = omega (arith, l .before .count .ensures .0) in
+    says-no (λ p. omega (arith, l .loop .inv .2 (be8 t 8) (λ j h. p .most j (omega arith))))
+
+returns-3 : tie.Need-returns-3 Inv-loop μ-loop
+returns-3 c = let l = c .before .before .before in
+    let t = l .before .before .before .args .t .now in
+    let n : l .loop .i ≡ countOf t = omega (arith, l .before .count .ensures .0) in
+    let r : Rising t (countOf t) (l .loop .low) = subst (λ (k : ℕ). Rising t k (l .loop .low)) n (l .loop .inv .1) in
+    says-yes (record { first = r .first; rise = r .rise; most = λ i h. omega (arith, r .most i h) })
+
+pub rising-spec : {M : Type 1} → statement M
+rising-spec =
+    tie.close
+    (tie.spec
+    Inv-loop
+    μ-loop
+    count-requires
+    loop-holds
+    row-at-requires
+    get64-requires
+    returns
+    add-i
+    loop-less
+    loop-again
+    get64-requires-2
+    returns-2
+    returns-3)

@@ -1,0 +1,63 @@
+-- `table::is_table` meets its contract: each test is one of the facts that make the memory sound. Assumes nothing.
+use native.Mathlib.Omega.{arith}
+use borrow.Author.Tests.{not-true, not-false}
+use Rattle.table.proofs.Lists.{says-no, refuted}
+use Rattle.table.proofs.SoundLaws.{checked, sound-within, sound-rising, sound-differ, sound-last}
+use borrow.Author.Needs.{needs}
+use Rattle.table.proofs.is_table.Statement.{statement}
+use Rattle.table.proofs.is_table.Tie as tie
+
+returns : tie.Need-returns
+returns c = says-no (λ s. c .if1 .taken (s .form .long))
+
+get64-requires : tie.Need-get64-requires
+get64-requires c κs = search needs
+
+returns-2 : tie.Need-returns-2
+returns-2 c = says-no (λ s. omega (arith, s .form .counted))
+
+get64-requires-2 : tie.Need-get64-requires-2
+get64-requires-2 c κs = search needs
+
+returns-3 : tie.Need-returns-3
+returns-3 c = says-no (λ s. omega (arith, sound-last (c .before .before .before .before .before .before .args .t .now) s))
+
+all-within-requires : tie.Need-all-within-requires
+all-within-requires c κs = search needs
+
+returns-4 : tie.Need-returns-4
+returns-4 c = says-no (λ s. refuted (c .before .all-within .ensures) (not-true _ (c .if4 .taken)) (sound-within (c .before .before .before .before .before .before .before .before .args .t .now) s))
+
+rising-requires : tie.Need-rising-requires
+rising-requires c κs = search needs
+
+returns-5 : tie.Need-returns-5
+returns-5 c = says-no (λ s. refuted (c .before .rising .ensures) (not-true _ (c .if5 .taken)) (sound-rising (c .before .before .before .before .before .before .before .before .before .before .args .t .now) s))
+
+differ-requires : tie.Need-differ-requires
+differ-requires c κs = search needs
+
+returns-6 : tie.Need-returns-6
+returns-6 c = let t = c .before .before .before .before .before .before .before .before .before .before .before .args .t .now in (
+  λ e. checked t (c .before .before .before .before .before .before .before .before .before .if1 .left) (omega arith) (omega arith)
+      (c .before .before .before .before .all-within .ensures .0 (not-false _ (c .before .before .before .if4 .left)))
+      (c .before .before .rising .ensures .0 (not-false _ (c .before .if5 .left)))
+      (c .differ .ensures .0 e) (λ i. omega (arith, c .before .before .before .before .before .before .before .before .before .before .shared-slice-known .given i)),
+  λ s. c .differ .ensures .1 (sound-differ t s),
+)
+
+pub is-table-spec : {M : Type 1} → statement M
+is-table-spec =
+    tie.close
+    (tie.spec
+    returns
+    get64-requires
+    returns-2
+    get64-requires-2
+    returns-3
+    all-within-requires
+    returns-4
+    rising-requires
+    returns-5
+    differ-requires
+    returns-6)

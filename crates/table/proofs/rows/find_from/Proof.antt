@@ -1,0 +1,69 @@
+-- `table::rows::find_from` meets its contract. The loop's invariant: no row passed has the key. Assumes nothing.
+use mathlib.Core.Path.{_≡_, sym, _∙_}
+use mathlib.Core.Bool.{true}
+use Prim.Native.Nat.{ℕ, _-_, _≤_, _<_}
+use native.Mathlib.Omega.{arith}
+use borrow.Author.Count.{below-more}
+use Rattle.wire.proofs.Laws.{never}
+use Rattle.table.specs.Memory.{countOf}
+use Rattle.table.specs.Check.{Has}
+use borrow.Author.Needs.{needs}
+use Rattle.table.proofs.rows.find_from.Statement.{statement}
+use Rattle.table.proofs.rows.find_from.Tie as tie
+
+abbrev Inv-loop : tie.InvT-loop
+Inv-loop t k from n i₀ i = (from ≤ i) × ((j : ℕ) → j < i → from ≤ j → Has t k j → ⊥)
+
+abbrev μ-loop : tie.MeasureT-loop
+μ-loop t k from n i₀ i = n - i
+
+count-requires : tie.Need-count-requires Inv-loop μ-loop
+count-requires c κs = search needs
+
+loop-holds : tie.Need-loop-holds Inv-loop μ-loop
+loop-holds c = (omega arith, λ j l h. absurd (omega arith))
+
+key-requires : tie.Need-key-requires Inv-loop μ-loop
+key-requires c κs = search needs
+
+same-key-requires : tie.Need-same-key-requires Inv-loop μ-loop
+same-key-requires c κs = search needs
+
+returns : tie.Need-returns Inv-loop μ-loop
+returns c = let l = c .before .before .before .before in
+    let n : l .before .count .result ≡ countOf (l .before .before .before .before .args .t .now) = l .before .count .ensures .0 in
+    (l .loop .inv .0, omega arith, sym (c .before .before .key .ensures) ∙ c .before .same-key .ensures .0 (c .if1 .taken), l .loop .inv .1)
+
+add-i : tie.Need-add-i Inv-loop μ-loop
+add-i c = search needs
+
+loop-less : tie.Need-loop-less Inv-loop μ-loop
+loop-less c = search needs
+
+loop-again : tie.Need-loop-again Inv-loop μ-loop
+loop-again c = let l = c .before .before .before .before in
+    let a = l .before .before .before .before .args in (
+      omega arith,
+      below-more (λ (j : ℕ). a .from ≤ j → Has (a .t .now) (a .k .now) j → ⊥) (l .loop .i) (l .loop .inv .1)
+          (λ h q. let y : c .before .same-key .result .equal ≡ true = c .before .same-key .ensures .1 (c .before .before .key .ensures ∙ q) in never (cc)),
+    )
+
+returns-2 : tie.Need-returns-2 Inv-loop μ-loop
+returns-2 c = let n : c .before .before .count .result ≡ countOf (c .before .before .before .before .before .args .t .now) = c .before .before .count .ensures .0 in
+    λ j l h. c .before .loop .inv .1 j (omega arith) h
+
+pub find-from-spec : {M : Type 1} → statement M
+find-from-spec =
+    tie.close
+    (tie.spec
+    Inv-loop
+    μ-loop
+    count-requires
+    loop-holds
+    key-requires
+    same-key-requires
+    returns
+    add-i
+    loop-less
+    loop-again
+    returns-2)

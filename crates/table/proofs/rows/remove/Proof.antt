@@ -1,0 +1,65 @@
+-- `table::rows::remove` meets its contract. Assumes nothing.
+use mathlib.Core.Path.{_≡_, sym, subst}
+use Prim.Native.Nat.{ℕ, _+_, _-_}
+use mathlib.Core.List.{List}
+use native.Mathlib.Omega.{arith}
+use Rattle.table.specs.Memory.{rowAt, countOf, stateOf}
+use Rattle.table.specs.Change.{Changed}
+use Rattle.table.specs.Write.{shrunk}
+use Rattle.table.specs.Bytes.{part}
+use lib.ListN.{length}
+use Rattle.table.proofs.Parts.{length-part}
+use Rattle.table.proofs.Writes.{lessened, patched}
+use borrow.Author.Needs.{needs}
+use Rattle.table.proofs.rows.remove.Statement.{statement}
+use Rattle.table.proofs.rows.remove.Tie as tie
+
+count-requires : tie.Need-count-requires
+count-requires c κs = search needs
+
+row-at-requires : tie.Need-row-at-requires
+row-at-requires c κs = search needs
+
+sub-row-at : tie.Need-sub-row-at
+sub-row-at c = search needs
+
+row-at-requires-2 : tie.Need-row-at-requires-2
+row-at-requires-2 c κs = search needs
+
+shift-down-requires : tie.Need-shift-down-requires
+shift-down-requires c κs = search needs
+
+sub-put64 : tie.Need-sub-put64
+sub-put64 c = search needs
+
+put64-requires : tie.Need-put64-requires
+put64-requires c κs = search needs
+
+same-length : tie.Need-same-length
+same-length c = search needs
+
+returns : tie.Need-returns
+returns c = let s = c .before .before .before .before .before .before .before .before .before .before .before .before .before in
+    let t = s .args .t .now in
+    let i = s .args .i in
+    let n = c .before .before .before .before .before .before .before .before .before .before .count .result in
+    let e : n ≡ countOf t = c .before .before .before .before .before .before .before .before .before .before .count .ensures .0 in
+    let m : ℕ = rowAt (n - 1) - rowAt i in
+    let l : length (part t (rowAt i + 352) m) ≡ m = length-part t (rowAt i + 352) m (omega arith) in
+    subst (λ (u : List ℕ). Changed t u (shrunk i (stateOf t)))
+    (sym (cc))
+    (lessened t _ i n e (omega arith) (omega arith) (patched t (rowAt i) (part t (rowAt i + 352) m) (n - 1) (s .pre .0) (omega arith) (omega arith) (omega arith)))
+
+pub remove-spec : {M : Type 1} → statement M
+remove-spec =
+    tie.close
+    (tie.spec
+    count-requires
+    row-at-requires
+    sub-row-at
+    row-at-requires-2
+    shift-down-requires
+    sub-put64
+    put64-requires
+    same-length
+    returns)

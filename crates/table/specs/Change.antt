@@ -1,0 +1,47 @@
+-- What the table's writers leave. The bytes of the form are the program's choice; what every choice has in common is said here.
+use mathlib.Core.Path.{_≡_}
+use mathlib.Core.List.{List, [], _∷_, _++_}
+use mathlib.Core.Bool.{Bool, true, false, cond, _&&_}
+use mathlib.Core.Option.{Option, none, some}
+use Prim.Native.Nat.{ℕ, suc}
+use lib.ListN.{length, take, drop}
+use lib.Dec.{eqb, leb, ltb}
+use Rattle.message.specs.Request.{keyLimit, valueLimit}
+use Rattle.map.specs.State.{Entry, State, withEntries, fresh}
+use Rattle.map.specs.Step.{mostKeys, lastVersion}
+use Rattle.table.specs.Memory.{size, entry, stateOf, Form, Sound}
+
+-- memory that is changed keeps its length, and its form if it was sound, and stands for the state; memory that is not changed keeps its bytes
+pub record Changed (old new : List ℕ) (st : State) : Type 0 where
+  pub long : length new ≡ length old
+  pub state : stateOf new ≡ st
+  pub form : Sound old → Form new
+
+abbrev pub Left : List ℕ → Option State → List ℕ → Type 0
+Left old none new = new ≡ old
+Left old (some st) new = Changed old new st
+
+abbrev pub isSome : Option State → Bool
+isSome none = false
+isSome (some st) = true
+
+-- memory of the right length made a fresh table
+unfoldable pub made : List ℕ → Option State
+made t = cond (eqb (length t) size) (some fresh) none
+
+-- an entry more, of the next version, where there is room for it
+unfoldable pub added : List ℕ → List ℕ → ℕ → List ℕ → Option State
+added k v d t =
+    let st = stateOf t in
+    cond (eqb (length t) size && (leb (length k) keyLimit && (leb (length v) valueLimit && (ltb (length (st .entries)) mostKeys && ltb (st .last) lastVersion))))
+    (some (record { entries = st .entries ++ (entry k v (suc (st .last)) d ∷ []); last = suc (st .last) })) none
+
+-- row i less
+unfoldable pub removed : ℕ → List ℕ → Option State
+removed i t =
+    let st = stateOf t in
+    cond (ltb i (length (st .entries))) (some (withEntries (take i (st .entries) ++ drop (suc i) (st .entries)) st)) none
+
+-- all rows less
+unfoldable pub cleared : List ℕ → Option State
+cleared t = cond (eqb (length t) size) (some (withEntries [] (stateOf t))) none

@@ -1,0 +1,23 @@
+-- What the table's readers answer.
+use mathlib.Core.Path.{_≡_}
+use mathlib.Core.List.{List, []}
+use mathlib.Core.Bool.{Bool, true}
+use Prim.Native.Nat.{ℕ, _<_}
+use lib.ListN.{length, getD}
+use Rattle.map.specs.State.{Entry, State}
+use Rattle.table.specs.Memory.{entry, stateOf}
+use Rattle.table.specs.declared.Found.{Found}
+use Rattle.table.specs.declared.Found.the-variants.{At, Absent}
+
+-- the entry of a row; of a row that is not held, an empty one
+unfoldable pub entryAt : List ℕ → ℕ → Entry
+entryAt t i = getD (stateOf t .entries) i (entry [] [] 0 0)
+
+-- the first row that has the key, or that none has it
+abbrev pub FoundIs : List ℕ → List ℕ → Found → Type 0
+FoundIs t k (At i) = (i < length (stateOf t .entries)) × (entryAt t i .key ≡ k) × ((j : ℕ) → j < i → entryAt t j .key ≡ k → ⊥)
+FoundIs t k Absent = (j : ℕ) → j < length (stateOf t .entries) → entryAt t j .key ≡ k → ⊥
+
+-- r says whether P holds
+abbrev pub Tells : Bool → Type 0 → Type 0
+Tells r P = (r ≡ true → P) × (P → r ≡ true)

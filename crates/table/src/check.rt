@@ -1,0 +1,85 @@
+// The parts of the check whether memory that has the length of a table is one.
+use crate::Found;
+use crate::Row;
+use crate::Table;
+use crate::number;
+use crate::rows;
+ghost use mathlib.Core.Path.{_≡_};
+ghost use Prim.Native.Nat.{_+_, _≤_};
+ghost use lib.ListN.{length};
+ghost use Rattle.table.specs.Bytes.{be8};
+ghost use Rattle.table.specs.Memory.{size, countOf};
+ghost use Rattle.table.specs.Found.{Tells};
+ghost use Rattle.table.specs.Check.{Within, AllWithin, Rising, Differ};
+
+// Whether the lengths and the deadline of the row at a are within their limits.
+fn within(t: &[u8], a: usize) -> bool
+    requires { ⌜ a + 352 ≤ length (now t) ⌝ }
+    ensures { λ r. ⌜ Tells r (Within (now (t .entry)) a) ⌝ }
+{
+    if number::get64(t, a + Row::KEY_LENGTH) > Row::KEY as u64 {
+        return false;
+    }
+    if number::get64(t, a + Row::VALUE_LENGTH) > Row::VALUE as u64 {
+        return false;
+    }
+    if number::get64(t, a + Row::DEADLINE_START) > Row::LAST_DEADLINE {
+        return false;
+    }
+    true
+}
+
+// Whether those of every row are.
+pub(crate) fn all_within(t: &[u8]) -> bool
+    requires { ⌜ length (now t) ≡ size ⌝ }
+    ensures { λ r. ⌜ Tells r (AllWithin (now (t .entry))) ⌝ }
+{
+    let n = rows::count(t);
+    let mut i = 0;
+    while i < n {
+        if !within(t, rows::row_at(i)) {
+            return false;
+        }
+        i += 1;
+    }
+    true
+}
+
+// Whether the versions are 1 at least, rise, and are at most the last version issued.
+pub(crate) fn rising(t: &[u8]) -> bool
+    requires { ⌜ length (now t) ≡ size ⌝ }
+    ensures { λ r. ⌜ Tells r (Rising (now (t .entry)) (countOf (now (t .entry))) (be8 (now (t .entry)) 8)) ⌝ }
+{
+    let n = rows::count(t);
+    let mut low: u64 = 0;
+    let mut i = 0;
+    while i < n {
+        let v = number::get64(t, rows::row_at(i));
+        if v <= low {
+            return false;
+        }
+        low = v;
+        i += 1;
+    }
+    if low > number::get64(t, Table::LAST) {
+        return false;
+    }
+    true
+}
+
+// Whether no two rows have the same key.
+pub(crate) fn differ(t: &[u8]) -> bool
+    requires { ⌜ length (now t) ≡ size ⌝ }
+    ensures { λ r. ⌜ Tells r (Differ (now (t .entry))) ⌝ }
+{
+    let n = rows::count(t);
+    let mut i = 0;
+    while i < n {
+        let found = rows::find_from(t, rows::key(t, i), i + 1);
+        let Found::Absent = found else {
+            return false;
+        };
+        i += 1;
+    }
+    true
+}

@@ -1,0 +1,231 @@
+// The table in memory that the caller lends. Every function takes memory of any length and any bytes.
+mod check;
+mod number;
+mod rows;
+
+use field::EntryVersion;
+use field::Second;
+ghost use mathlib.Core.Path.{_≡_};
+ghost use lib.ListN.{length};
+ghost use Rattle.table.specs.Memory.{stateOf, Sound};
+ghost use Rattle.table.specs.Found.{entryAt, FoundIs, Tells};
+ghost use Rattle.table.specs.Change.{Left, isSome, made, added, removed, cleared};
+
+// What a search for a key finds: its row, or that no row has it.
+pub enum Found {
+    At(usize),
+    Absent,
+}
+
+// What a comparison of two keys tells.
+pub struct Compared {
+    pub equal: bool,
+}
+
+// The memory of a table: the count of rows, the last version issued, and the rows.
+pub struct Table {}
+
+// A row: version, deadline, length of the key, length of the value, key and value.
+pub struct Row {}
+
+impl Table {
+    pub const SIZE: usize = 45072;
+
+    pub const KEYS: usize = 128;
+
+    pub const COUNT: usize = 0;
+
+    pub const LAST: usize = 8;
+
+    pub const HEAD: usize = 16;
+
+    pub const LAST_VERSION: u64 = 0x7fff_ffff_ffff_ffff;
+}
+
+impl Row {
+    pub const WIDTH: usize = 352;
+
+    pub const KEY: usize = 64;
+
+    pub const VALUE: usize = 256;
+
+    pub const VERSION_START: usize = 0;
+
+    pub const DEADLINE_START: usize = 8;
+
+    pub const KEY_LENGTH: usize = 16;
+
+    pub const VALUE_LENGTH: usize = 24;
+
+    pub const KEY_START: usize = 32;
+
+    pub const VALUE_START: usize = 96;
+
+    pub const LAST_DEADLINE: u64 = 8_589_934_590;
+}
+
+// Whether two keys are the same: by their lengths first, then by their bytes from the end, since keys often begin alike.
+pub fn same_key(a: &[u8], b: &[u8]) -> Compared
+    ensures { λ r. ⌜ Tells (r .equal) (now (a .entry) ≡ now (b .entry)) ⌝ }
+{
+    if a.len() != b.len() {
+        return Compared { equal: false };
+    }
+    let mut n = a.len();
+    while 0 < n {
+        n -= 1;
+        if a[n] != b[n] {
+            return Compared { equal: false };
+        }
+    }
+    Compared { equal: true }
+}
+
+// Makes the memory a fresh table.
+pub fn make(t: &mut [u8]) -> bool
+    ensures { λ r. ⌜ (r ≡ isSome (made (now (t .entry)))) × Left (now (t .entry)) (made (now (t .entry))) (now (t .exit)) ⌝ }
+{
+    if t.len() != Table::SIZE {
+        return false;
+    }
+    number::put64(t, Table::COUNT, 0);
+    number::put64(t, Table::LAST, 0);
+    true
+}
+
+// Whether the memory is a sound table.
+pub fn is_table(t: &[u8]) -> bool
+    ensures { λ r. ⌜ Tells r (Sound (now (t .entry))) ⌝ }
+{
+    if t.len() != Table::SIZE {
+        return false;
+    }
+    if number::get64(t, Table::COUNT) > Table::KEYS as u64 {
+        return false;
+    }
+    if number::get64(t, Table::LAST) > Table::LAST_VERSION {
+        return false;
+    }
+    if !check::all_within(t) {
+        return false;
+    }
+    if !check::rising(t) {
+        return false;
+    }
+    check::differ(t)
+}
+
+// How many entries are held.
+pub fn count(t: &[u8]) -> usize
+    ensures { λ r. ⌜ r ≡ length (stateOf (now (t .entry)) .entries) ⌝ }
+{
+    if t.len() != Table::SIZE {
+        return 0;
+    }
+    rows::count(t)
+}
+
+// The last version issued.
+pub fn last(t: &[u8]) -> EntryVersion
+    ensures { λ r. ⌜ r .0 ≡ stateOf (now (t .entry)) .last ⌝ }
+{
+    if t.len() != Table::SIZE {
+        return EntryVersion(0);
+    }
+    EntryVersion(number::get64(t, Table::LAST))
+}
+
+// The row that has the key.
+pub fn find(t: &[u8], key: &[u8]) -> Found
+    ensures { λ r. ⌜ FoundIs (now (t .entry)) (now (key .entry)) r ⌝ }
+{
+    if t.len() != Table::SIZE {
+        return Found::Absent;
+    }
+    rows::find_from(t, key, 0)
+}
+
+// The key of the entry of row i; that of a row that is not held is empty.
+pub fn key_at(t: &[u8], i: usize) -> &[u8]
+    ensures { λ r. ⌜ now r ≡ entryAt (now (t .entry)) i .key ⌝ }
+{
+    if i < count(t) {
+        return rows::key(t, i);
+    }
+    &t[0..0]
+}
+
+// Its value.
+pub fn value_at(t: &[u8], i: usize) -> &[u8]
+    ensures { λ r. ⌜ now r ≡ entryAt (now (t .entry)) i .value ⌝ }
+{
+    if i < count(t) {
+        return rows::value(t, i);
+    }
+    &t[0..0]
+}
+
+// Its version; that of a row that is not held is 0.
+pub fn version_at(t: &[u8], i: usize) -> EntryVersion
+    ensures { λ r. ⌜ r .0 ≡ entryAt (now (t .entry)) i .version ⌝ }
+{
+    if i < count(t) {
+        return EntryVersion(number::get64(t, rows::row_at(i)));
+    }
+    EntryVersion(0)
+}
+
+// Its deadline; that of a row that is not held is 0.
+pub fn deadline_at(t: &[u8], i: usize) -> Second
+    ensures { λ r. ⌜ r .0 ≡ entryAt (now (t .entry)) i .deadline ⌝ }
+{
+    if i < count(t) {
+        return Second(number::get64(t, rows::row_at(i) + Row::DEADLINE_START));
+    }
+    Second(0)
+}
+
+// Adds an entry behind the last, of the next version, where there is room for it and a version is left.
+pub fn add(t: &mut [u8], key: &[u8], value: &[u8], deadline: Second) -> bool
+    ensures { λ r. ⌜ (r ≡ isSome (added (now (key .entry)) (now (value .entry)) (deadline .0) (now (t .entry)))) × Left (now (t .entry)) (added (now (key .entry)) (now (value .entry)) (deadline .0) (now (t .entry))) (now (t .exit)) ⌝ }
+{
+    if t.len() != Table::SIZE {
+        return false;
+    }
+    if key.len() > Row::KEY {
+        return false;
+    }
+    if value.len() > Row::VALUE {
+        return false;
+    }
+    if rows::count(t) >= Table::KEYS {
+        return false;
+    }
+    if number::get64(t, Table::LAST) >= Table::LAST_VERSION {
+        return false;
+    }
+    rows::append(t, key, value, deadline.0);
+    true
+}
+
+// Removes row i. The rows behind it move down, so that freed room is used again.
+pub fn remove(t: &mut [u8], i: usize) -> bool
+    ensures { λ r. ⌜ (r ≡ isSome (removed i (now (t .entry)))) × Left (now (t .entry)) (removed i (now (t .entry))) (now (t .exit)) ⌝ }
+{
+    if i < count(t) {
+        rows::remove(t, i);
+        return true;
+    }
+    false
+}
+
+// Removes all rows. The last version issued stays.
+pub fn clear(t: &mut [u8]) -> bool
+    ensures { λ r. ⌜ (r ≡ isSome (cleared (now (t .entry)))) × Left (now (t .entry)) (cleared (now (t .entry))) (now (t .exit)) ⌝ }
+{
+    if t.len() != Table::SIZE {
+        return false;
+    }
+    rows::clear(t);
+    true
+}

@@ -79,7 +79,7 @@ module _ (t : List ℕ) where
 
 -- what an entry more takes
 module _ (k v : List ℕ) (d : ℕ) (t : List ℕ) where
-  abbrev room : Bool
+  abbrev pub room : Bool
   room =
       eqb (length t) size && (leb (length k) keyLimit && (leb (length v) valueLimit && (ltb (length (stateOf t .entries)) mostKeys && ltb (stateOf t .last) lastVersion)))
 

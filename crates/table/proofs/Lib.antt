@@ -8,3 +8,4 @@ pub mod Keys
 pub mod SoundLaws
 pub mod Behind
 pub mod HasForm
+pub mod Kept

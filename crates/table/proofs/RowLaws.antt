@@ -50,9 +50,6 @@ module _ (t : List ℕ) (a x : ℕ) (fits : a + 8 ≤ length t) where
       cc (put-in t a (digits x) (omega (arith, length-digits x)) k (omega (arith, length-digits x))))
       ∙ spelt x h
 
-  pub put8-before : (k : ℕ) → k < a → getD (put t a (digits x)) k 0 ≡ getD t k 0
-  put8-before k h = put-before t a (digits x) (omega (arith, length-digits x)) k h
-
   pub put8-after : (k : ℕ) → a + 8 ≤ k → getD (put t a (digits x)) k 0 ≡ getD t k 0
   put8-after k h = put-after t a (digits x) (omega (arith, length-digits x)) k (omega (arith, length-digits x))
 

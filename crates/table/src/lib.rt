@@ -29,26 +29,32 @@ pub struct Table {}
 pub struct Row {}
 
 impl Table {
+    // Its length, how many keys it holds at most, and the largest version.
     pub const SIZE: usize = 45072;
 
     pub const KEYS: usize = 128;
 
+    pub const LAST_VERSION: u64 = 0x7fff_ffff_ffff_ffff;
+
+    // Where the count, the last version issued and the rows begin.
     pub const COUNT: usize = 0;
 
     pub const LAST: usize = 8;
 
     pub const HEAD: usize = 16;
-
-    pub const LAST_VERSION: u64 = 0x7fff_ffff_ffff_ffff;
 }
 
 impl Row {
+    // Its length, the largest sizes of a key and a value, and the largest deadline.
     pub const WIDTH: usize = 352;
 
     pub const KEY: usize = 64;
 
     pub const VALUE: usize = 256;
 
+    pub const LAST_DEADLINE: u64 = 8_589_934_590;
+
+    // Where its fields begin.
     pub const VERSION_START: usize = 0;
 
     pub const DEADLINE_START: usize = 8;
@@ -60,8 +66,6 @@ impl Row {
     pub const KEY_START: usize = 32;
 
     pub const VALUE_START: usize = 96;
-
-    pub const LAST_DEADLINE: u64 = 8_589_934_590;
 }
 
 // Whether two keys are the same: by their lengths first, then by their bytes from the end, since keys often begin alike.

@@ -1,9 +1,4 @@
 -- `table::make` meets its contract. Assumes nothing.
-use mathlib.Core.Path.{sym, subst}
-use mathlib.Core.List.{List}
-use Prim.Native.Nat.{ℕ}
-use Rattle.table.specs.Change.{Changed}
-use Rattle.map.specs.State.{fresh}
 use Rattle.table.proofs.Answers.{made-yes, made-no}
 use Rattle.table.proofs.Writes.{makes}
 use borrow.Author.Needs.{needs}
@@ -23,10 +18,9 @@ same-length : tie.Need-same-length
 same-length c = search needs
 
 returns-2 : tie.Need-returns-2
-returns-2 c = let s = c .before .before .before .before .before .before .before .before .before .before in
-    let t = s .args .t .now in
+returns-2 c = let t = c .before .before .before .before .before .before .before .before .before .before .args .t .now in
     let h = c .before .before .before .before .before .before .before .before .if1 .left in
-    made-yes t _ h (subst (λ (u : List ℕ). Changed t u fresh) (sym (cc)) (makes t h))
+    made-yes t _ h (rw (c .before .before .put642 .ensures, c .before .before .before .before .before .before .put64 .ensures) (makes t h))
 
 pub make-spec : {M : Type 1} → statement M
 make-spec = tie.close (tie.spec returns put64-requires put64-requires-2 same-length returns-2)

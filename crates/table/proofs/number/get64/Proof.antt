@@ -1,3 +1,4 @@
+-- `table::number::get64` meets its contract. Assumes nothing.
 use Rattle.table.specs.Bytes.{be8}
 use borrow.Author.Needs.{needs}
 use Rattle.table.proofs.number.get64.Statement.{statement}

@@ -1,14 +1,11 @@
 -- `table::rows::append` meets its contract. Assumes nothing.
-use mathlib.Core.Path.{_≡_, sym, _∙_, subst}
+use mathlib.Core.Path.{_≡_, _∙_}
 use Prim.Native.Nat.{ℕ, _+_, _-_}
-use mathlib.Core.List.{List}
 use native.Mathlib.Omega.{arith}
 use lib.ListN.{length, drop, length-drop}
 use lib.Seq.{length-take-le}
 use Rattle.table.specs.Bytes.{be8}
-use Rattle.table.specs.Memory.{rowAt, countOf, stateOf}
-use Rattle.table.specs.Change.{Changed}
-use Rattle.table.specs.Write.{put, digits, Written, grown}
+use Rattle.table.specs.Memory.{rowAt, countOf}
 use Rattle.table.proofs.Parts.{lent-put}
 use Rattle.table.proofs.Writes.{appended, patched, patched-last}
 use borrow.Author.Needs.{needs}
@@ -63,13 +60,11 @@ returns c = let w = c .before .before .before .before .before .before .before .b
     let row = w .write .last .0 in
     let e : n ≡ countOf t = r .before .before .before .count .ensures .0 in
     let a = r .row-at .result in
-    let x : r .before .get64 .result ≡ be8 t 8 = r .before .get64 .ensures in
     let k : ℕ = a + 352 - a in
     let l : length row ≡ k = w .write .kept .0 ∙ length-take-le k (drop a t) (omega (arith, length-drop a t)) in
-    let q : c .before .before .put642 .last .0 ≡ put (put (put t (rowAt n) row) 0 (digits (n + 1))) 8 (digits (be8 t 8 + 1)) = cc (lent-put t a k row l) in
-    subst (λ (u : List ℕ). Changed t u (grown (s .args .k .now) (s .args .v .now) (s .args .deadline) (stateOf t))) (sym q)
-    (appended t _ row _ _ _ n e (omega arith) (omega arith)
-    (subst (λ (y : ℕ). Written row (s .args .k .now) (s .args .v .now) (y + 1) (s .args .deadline)) x (w .write .ensures))
+    let x : r .before .get64 .result ≡ be8 t 8 = r .before .get64 .ensures in
+    rw (c .before .before .put642 .ensures, c .before .before .before .before .before .before .put64 .ensures, lent-put t a k row l, r .row-at .ensures, x)
+    (appended t _ row _ _ _ n e (omega arith) (omega arith) (rw x at (w .write .ensures))
     (patched-last t _ (rowAt n) row (n + 1) _ (be8 t 8 + 1) (patched t (rowAt n) row (n + 1) (omega arith) (omega arith) (omega arith) (omega arith)) (omega arith)))
 
 pub append-spec : {M : Type 1} → statement M

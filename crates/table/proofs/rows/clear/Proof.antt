@@ -1,10 +1,4 @@
 -- `table::rows::clear` meets its contract. Assumes nothing.
-use mathlib.Core.Path.{sym, subst}
-use mathlib.Core.List.{List, []}
-use Prim.Native.Nat.{ℕ}
-use Rattle.map.specs.State.{withEntries}
-use Rattle.table.specs.Memory.{stateOf}
-use Rattle.table.specs.Change.{Changed}
 use Rattle.table.proofs.Writes.{clears}
 use borrow.Author.Needs.{needs}
 use Rattle.table.proofs.rows.clear.Statement.{statement}
@@ -18,8 +12,7 @@ same-length c = search needs
 
 returns : tie.Need-returns
 returns c = let s = c .before .before .before .before .before in
-    let t = s .args .t .now in
-    subst (λ (u : List ℕ). Changed t u (withEntries [] (stateOf t))) (sym (c .before .before .put64 .ensures)) (clears t (s .pre))
+    rw (c .before .before .put64 .ensures) (clears (s .args .t .now) (s .pre))
 
 pub clear-spec : {M : Type 1} → statement M
 clear-spec = tie.close (tie.spec put64-requires same-length returns)

@@ -1,3 +1,4 @@
+-- `table::rows::copy_at` meets its contract. The loop's invariant: the first i bytes are copied. Assumes nothing.
 use mathlib.Core.Path.{_≡_, refl}
 use Prim.Native.Nat.{_-_, _≤_}
 use native.Mathlib.Omega.{arith}

@@ -1,11 +1,8 @@
 -- `table::rows::remove` meets its contract. Assumes nothing.
-use mathlib.Core.Path.{_≡_, sym, subst}
+use mathlib.Core.Path.{_≡_}
 use Prim.Native.Nat.{ℕ, _+_, _-_}
-use mathlib.Core.List.{List}
 use native.Mathlib.Omega.{arith}
-use Rattle.table.specs.Memory.{rowAt, countOf, stateOf}
-use Rattle.table.specs.Change.{Changed}
-use Rattle.table.specs.Write.{shrunk}
+use Rattle.table.specs.Memory.{rowAt, countOf}
 use Rattle.table.specs.Bytes.{part}
 use lib.ListN.{length}
 use Rattle.table.proofs.Parts.{length-part}
@@ -46,8 +43,7 @@ returns c = let s = c .before .before .before .before .before .before .before .b
     let e : n ≡ countOf t = c .before .before .before .before .before .before .before .before .before .before .count .ensures .0 in
     let m : ℕ = rowAt (n - 1) - rowAt i in
     let l : length (part t (rowAt i + 352) m) ≡ m = length-part t (rowAt i + 352) m (omega arith) in
-    subst (λ (u : List ℕ). Changed t u (shrunk i (stateOf t)))
-    (sym (cc))
+    rw (c .before .before .put64 .ensures, c .before .before .before .before .before .before .shift-down .ensures, c .before .before .before .before .before .before .before .before .row-at2 .ensures, c .before .before .before .before .before .before .before .before .before .row-at .ensures)
     (lessened t _ i n e (omega arith) (omega arith) (patched t (rowAt i) (part t (rowAt i + 352) m) (n - 1) (s .pre .0) (omega arith) (omega arith) (omega arith)))
 
 pub remove-spec : {M : Type 1} → statement M

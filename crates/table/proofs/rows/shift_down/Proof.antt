@@ -1,3 +1,4 @@
+-- `table::rows::shift_down` meets its contract. The loop's invariant: the bytes up to j are moved. Assumes nothing.
 use mathlib.Core.Path.{_≡_, refl}
 use Prim.Native.Nat.{_+_, _-_, _≤_}
 use native.Mathlib.Omega.{arith}

@@ -1,8 +1,4 @@
 -- `table::rows::write` meets its contract. Assumes nothing.
-use mathlib.Core.Path.{sym, subst}
-use Prim.Native.Nat.{ℕ}
-use mathlib.Core.List.{List}
-use Rattle.table.specs.Write.{Written}
 use Rattle.table.proofs.Writes.{written}
 use borrow.Author.Needs.{needs}
 use Rattle.table.proofs.rows.write.Statement.{statement}
@@ -31,11 +27,8 @@ same-length c = search needs
 
 returns : tie.Need-returns
 returns c = let s = c .before .before .before .before .before .before .before .before .before .before .before .before .before .before .before .before .before .before .before .before .before .before .before .before .before .before .before in
-    let k = s .args .k .now in
-    let v = s .args .v .now in
-    subst (λ (r : List ℕ). Written r k v (s .args .version) (s .args .deadline))
-    (sym (cc))
-    (written (s .args .row .now) k v (s .args .version) (s .args .deadline) (s .pre .0) (s .pre .1 .0) (s .pre .1 .1) (s .fits .version .fits) (s .fits .deadline .fits))
+    rw (c .before .before .copy-at2 .ensures, c .before .before .before .before .before .before .copy-at .ensures, c .before .before .before .before .before .before .before .before .before .before .put644 .ensures, c .before .before .before .before .before .before .before .before .before .before .before .before .before .before .put643 .ensures, c .before .before .before .before .before .before .before .before .before .before .before .before .before .before .before .before .before .before .put642 .ensures, c .before .before .before .before .before .before .before .before .before .before .before .before .before .before .before .before .before .before .before .before .before .before .put64 .ensures)
+    (written (s .args .row .now) _ _ (s .args .version) (s .args .deadline) (s .pre .0) (s .pre .1 .0) (s .pre .1 .1) (s .fits .version .fits) (s .fits .deadline .fits))
 
 pub write-spec : {M : Type 1} → statement M
 write-spec =

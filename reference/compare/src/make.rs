@@ -1,0 +1,319 @@
+//! Well-formed things by chance: numbers, texts, requests, replies, tables.
+
+use reference::fields::{KEY_LIMIT, NAME_LIMIT, TEXT_LIMIT, VALUE_LIMIT};
+use reference::map::{LARGEST_DEADLINE, LARGEST_VERSION, MOST_KEYS};
+use reference::number::LARGEST_VLONG;
+use reference::operation::{
+    body, may_answer, sends_entry_version, sends_key, sends_value, Body, ERROR, SERVED,
+};
+use reference::{Entry, Reply, Request, Table};
+
+use crate::chance::Chance;
+use crate::subject::Asked;
+
+/// A length from 0 to the limit, often at an edge.
+pub fn length(chance: &mut Chance, limit: usize) -> usize {
+    match chance.below(9) {
+        0 => 0,
+        1 => limit.min(1),
+        2 => limit,
+        3 => limit.saturating_sub(1),
+        4 => limit.min(127),
+        5 => limit.min(128),
+        6 | 7 => chance.up_to(limit.min(8)),
+        _ => chance.up_to(limit),
+    }
+}
+
+/// A number of at most so many bits, often at the edge of a byte of the wire.
+fn edge_number(chance: &mut Chance, bits: u32) -> u64 {
+    let edge = 1u64 << (7 * chance.below(bits as usize / 7 + 1));
+    let greatest = u64::MAX >> (64 - bits);
+    let number = match chance.below(6) {
+        0 => edge,
+        1 => edge - 1,
+        2 => greatest,
+        3 => chance.below(4) as u64,
+        _ => chance.number() >> chance.below(64),
+    };
+    number & greatest
+}
+
+/// A vInt.
+pub fn int(chance: &mut Chance) -> u32 {
+    edge_number(chance, 32) as u32
+}
+
+/// A vLong.
+pub fn long(chance: &mut Chance) -> u64 {
+    edge_number(chance, 63)
+}
+
+/// Any eight bytes, as a number.
+pub fn eight(chance: &mut Chance) -> u64 {
+    match chance.below(6) {
+        0 => 0,
+        1 => u64::MAX,
+        2 => LARGEST_VERSION,
+        3 => LARGEST_VERSION + 1,
+        4 => chance.below(300) as u64,
+        _ => chance.number(),
+    }
+}
+
+pub fn second(chance: &mut Chance) -> u32 {
+    match chance.below(4) {
+        0 => 0,
+        1 => u32::MAX,
+        _ => chance.number() as u32,
+    }
+}
+
+/// Characters at the edges of the ranges of first and second bytes.
+const EDGES: [char; 20] = [
+    '\0', 'a', '\u{7f}', '\u{80}', '\u{bf}', '\u{c0}', '\u{7ff}', '\u{800}', '\u{fff}', '\u{1000}',
+    '\u{cfff}', '\u{d000}', '\u{d7ff}', '\u{e000}', '\u{ffff}', '\u{10000}', '\u{3ffff}',
+    '\u{40000}', '\u{fffff}', '\u{10ffff}',
+];
+
+/// UTF-8 of just this length.
+pub fn text(chance: &mut Chance, length: usize) -> Vec<u8> {
+    let mut text = Vec::new();
+    let mut room = [0; 4];
+    while text.len() < length {
+        let sequence = chance.pick(&EDGES).encode_utf8(&mut room);
+        if text.len() + sequence.len() <= length {
+            text.extend_from_slice(sequence.as_bytes());
+        }
+    }
+    text
+}
+
+pub fn operation(chance: &mut Chance) -> u8 {
+    chance.pick(&SERVED)
+}
+
+/// A request of this operation that sends no name, with edge numbers.
+pub fn request_of(chance: &mut Chance, operation: u8) -> Request {
+    let version = 10 + chance.below(3) as u8;
+    let greatest_flags = if version == 12 { 7 } else { 1 };
+    let mut request = Request {
+        id: long(chance),
+        version,
+        operation,
+        flags: chance.up_to(greatest_flags) as u32,
+        intelligence: 1 + chance.below(3) as u8,
+        topology: int(chance),
+        ..Request::default()
+    };
+    if sends_value(operation) {
+        request.lifespan = int(chance);
+        request.max_idle = int(chance);
+    }
+    request
+}
+
+/// Any well-formed request.
+pub fn request(chance: &mut Chance) -> Request {
+    let operation = operation(chance);
+    let mut request = request_of(chance, operation);
+    if chance.one_in(2) {
+        let length = length(chance, NAME_LIMIT);
+        request.name = text(chance, length);
+    }
+    if sends_key(operation) {
+        let length = length(chance, KEY_LIMIT);
+        request.key = chance.bytes(length);
+    }
+    if sends_value(operation) {
+        let length = length(chance, VALUE_LIMIT);
+        request.value = chance.bytes(length);
+    }
+    if sends_entry_version(operation) {
+        request.entry_version = eight(chance);
+    }
+    request
+}
+
+fn error_reply(chance: &mut Chance) -> Reply {
+    let length = length(chance, TEXT_LIMIT);
+    Reply {
+        id: long(chance),
+        operation: ERROR,
+        status: 0x81 + chance.below(6) as u8,
+        text: text(chance, length),
+        ..Reply::default()
+    }
+}
+
+fn status(chance: &mut Chance, op: u8) -> u8 {
+    let statuses: Vec<u8> = (0..=2).filter(|status| may_answer(op, *status)).collect();
+    chance.pick(&statuses)
+}
+
+/// Any well-formed reply, and what it answers.
+pub fn reply(chance: &mut Chance) -> (Asked, Reply) {
+    let op = operation(chance);
+    let flag = chance.one_in(2);
+    let asked = Asked { op, flag };
+    if chance.one_in(5) {
+        return (asked, error_reply(chance));
+    }
+    let status = status(chance, op);
+    let mut reply = Reply {
+        id: long(chance),
+        operation: op + 1,
+        status,
+        ..Reply::default()
+    };
+    let body = body(op, flag, status);
+    if body == Body::Value || body == Body::VersionAndValue {
+        let length = length(chance, VALUE_LIMIT);
+        reply.value = chance.bytes(length);
+    }
+    if body == Body::VersionAndValue {
+        reply.version = eight(chance);
+    }
+    (asked, reply)
+}
+
+/// Different keys: a few of edge lengths; many of one length with a common
+/// beginning; many short ones; beginnings of one another.
+pub fn keys(chance: &mut Chance) -> Vec<Vec<u8>> {
+    let mut keys: Vec<Vec<u8>> = match chance.below(4) {
+        0 => few_keys(chance),
+        1 => common_keys(chance),
+        2 => (0..MOST_KEYS + 20).map(|at| vec![at as u8, 7]).collect(),
+        _ => {
+            let whole = chance.bytes(KEY_LIMIT);
+            (0..=KEY_LIMIT).map(|at| whole[..at].to_vec()).collect()
+        }
+    };
+    keys.sort();
+    keys.dedup();
+    keys
+}
+
+fn few_keys(chance: &mut Chance) -> Vec<Vec<u8>> {
+    let count = 1 + chance.below(6);
+    let mut keys = Vec::new();
+    for _ in 0..count {
+        let length = length(chance, KEY_LIMIT);
+        keys.push(chance.bytes(length));
+    }
+    keys
+}
+
+/// More keys than a table holds, of 32 bytes of which 24 are the same.
+fn common_keys(chance: &mut Chance) -> Vec<Vec<u8>> {
+    let front = chance.bytes(24);
+    let key = |at: usize| {
+        let mut key = front.clone();
+        key.extend_from_slice(&(at as u64).to_be_bytes());
+        key
+    };
+    (0..MOST_KEYS + 12).map(key).collect()
+}
+
+pub fn deadline(chance: &mut Chance) -> u64 {
+    match chance.below(4) {
+        0 => 0,
+        1 => LARGEST_DEADLINE,
+        2 => LARGEST_DEADLINE - 1,
+        _ => chance.number() % (LARGEST_DEADLINE + 1),
+    }
+}
+
+/// A last version: small, near the largest, or the largest.
+fn last_version(chance: &mut Chance, count: usize) -> u64 {
+    match chance.below(5) {
+        0 => LARGEST_VERSION,
+        1 => LARGEST_VERSION - chance.below(40) as u64,
+        2 => count as u64,
+        _ => (count + chance.below(1000)) as u64,
+    }
+}
+
+/// A sound table with some of these keys, at times with none, at times with
+/// as many as may be.
+pub fn table(chance: &mut Chance, keys: &[Vec<u8>]) -> Table {
+    let most = keys.len().min(MOST_KEYS);
+    let count = match chance.below(4) {
+        0 => chance.up_to(most),
+        1 => chance.up_to(most.min(3)),
+        2 => most.saturating_sub(1),
+        _ => most,
+    };
+    let mut keys = keys.to_vec();
+    chance.shuffle(&mut keys);
+    table_of(chance, &keys[..count])
+}
+
+/// A sound table with just these different keys.
+pub fn table_of(chance: &mut Chance, keys: &[Vec<u8>]) -> Table {
+    let mut table = Table {
+        last: last_version(chance, keys.len()),
+        ..Table::default()
+    };
+    let mut greatest = table.last;
+    for (left, key) in keys.iter().enumerate().rev() {
+        let spare = (greatest - left as u64 - 1).min(2) as usize;
+        let version = greatest - chance.up_to(spare) as u64;
+        greatest = version - 1;
+        let length = length(chance, VALUE_LIMIT);
+        let entry = Entry {
+            value: chance.bytes(length),
+            version,
+            deadline: deadline(chance),
+        };
+        table.entries.insert(key.clone(), entry);
+    }
+    table
+}
+
+/// An entry version that a client might send for the key: the right one, a
+/// neighbour, or another.
+fn entry_version(chance: &mut Chance, table: &Table, key: &[u8]) -> u64 {
+    let held = table.entries.get(key).map_or(table.last, |e| e.version);
+    match chance.below(8) {
+        0 => held.wrapping_add(1),
+        1 => held.wrapping_sub(1),
+        2 => held ^ (1 << chance.below(64)),
+        3 => table.last,
+        4 => eight(chance),
+        _ => held,
+    }
+}
+
+/// A request for a server with this table: the key is one of these, rarely
+/// another; clear comes rarely; a name comes at times.
+pub fn request_for(chance: &mut Chance, table: &Table, keys: &[Vec<u8>]) -> Request {
+    let mut operation = operation(chance);
+    if operation == reference::operation::CLEAR && !chance.one_in(10) {
+        operation = reference::operation::PUT;
+    }
+    let mut request = request_of(chance, operation);
+    if chance.one_in(20) {
+        let length = 1 + chance.below(4);
+        request.name = text(chance, length);
+    }
+    if sends_key(operation) {
+        request.key = key_for(chance, keys);
+    }
+    if sends_value(operation) {
+        let length = length(chance, VALUE_LIMIT);
+        request.value = chance.bytes(length);
+    }
+    if sends_entry_version(operation) {
+        request.entry_version = entry_version(chance, table, &request.key);
+    }
+    request
+}
+
+fn key_for(chance: &mut Chance, keys: &[Vec<u8>]) -> Vec<u8> {
+    if chance.one_in(40) {
+        let length = length(chance, KEY_LIMIT);
+        return chance.bytes(length);
+    }
+    chance.pick(keys)
+}

@@ -1,0 +1,204 @@
+//! The table in 45,072 bytes: a head of count and last version, then 128 rows
+//! that ascend by version. Numbers are eight bytes, highest first.
+
+use std::fmt::Write;
+
+use reference::fields::{KEY_LIMIT, VALUE_LIMIT};
+use reference::hex::to_string;
+use reference::map::MOST_KEYS;
+use reference::{Entry, Table};
+
+pub const SIZE: usize = 45_072;
+pub const HEAD: usize = 16;
+pub const ROW: usize = 352;
+
+/// Places in the head.
+pub const COUNT: usize = 0;
+pub const LAST: usize = 8;
+
+/// Places in a row.
+pub const VERSION: usize = 0;
+pub const DEADLINE: usize = 8;
+pub const KEY_LENGTH: usize = 16;
+pub const VALUE_LENGTH: usize = 24;
+pub const KEY: usize = 32;
+pub const VALUE: usize = 96;
+
+/// One row, as it is read.
+#[derive(Clone, Copy, PartialEq, Eq)]
+pub struct Row<'a> {
+    pub version: u64,
+    pub deadline: u64,
+    pub key: &'a [u8],
+    pub value: &'a [u8],
+}
+
+pub fn number(memory: &[u8], at: usize) -> u64 {
+    let mut eight = [0; 8];
+    eight.copy_from_slice(&memory[at..at + 8]);
+    u64::from_be_bytes(eight)
+}
+
+pub fn put_number(memory: &mut [u8], at: usize, number: u64) {
+    memory[at..at + 8].copy_from_slice(&number.to_be_bytes());
+}
+
+pub fn row_at(row: usize) -> usize {
+    HEAD + ROW * row
+}
+
+/// The part of at most `limit` bytes, or nothing if its length is above.
+fn part(memory: &[u8], start: usize, length: u64, limit: usize) -> Option<&[u8]> {
+    if length > limit as u64 {
+        return None;
+    }
+    Some(&memory[start..start + length as usize])
+}
+
+fn row(memory: &[u8], row: usize) -> Option<Row<'_>> {
+    let at = row_at(row);
+    let key_length = number(memory, at + KEY_LENGTH);
+    let value_length = number(memory, at + VALUE_LENGTH);
+    Some(Row {
+        version: number(memory, at + VERSION),
+        deadline: number(memory, at + DEADLINE),
+        key: part(memory, at + KEY, key_length, KEY_LIMIT)?,
+        value: part(memory, at + VALUE, value_length, VALUE_LIMIT)?,
+    })
+}
+
+/// The rows held, or nothing if the memory's length, the count or a length is
+/// not within its limit.
+pub fn rows(memory: &[u8]) -> Option<Vec<Row<'_>>> {
+    if memory.len() != SIZE || number(memory, COUNT) > MOST_KEYS as u64 {
+        return None;
+    }
+    let count = number(memory, COUNT) as usize;
+    (0..count).map(|at| row(memory, at)).collect()
+}
+
+fn ascend(rows: &[Row]) -> bool {
+    rows.windows(2).all(|pair| pair[0].version < pair[1].version)
+}
+
+/// The state that the memory stands for, or nothing if it has not the form:
+/// `rows` finds none, the rows do not ascend, or a key is there twice.
+pub fn decode(memory: &[u8]) -> Option<Table> {
+    let rows = rows(memory)?;
+    if !ascend(&rows) {
+        return None;
+    }
+    let mut table = Table {
+        last: number(memory, LAST),
+        ..Table::default()
+    };
+    for row in rows {
+        let entry = Entry {
+            value: row.value.to_vec(),
+            version: row.version,
+            deadline: row.deadline,
+        };
+        if table.entries.insert(row.key.to_vec(), entry).is_some() {
+            return None;
+        }
+    }
+    Some(table)
+}
+
+/// Whether the memory is a sound table.
+pub fn is_table(memory: &[u8]) -> bool {
+    decode(memory).is_some_and(|table| reference::is_table(&table))
+}
+
+/// Writes the table to the memory. Behind the last row, and behind each key
+/// and value, the bytes are kept.
+pub fn encode(table: &Table, memory: &mut [u8]) {
+    let mut entries: Vec<(&Vec<u8>, &Entry)> = table.entries.iter().collect();
+    entries.sort_by_key(|(_, entry)| entry.version);
+    put_number(memory, COUNT, entries.len() as u64);
+    put_number(memory, LAST, table.last);
+    for (row, (key, entry)) in entries.into_iter().enumerate() {
+        put_row(memory, row, key, entry);
+    }
+}
+
+pub fn put_row(memory: &mut [u8], row: usize, key: &[u8], entry: &Entry) {
+    let at = row_at(row);
+    put_number(memory, at + VERSION, entry.version);
+    put_number(memory, at + DEADLINE, entry.deadline);
+    put_number(memory, at + KEY_LENGTH, key.len() as u64);
+    put_number(memory, at + VALUE_LENGTH, entry.value.len() as u64);
+    memory[at + KEY..at + KEY + key.len()].copy_from_slice(key);
+    memory[at + VALUE..at + VALUE + entry.value.len()].copy_from_slice(&entry.value);
+}
+
+fn is_entry(row: &Row, table: &Table) -> bool {
+    let Some(entry) = table.entries.get(row.key) else {
+        return false;
+    };
+    entry.version == row.version && entry.deadline == row.deadline && entry.value == row.value
+}
+
+/// Whether the memory stands for just this table. Rows that ascend are
+/// different entries, so it is enough that each is one and their number fits.
+pub fn holds(memory: &[u8], table: &Table) -> bool {
+    let Some(rows) = rows(memory) else {
+        return false;
+    };
+    ascend(&rows)
+        && rows.len() == table.entries.len()
+        && number(memory, LAST) == table.last
+        && rows.iter().all(|row| is_entry(row, table))
+}
+
+/// The memory in digits: the head, then a line a row up to the last one held.
+pub fn shown(memory: &[u8]) -> String {
+    if memory.len() != SIZE {
+        return format!("{} bytes: {}", memory.len(), to_string(memory));
+    }
+    let mut text = to_string(&memory[..HEAD]);
+    let count = number(memory, COUNT).min(MOST_KEYS as u64) as usize;
+    for at in 0..count {
+        let row = &memory[row_at(at)..row_at(at + 1)];
+        let _ = write!(text, "\n    row {at}: {}", to_string(row));
+    }
+    text
+}
+
+#[cfg(test)]
+mod tests {
+    use super::*;
+    use crate::chance::Chance;
+    use crate::make;
+
+    #[test]
+    fn what_is_encoded_is_decoded_and_held() {
+        let mut chance = Chance::new(5);
+        for _ in 0..200 {
+            let keys = make::keys(&mut chance);
+            let table = make::table(&mut chance, &keys);
+            let mut memory = chance.bytes(SIZE);
+            encode(&table, &mut memory);
+            assert_eq!(decode(&memory), Some(table.clone()));
+            assert!(is_table(&memory) && holds(&memory, &table));
+        }
+    }
+
+    #[test]
+    fn another_state_is_not_held() {
+        let mut chance = Chance::new(6);
+        let keys: Vec<Vec<u8>> = (0..9).map(|at| vec![at; 3]).collect();
+        let table = make::table_of(&mut chance, &keys);
+        let mut memory = vec![0; SIZE];
+        encode(&table, &mut memory);
+        for (key, entry) in &table.entries {
+            let mut other = table.clone();
+            other.entries.remove(key);
+            assert!(!holds(&memory, &other));
+            let mut entry = entry.clone();
+            entry.deadline += 1;
+            other.entries.insert(key.clone(), entry);
+            assert!(!holds(&memory, &other));
+        }
+    }
+}

@@ -1,0 +1,130 @@
+//! The functions that are compared, over byte slices, and their return codes.
+
+use reference::{Read, Verdict};
+
+/// A message read or written is this code plus its length; served is this
+/// code alone. More needed is 0, a refusal its number.
+pub const GOOD: u64 = 0x100;
+
+/// The words of an answer.
+pub const REQUEST_WORDS: usize = 16;
+pub const REPLY_WORDS: usize = 9;
+pub const SERVE_WORDS: usize = 2;
+pub const STREAM_WORDS: usize = 3;
+pub const LINES_WORDS: usize = 3;
+
+/// The numbers a writer is given.
+pub const REQUEST_NUMBERS: usize = 9;
+pub const REPLY_NUMBERS: usize = 4;
+
+/// What is sent beside the numbers: of a request name, key and value, of a
+/// reply value and text.
+#[derive(Clone, Copy)]
+pub struct RequestParts<'a> {
+    pub name: &'a [u8],
+    pub key: &'a [u8],
+    pub value: &'a [u8],
+}
+
+#[derive(Clone, Copy)]
+pub struct ReplyParts<'a> {
+    pub value: &'a [u8],
+    pub text: &'a [u8],
+}
+
+/// What a reply is an answer to: the request's operation, and whether it
+/// asked for the old value.
+#[derive(Clone, Copy, Debug)]
+pub struct Asked {
+    pub op: u8,
+    pub flag: bool,
+}
+
+/// Messages, serving and the table.
+pub trait Subject {
+    fn read_request(&mut self, input: &[u8], answer: &mut [u64]) -> u64;
+
+    fn write_request(&mut self, out: &mut [u8], numbers: &[u64], parts: RequestParts) -> u64;
+
+    fn read_reply(&mut self, input: &[u8], asked: Asked, answer: &mut [u64]) -> u64;
+
+    fn write_reply(
+        &mut self,
+        out: &mut [u8],
+        asked: Asked,
+        numbers: &[u64],
+        parts: ReplyParts,
+    ) -> u64;
+
+    fn serve(
+        &mut self,
+        input: &[u8],
+        table: &mut [u8],
+        second: u32,
+        reply: &mut [u8],
+        answer: &mut [u64],
+    ) -> u64;
+
+    fn serve_stream(
+        &mut self,
+        input: &[u8],
+        table: &mut [u8],
+        second: u32,
+        reply: &mut [u8],
+        answer: &mut [u64],
+    ) -> u64;
+
+    fn is_table(&mut self, table: &[u8]) -> bool;
+
+    fn make(&mut self, table: &mut [u8]) -> bool;
+}
+
+/// What a piece of a request file is: whether the rest of a line is to be
+/// passed over first, and whether nothing comes behind the piece.
+#[derive(Clone, Copy, Debug)]
+pub struct Piece {
+    pub passing: bool,
+    pub last: bool,
+}
+
+/// Request files.
+pub trait ServesLines: Subject {
+    fn serve_lines(
+        &mut self,
+        input: &[u8],
+        table: &mut [u8],
+        out: &mut [u8],
+        piece: Piece,
+        answer: &mut [u64],
+    ) -> u64;
+}
+
+/// Stored tables.
+pub trait Stores: Subject {
+    fn store(&mut self, table: &[u8], out: &mut [u8]) -> u64;
+
+    fn load(&mut self, file: &[u8], spare: &mut [u8], table: &mut [u8]) -> bool;
+}
+
+pub fn read_code<T>(read: &Read<T>) -> u64 {
+    match read {
+        Read::Whole(_, taken) => GOOD + *taken as u64,
+        Read::More => 0,
+        Read::Refused(number) => u64::from(*number),
+    }
+}
+
+pub fn write_code(written: Result<usize, u8>) -> u64 {
+    match written {
+        Ok(length) => GOOD + length as u64,
+        Err(number) => u64::from(number),
+    }
+}
+
+pub fn verdict_code(verdict: Verdict) -> u64 {
+    match verdict {
+        Verdict::Served => GOOD,
+        Verdict::More => 0,
+        Verdict::Refused(number) => u64::from(number),
+    }
+}

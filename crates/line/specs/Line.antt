@@ -1,0 +1,78 @@
+-- A line of a file of requests, and the line that it gives (document 01, 'Files').
+use mathlib.Core.List.{List, [], _∷_, _++_}
+use mathlib.Core.Bool.{Bool, true, false, cond, _&&_}
+use mathlib.Core.Option.{Option, none, some}
+use Prim.Native.Nat.{ℕ}
+use lib.ListN.{length, take, drop, getD}
+use lib.Dec.{eqb, leb}
+use Rattle.wire.specs.Codec as wire
+use Rattle.wire.specs.Codec.{Read}
+use Rattle.hex.specs.Hex.{toHex, fromHex}
+use Rattle.hex.specs.Number.{second}
+use Rattle.message.specs.Request.{Request, request}
+use Rattle.message.specs.Reply.{errorReply}
+use Rattle.message.specs.Refusal.{refusal}
+use Rattle.request.specs.Answer.{idIn}
+use Rattle.map.specs.State.{State}
+use Rattle.map.specs.Step as map
+use Rattle.map.specs.Step.{Context, Outcome, answered, step}
+use Rattle.map.specs.Reply.{flat, pieces}
+
+-- "Longer than 1,024 characters, the line end not counted, is 14."
+abbrev pub longest : ℕ
+longest = 1024
+
+-- a line of the form: the second, and the bytes behind it
+pub record Asks : Type 0 where
+  pub context : Context
+  pub frame : List ℕ
+
+abbrev pub asksOf : Option ℕ → Option (List ℕ) → Option Asks
+asksOf none b = none
+asksOf (some s) none = none
+asksOf (some s) (some b) = some (record { context = record { second = s }; frame = b })
+
+-- "eight lowercase digits (the second), one space, an even number of lowercase digits"
+unfoldable pub asks : List ℕ → Option Asks
+asks s = cond (leb (length s) longest && eqb (getD s 8 0) 0x20) (asksOf (second (take 8 s)) (fromHex (drop 9 s))) none
+
+-- `refused 14` and `refused 15`
+abbrev pub refused14 : List ℕ
+refused14 = 0x72 ∷ 0x65 ∷ 0x66 ∷ 0x75 ∷ 0x73 ∷ 0x65 ∷ 0x64 ∷ 0x20 ∷ 0x31 ∷ 0x34 ∷ []
+
+abbrev pub refused15 : List ℕ
+refused15 = 0x72 ∷ 0x65 ∷ 0x66 ∷ 0x75 ∷ 0x73 ∷ 0x65 ∷ 0x64 ∷ 0x20 ∷ 0x31 ∷ 0x35 ∷ []
+
+-- the line that a line gives, without its line end, and the state after it
+pub record Given : Type 0 where
+  pub text : List ℕ
+  pub state : State
+
+abbrev pub given : List ℕ → State → Given
+given t st = record { text = t; state = st }
+
+unfoldable pub onOutcome : Request → State → Outcome → Given
+onOutcome r st (map.refused k) = given (toHex (errorReply .enc (refusal k (r .id)))) st
+onOutcome r st (answered a next) = given (toHex (flat (pieces r a))) next
+
+-- "The order is 14, 1 to 8, 15, the rest": a whole frame with bytes behind it, and one that is cut, is 15 and changes nothing
+unfoldable pub onFrame : Asks → State → Read Request → Given
+onFrame a st (wire.refused k) = given (toHex (errorReply .enc (refusal k (idIn (a .frame))))) st
+onFrame a st wire.more = given refused15 st
+onFrame a st (wire.whole r n) = cond (eqb n (length (a .frame))) (onOutcome r st (step (a .context) r st)) (given refused15 st)
+
+abbrev pub onAsked : State → Option Asks → Given
+onAsked st none = given refused14 st
+onAsked st (some a) = onFrame a st (request .dec (a .frame))
+
+-- "Each line gives one line: the reply's digits, or `refused 14` or `refused 15`."
+unfoldable pub lineStep : List ℕ → State → Given
+lineStep s st = onAsked st (asks s)
+
+-- lines one after the other: what they give, each with its line end, and the state after them
+unfoldable pub linesStep : List (List ℕ) → State → Given
+linesStep [] st = given [] st
+linesStep (l ∷ ls) st =
+    let g = lineStep l st in
+    let h = linesStep ls (g .state) in
+    given (g .text ++ (0x0a ∷ h .text)) (h .state)

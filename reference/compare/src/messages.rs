@@ -1,0 +1,185 @@
+//! Part a: messages read and written.
+//!
+//! Compared are the return code, every field, and that the input stays as it
+//! was; of writers also every byte of the buffer (see `writers`).
+
+use reference::{read_reply, read_request, Read, Reply, Request};
+
+use crate::damage::variants;
+use crate::difference::{hold, same, Difference, Outcome};
+use crate::fields::{join, of_reply, of_request, place, Field, Kind};
+use crate::lent::{Lent, Words};
+use crate::make;
+use crate::subject::{read_code, Asked, Subject, REPLY_WORDS, REQUEST_WORDS};
+use crate::trial::Trial;
+use crate::writers;
+
+pub fn round<S: Subject>(trial: &mut Trial<S>) -> Outcome {
+    for _ in 0..20 {
+        requests(trial)?;
+        replies(trial)?;
+        writers::requests(trial)?;
+        writers::replies(trial)?;
+    }
+    Ok(())
+}
+
+/// A request and its damaged forms.
+fn requests<S: Subject>(trial: &mut Trial<S>) -> Outcome {
+    let fields = of_request(&make::request(&mut trial.chance));
+    let other = join(&of_request(&make::request(&mut trial.chance)));
+    for input in variants(&mut trial.chance, &fields, &other) {
+        check_request(trial, &input)
+            .map_err(|found| found.with("call", "fq_read_request").bytes("input", &input))?;
+    }
+    Ok(())
+}
+
+/// A reply and its damaged forms, read as the answer that it is and as the
+/// answer to something else.
+fn replies<S: Subject>(trial: &mut Trial<S>) -> Outcome {
+    let (asked, reply) = make::reply(&mut trial.chance);
+    let (other_asked, other) = make::reply(&mut trial.chance);
+    let fields = of_reply(asked, &reply);
+    let other = join(&of_reply(other_asked, &other));
+    for input in variants(&mut trial.chance, &fields, &other) {
+        let asked = perhaps_other(trial, asked);
+        check_reply(trial, asked, &input).map_err(|found| {
+            found
+                .with("call", "fq_read_reply")
+                .with("operation", asked.op)
+                .with("flag", asked.flag)
+                .bytes("input", &input)
+        })?;
+    }
+    Ok(())
+}
+
+fn perhaps_other<S>(trial: &mut Trial<S>, asked: Asked) -> Asked {
+    match trial.chance.below(12) {
+        0 => Asked {
+            op: trial.chance.byte(),
+            ..asked
+        },
+        1 => Asked {
+            flag: !asked.flag,
+            ..asked
+        },
+        _ => asked,
+    }
+}
+
+fn check_request<S: Subject>(trial: &mut Trial<S>, input: &[u8]) -> Outcome {
+    let lent = Lent::of(input);
+    let expected = read_request(input);
+    let mut answer = Words::about(&mut trial.chance, REQUEST_WORDS);
+    let code = trial.subject.read_request(lent.slice(), answer.slice_mut());
+    trial.counts.message(code);
+    same("the return code", read_code(&expected), code)?;
+    lent.same("the input is changed", &Lent::of(input))?;
+    match expected {
+        Read::Whole(request, taken) => request_is(&request, taken, &answer, input),
+        _ => answer.kept_behind(0),
+    }
+}
+
+fn request_is(request: &Request, taken: usize, answer: &Words, input: &[u8]) -> Outcome {
+    if answer.slice().len() < REQUEST_WORDS {
+        return answer.kept_behind(0);
+    }
+    answer.kept_behind(REQUEST_WORDS)?;
+    let numbers = request_numbers(request, taken);
+    let names = "count, id, version, operation, flags, intelligence, topology, lifespan, \
+                 max idle, entry version";
+    numbers_are(&numbers, answer.slice(), names)?;
+    let fields = of_request(request);
+    let spans = &answer.slice()[numbers.len()..];
+    span_is(&fields, Kind::Name, &request.name, &spans[0..2], input)?;
+    span_is(&fields, Kind::Key, &request.key, &spans[2..4], input)?;
+    span_is(&fields, Kind::Value, &request.value, &spans[4..6], input)
+}
+
+/// The first words of the answer to a whole request.
+pub fn request_numbers(request: &Request, taken: usize) -> [u64; 10] {
+    [
+        taken as u64,
+        request.id,
+        u64::from(request.version),
+        u64::from(request.operation),
+        u64::from(request.flags),
+        u64::from(request.intelligence),
+        u64::from(request.topology),
+        u64::from(request.lifespan),
+        u64::from(request.max_idle),
+        request.entry_version,
+    ]
+}
+
+fn check_reply<S: Subject>(trial: &mut Trial<S>, asked: Asked, input: &[u8]) -> Outcome {
+    let lent = Lent::of(input);
+    let expected = read_reply(asked.op, asked.flag, input);
+    let mut answer = Words::about(&mut trial.chance, REPLY_WORDS);
+    let code = trial
+        .subject
+        .read_reply(lent.slice(), asked, answer.slice_mut());
+    trial.counts.message(code);
+    same("the return code", read_code(&expected), code)?;
+    lent.same("the input is changed", &Lent::of(input))?;
+    match expected {
+        Read::Whole(reply, taken) => reply_is(asked, &reply, taken, &answer, input),
+        _ => answer.kept_behind(0),
+    }
+}
+
+fn reply_is(asked: Asked, reply: &Reply, taken: usize, answer: &Words, input: &[u8]) -> Outcome {
+    if answer.slice().len() < REPLY_WORDS {
+        return answer.kept_behind(0);
+    }
+    answer.kept_behind(REPLY_WORDS)?;
+    let numbers = reply_numbers(reply, taken);
+    let names = "count, id, operation, status, entry version";
+    numbers_are(&numbers, answer.slice(), names)?;
+    let fields = of_reply(asked, reply);
+    let spans = &answer.slice()[numbers.len()..];
+    span_is(&fields, Kind::Value, &reply.value, &spans[0..2], input)?;
+    span_is(&fields, Kind::Text, &reply.text, &spans[2..4], input)
+}
+
+/// The first words of the answer to a whole reply.
+pub fn reply_numbers(reply: &Reply, taken: usize) -> [u64; 5] {
+    [
+        taken as u64,
+        reply.id,
+        u64::from(reply.operation),
+        u64::from(reply.status),
+        reply.version,
+    ]
+}
+
+/// The numbers in front of the answer; their names are split by commas.
+fn numbers_are(expected: &[u64], answer: &[u64], names: &str) -> Outcome {
+    let names = names.split(", ");
+    for ((name, expected), got) in names.zip(expected).zip(answer) {
+        same(&format!("the field {name}"), *expected, *got)?;
+    }
+    Ok(())
+}
+
+/// A span has start and length. Of an empty one only the length is told, and
+/// that it lies within the input.
+fn span_is(fields: &[Field], kind: Kind, bytes: &[u8], span: &[u64], input: &[u8]) -> Outcome {
+    let what = format!("the length of {kind:?}");
+    same(&what, bytes.len() as u64, span[1])?;
+    hold(
+        span[0] <= (input.len() - bytes.len()) as u64,
+        "a span ends behind the input",
+    )?;
+    let start = span[0] as usize;
+    if !bytes.is_empty() {
+        same(&format!("the start of {kind:?}"), place(fields, kind), start)?;
+    }
+    if &input[start..start + bytes.len()] != bytes {
+        return Err(Difference::new("the bytes of a span").bytes("expected", bytes));
+    }
+    Ok(())
+}

@@ -177,6 +177,9 @@ fn odd_part(chance: &mut Chance, limit: usize) -> Vec<u8> {
 
 /// Gives one of the numbers another size.
 fn odd_one(chance: &mut Chance, numbers: &mut [u64]) {
+    if numbers.is_empty() {
+        return;
+    }
     let at = chance.below(numbers.len());
     let old = numbers[at];
     numbers[at] = match chance.below(10) {

@@ -7,12 +7,6 @@ use borrow.Author.Needs.{needs}
 use Rattle.field.proofs.read_byte.Statement.{statement}
 use Rattle.field.proofs.read_byte.Tie as tie
 
-shared-slice-read-t8 : tie.Need-shared-slice-read-t8
-shared-slice-read-t8 c = search needs
-
-add-t9 : tie.Need-add-t9
-add-t9 c = search needs
-
 returns : tie.Need-returns
 unfolding readAt byte
 returns c = rw (drop-cons {A = ℕ} _ _ 0 (c .before .if1 .taken))
@@ -22,4 +16,4 @@ unfolding readAt byte
 returns-2 c = rw (drop-of-length-le _ (c .if1 .left))
 
 pub read-byte-spec : {M : Type 1} → statement M
-read-byte-spec = tie.close (tie.spec shared-slice-read-t8 add-t9 returns returns-2)
+read-byte-spec = tie.close (tie.spec (λ c. search needs) (λ c. search needs) returns returns-2)

@@ -10,15 +10,6 @@ use borrow.Author.Needs.{needs}
 use Rattle.field.proofs.read_limited.Statement.{statement}
 use Rattle.field.proofs.read_limited.Tie as tie
 
-read-number-requires : tie.Need-read-number-requires
-read-number-requires c κs = search needs
-
-enum-known-r : tie.Need-enum-known-r
-enum-known-r c = search needs
-
-stop-number-requires : tie.Need-stop-number-requires
-stop-number-requires c κs = search needs
-
 -- a whole length
 found : (c : tie.After-known-told) → let r = c .before in let s = r .before .before .before .before in
     readAt vInt (s .args .s .now) (s .args .c .at) ≡ whole (r .r .given .0 .0) (r .r .given .0 .1 .0 .at)
@@ -39,9 +30,6 @@ sub-if2 c = vInt-within _ _ _ _ (found (c .before))
 returns-3 : tie.Need-returns-3
 returns-3 c = rw (at-limited, found (c .before .before), le-leb _ _ (c .before .if1 .left), lt-leb _ _ (c .if2 .taken))
 
-add-t11 : tie.Need-add-t11
-add-t11 c = search needs
-
 returns-4 : tie.Need-returns-4
 returns-4 c = rw (at-limited, found (c .before .before), le-leb _ _ (c .before .if1 .left), le-leb _ _ (c .if2 .left))
 
@@ -49,12 +37,12 @@ pub read-limited-spec : {M : Type 1} → statement M
 read-limited-spec =
     tie.close
     (tie.spec
-    read-number-requires
-    enum-known-r
-    stop-number-requires
+    (λ c κs. search needs)
+    (λ c. search needs)
+    (λ c κs. search needs)
     returns
     returns-2
     sub-if2
     returns-3
-    add-t11
+    (λ c. search needs)
     returns-4)

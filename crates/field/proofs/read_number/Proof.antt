@@ -33,20 +33,8 @@ bounded VLong = lit≤ tt
 fits : (c : tie.At-loop Inv-loop μ-loop) → limit (c .before .before .before .top .result) (c .before .most .result) ≤ 0x8000_0000_0000_0000
 fits c = let m = c .before in rw (m .most .ensures, m .before .before .top .ensures) (bounded (m .before .before .before .before .args .k))
 
-top-requires : tie.Need-top-requires Inv-loop μ-loop
-top-requires c κs = search needs
-
-refusal-requires : tie.Need-refusal-requires Inv-loop μ-loop
-refusal-requires c κs = search needs
-
-most-requires : tie.Need-most-requires Inv-loop μ-loop
-most-requires c κs = search needs
-
 loop-holds : tie.Need-loop-holds Inv-loop μ-loop
 loop-holds c = start _ _ _ _ _
-
-shared-slice-read-b : tie.Need-shared-slice-read-b Inv-loop μ-loop
-shared-slice-read-b c = search needs
 
 cast-b : tie.Need-cast-b Inv-loop μ-loop
 cast-b c = omega (arith, c .shared-slice-known2 .given (c .before .before .loop .i))
@@ -64,9 +52,6 @@ add-t18 c =
 
 mul-t17 : tie.Need-mul-t17 Inv-loop μ-loop
 mul-t17 c = omega (arith, add-t18 c .fits)
-
-add-t19 : tie.Need-add-t19 Inv-loop μ-loop
-add-t19 c = omega arith
 
 returns-2 : tie.Need-returns-2 Inv-loop μ-loop
 returns-2 c =
@@ -88,9 +73,6 @@ add-t22 c =
 
 mul-t21 : tie.Need-mul-t21 Inv-loop μ-loop
 mul-t21 c = omega (arith, add-t22 c .fits)
-
-add-t23 : tie.Need-add-t23 Inv-loop μ-loop
-add-t23 c = omega arith
 
 returns-4 : tie.Need-returns-4 Inv-loop μ-loop
 returns-4 c =
@@ -116,15 +98,6 @@ add-acc c = omega (arith, loop-again c .small, mul-p c .fits)
 mul-acc : tie.Need-mul-acc Inv-loop μ-loop
 mul-acc c = omega (arith, add-acc c .fits)
 
-sub-left : tie.Need-sub-left Inv-loop μ-loop
-sub-left c = omega arith
-
-add-i : tie.Need-add-i Inv-loop μ-loop
-add-i c = omega arith
-
-loop-less : tie.Need-loop-less Inv-loop μ-loop
-loop-less c = omega arith
-
 returns-5 : tie.Need-returns-5 Inv-loop μ-loop
 returns-5 c = let l = c .before in rw (same l, l .loop .inv .rest, at-end _ _ _ _ _ _ (c .loop-test .left))
 
@@ -134,27 +107,27 @@ read-number-spec =
     (tie.spec
     Inv-loop
     μ-loop
-    top-requires
-    refusal-requires
-    most-requires
+    (λ c κs. search needs)
+    (λ c κs. search needs)
+    (λ c κs. search needs)
     loop-holds
-    shared-slice-read-b
+    (λ c. search needs)
     cast-b
     returns
     mul-t17
     add-t18
-    add-t19
+    (λ c. omega arith)
     returns-2
     returns-3
     mul-t21
     add-t22
-    add-t23
+    (λ c. omega arith)
     returns-4
     mul-acc
     add-acc
     mul-p
-    sub-left
-    add-i
-    loop-less
+    (λ c. omega arith)
+    (λ c. omega arith)
+    (λ c. omega arith)
     loop-again
     returns-5)

@@ -8,22 +8,10 @@ use borrow.Author.Needs.{needs}
 use Rattle.field.proofs.read_text.Statement.{statement}
 use Rattle.field.proofs.read_text.Tie as tie
 
-read-limited-requires : tie.Need-read-limited-requires
-read-limited-requires c κs = search needs
-
-enum-known-r : tie.Need-enum-known-r
-enum-known-r c = search needs
-
 returns : tie.Need-returns
 unfolding limitedText
 returns c = let r = c .before .read-limited in
     rw (at-guard, ← (r .ensures)) (sym (span-stops (r .result) (c .match .keys2) _ _ ∙ span-stays (r .result) (c .match .keys2) _))
-
-part-requires : tie.Need-part-requires
-part-requires c κs = search needs
-
-is-text-requires : tie.Need-is-text-requires
-is-text-requires c κs = search needs
 
 returns-2 : tie.Need-returns-2
 unfolding limitedText
@@ -43,10 +31,10 @@ pub read-text-spec : {M : Type 1} → statement M
 read-text-spec =
     tie.close
     (tie.spec
-    read-limited-requires
-    enum-known-r
+    (λ c κs. search needs)
+    (λ c. search needs)
     returns
-    part-requires
-    is-text-requires
+    (λ c κs. search needs)
+    (λ c κs. search needs)
     returns-2
     returns-3)

@@ -24,24 +24,12 @@ returns c = sym (big-more _ _ _ _ _ (c .before .before .loop .inv .0) 8 (c .if1 
 mul-v : tie.Need-mul-v Inv-loop μ-loop
 mul-v c = omega (arith, big-fits _ _ _ _ _ (c .before .before .loop .inv .0) 8 0 (c .before .loop-test .taken) (lit≤ tt))
 
-shared-slice-read-v : tie.Need-shared-slice-read-v Inv-loop μ-loop
-shared-slice-read-v c = search needs
-
 cast-v : tie.Need-cast-v Inv-loop μ-loop
 cast-v c = omega (arith, c .shared-slice-known .given (c .before .before .before .loop .j))
 
 add-v : tie.Need-add-v Inv-loop μ-loop
 add-v c = let l = c .before .before .before in
     omega (arith, big-fits _ _ _ _ _ (l .loop .inv .0) 8 (getD (l .before .args .s .now) (l .loop .j) 0) (c .before .before .loop-test .taken) (omega (arith, c .shared-slice-known .given (l .loop .j))))
-
-add-j : tie.Need-add-j Inv-loop μ-loop
-add-j c = search needs
-
-add-n : tie.Need-add-n Inv-loop μ-loop
-add-n c = search needs
-
-loop-less : tie.Need-loop-less Inv-loop μ-loop
-loop-less c = search needs
 
 loop-again : tie.Need-loop-again Inv-loop μ-loop
 loop-again c = let l = c .before .before .before in
@@ -61,11 +49,11 @@ read-version-spec =
     loop-holds
     returns
     mul-v
-    shared-slice-read-v
+    (λ c. search needs)
     cast-v
     add-v
-    add-j
-    add-n
-    loop-less
+    (λ c. search needs)
+    (λ c. search needs)
+    (λ c. search needs)
     loop-again
     returns-2)

@@ -28,9 +28,6 @@ read c = from-digits _ (digits c) (omega arith)
 returns : tie.Need-returns Inv-loop μ-loop
 returns c = decode-bad _ _ (from-odd _ (omega arith))
 
-are-digits-requires : tie.Need-are-digits-requires Inv-loop μ-loop
-are-digits-requires c κs = search needs
-
 returns-2 : tie.Need-returns-2 Inv-loop μ-loop
 returns-2 c = decode-bad _ _ (from-other _ (sym (c .before .are-digits .ensures) ∙ not-true _ (c .if2 .taken)))
 
@@ -45,12 +42,6 @@ pair-requires c κs = (c .loop-test .taken, digits (c .before .before .before))
 
 slice-write-out : tie.Need-slice-write-out Inv-loop μ-loop
 slice-write-out c = omega (arith, c .before .before .loop .inv .long)
-
-add-i : tie.Need-add-i Inv-loop μ-loop
-add-i c = search needs
-
-loop-less : tie.Need-loop-less Inv-loop μ-loop
-loop-less c = search needs
 
 loop-again : tie.Need-loop-again Inv-loop μ-loop
 loop-again c =
@@ -76,14 +67,14 @@ decode-spec =
     Inv-loop
     μ-loop
     returns
-    are-digits-requires
+    (λ c κs. search needs)
     returns-2
     returns-3
     loop-holds
     pair-requires
     slice-write-out
-    add-i
-    loop-less
+    (λ c. search needs)
+    (λ c. search needs)
     loop-again
     same-length
     returns-4)

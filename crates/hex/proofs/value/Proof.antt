@@ -5,9 +5,6 @@ use borrow.Author.Needs.{needs}
 use Rattle.hex.proofs.value.Statement.{statement}
 use Rattle.hex.proofs.value.Tie as tie
 
-is-digit-requires : tie.Need-is-digit-requires
-is-digit-requires c κs = search needs
-
 digit-value-requires : tie.Need-digit-value-requires
 digit-value-requires c κs = sym (c .before .is-digit .ensures) ∙ c .if1 .taken
 
@@ -18,4 +15,4 @@ returns-2 : tie.Need-returns-2
 returns-2 c = sym (value-other _ (sym (c .before .is-digit .ensures) ∙ c .if1 .left))
 
 pub value-spec : {M : Type 1} → statement M
-value-spec = tie.close (tie.spec is-digit-requires digit-value-requires returns returns-2)
+value-spec = tie.close (tie.spec (λ c κs. search needs) digit-value-requires returns returns-2)

@@ -5,38 +5,8 @@ use borrow.Author.Needs.{needs}
 use Rattle.request.proofs.read_args.Statement.{statement}
 use Rattle.request.proofs.read_args.Tie as tie
 
-shape-of-requires : tie.Need-shape-of-requires
-shape-of-requires c κs = search needs
-
 enum-told : tie.Need-enum-told
 enum-told c = search needs
-
-read-keyed-requires : tie.Need-read-keyed-requires
-read-keyed-requires c κs = search needs
-
-enum-told-2 : tie.Need-enum-told-2
-enum-told-2 c = search needs
-
-read-writes-requires : tie.Need-read-writes-requires
-read-writes-requires c κs = search needs
-
-enum-told-3 : tie.Need-enum-told-3
-enum-told-3 c = search needs
-
-read-writes-if-requires : tie.Need-read-writes-if-requires
-read-writes-if-requires c κs = search needs
-
-enum-told-4 : tie.Need-enum-told-4
-enum-told-4 c = search needs
-
-read-keyed-if-requires : tie.Need-read-keyed-if-requires
-read-keyed-if-requires c κs = search needs
-
-enum-told-5 : tie.Need-enum-told-5
-enum-told-5 c = search needs
-
-finish-requires : tie.Need-finish-requires
-finish-requires c κs = search needs
 
 returns : tie.Need-returns
 returns c =
@@ -67,17 +37,17 @@ pub read-args-spec : {M : Type 1} → statement M
 read-args-spec =
     tie.close
     (tie.spec
-    shape-of-requires
+    (λ c κs. search needs)
     enum-told
-    read-keyed-requires
-    enum-told-2
-    read-writes-requires
-    enum-told-3
-    read-writes-if-requires
-    enum-told-4
-    read-keyed-if-requires
-    enum-told-5
-    finish-requires
+    (λ c κs. search needs)
+    (λ c. search needs)
+    (λ c κs. search needs)
+    (λ c. search needs)
+    (λ c κs. search needs)
+    (λ c. search needs)
+    (λ c κs. search needs)
+    (λ c. search needs)
+    (λ c κs. search needs)
     returns
     returns-2
     returns-3

@@ -5,12 +5,6 @@ use borrow.Author.Needs.{needs}
 use Rattle.request.proofs.read_checked.Statement.{statement}
 use Rattle.request.proofs.read_checked.Tie as tie
 
-read-byte-requires : tie.Need-read-byte-requires
-read-byte-requires c κs = search needs
-
-enum-known-r : tie.Need-enum-known-r
-enum-known-r c = search needs
-
 enum-told : tie.Need-enum-told
 enum-told c = search needs
 
@@ -35,4 +29,4 @@ returns-4 c =
 pub read-checked-spec : {M : Type 1} → statement M
 read-checked-spec =
     tie.close
-    (tie.spec read-byte-requires enum-known-r enum-told returns returns-2 returns-3 returns-4)
+    (tie.spec (λ c κs. search needs) (λ c. search needs) enum-told returns returns-2 returns-3 returns-4)

@@ -5,12 +5,6 @@ use borrow.Author.Needs.{needs}
 use Rattle.request.proofs.read_id.Statement.{statement}
 use Rattle.request.proofs.read_id.Tie as tie
 
-read-start-requires : tie.Need-read-start-requires
-read-start-requires c κs = search needs
-
-enum-known-r : tie.Need-enum-known-r
-enum-known-r c = search needs
-
 returns : tie.Need-returns
 unfolding idIn
 returns c =
@@ -24,4 +18,4 @@ returns-2 c =
     rw (← (r .before .before .read-start .ensures), r .r .given .1)
 
 pub read-id-spec : {M : Type 1} → statement M
-read-id-spec = tie.close (tie.spec read-start-requires enum-known-r returns returns-2)
+read-id-spec = tie.close (tie.spec (λ c κs. search needs) (λ c. search needs) returns returns-2)

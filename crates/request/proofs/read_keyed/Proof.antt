@@ -6,22 +6,10 @@ use borrow.Author.Needs.{needs}
 use Rattle.request.proofs.read_keyed.Statement.{statement}
 use Rattle.request.proofs.read_keyed.Tie as tie
 
-read-limited-requires : tie.Need-read-limited-requires
-read-limited-requires c κs = search needs
-
-enum-known-r : tie.Need-enum-known-r
-enum-known-r c = search needs
-
-stop-span-requires : tie.Need-stop-span-requires
-stop-span-requires c κs = search needs
-
 returns : tie.Need-returns
 returns c =
     let r = c .before .before .read-limited in
     c .stop-span .ensures _ ∙ sym (at-keyed _ _ _ _ ∙ rw (← (r .ensures)) (span-stops (r .result) (c .before .match .keys2) _ _))
-
-finish-requires : tie.Need-finish-requires
-finish-requires c κs = search needs
 
 returns-2 : tie.Need-returns-2
 returns-2 c =
@@ -32,9 +20,9 @@ pub read-keyed-spec : {M : Type 1} → statement M
 read-keyed-spec =
     tie.close
     (tie.spec
-    read-limited-requires
-    enum-known-r
-    stop-span-requires
+    (λ c κs. search needs)
+    (λ c. search needs)
+    (λ c κs. search needs)
     returns
-    finish-requires
+    (λ c κs. search needs)
     returns-2)

@@ -7,25 +7,10 @@ use borrow.Author.Needs.{needs}
 use Rattle.request.proofs.read_request.Statement.{statement}
 use Rattle.request.proofs.read_request.Tie as tie
 
-read-start-requires : tie.Need-read-start-requires
-read-start-requires c κs = search needs
-
-enum-known-r1 : tie.Need-enum-known-r1
-enum-known-r1 c = search needs
-
-stop-number-requires : tie.Need-stop-number-requires
-stop-number-requires c κs = search needs
-
 returns : tie.Need-returns
 returns c =
     let v = c .before .before in
     c .stop-number .ensures _ ∙ sym (at-request _ ∙ rw (← (v .read-start .ensures)) (number-stops (v .read-start .result) (c .before .match .keys2) _))
-
-read-byte-requires : tie.Need-read-byte-requires
-read-byte-requires c κs = search needs
-
-enum-known-r2 : tie.Need-enum-known-r2
-enum-known-r2 c = search needs
 
 enum-told : tie.Need-enum-told
 enum-told c = search needs
@@ -36,23 +21,11 @@ returns-2 c =
     let r1 = v .before .before in
     sym (at-request _ ∙ rw (← (r1 .before .before .read-start .ensures), r1 .r1 .given .1, ← (v .read-byte .ensures), c .enum-told .given .1))
 
-is-served-requires : tie.Need-is-served-requires
-is-served-requires c κs = search needs
-
 returns-3 : tie.Need-returns-3
 returns-3 c =
     let r2 = c .before .before .before in
     let r1 = r2 .before .before .before .before in
     sym (at-request _ ∙ rw (← (r1 .before .before .read-start .ensures), r1 .r1 .given .1, ← (r2 .before .before .read-byte .ensures), r2 .r2 .given .1, sym (c .before .is-served .ensures) ∙ not-true _ (c .if1 .taken)))
-
-read-byte-requires-2 : tie.Need-read-byte-requires-2
-read-byte-requires-2 c κs = search needs
-
-enum-known-r3 : tie.Need-enum-known-r3
-enum-known-r3 c = search needs
-
-enum-told-2 : tie.Need-enum-told-2
-enum-told-2 c = search needs
 
 returns-4 : tie.Need-returns-4
 returns-4 c =
@@ -62,15 +35,6 @@ returns-4 c =
     let r1 = r2 .before .before .before .before in
     sym (at-request _ ∙ rw (← (r1 .before .before .read-start .ensures), r1 .r1 .given .1, ← (r2 .before .before .read-byte .ensures), r2 .r2 .given .1, sym (e .before .is-served .ensures) ∙ not-false _ (e .if1 .left), ← (v .read-byte2 .ensures), c .enum-told2 .given .1))
 
-find-requires : tie.Need-find-requires
-find-requires c κs = search needs
-
-enum-known-found : tie.Need-enum-known-found
-enum-known-found c = search needs
-
-enum-told-3 : tie.Need-enum-told-3
-enum-told-3 c = search needs
-
 returns-5 : tie.Need-returns-5
 returns-5 c =
     let v = c .before .before in
@@ -79,9 +43,6 @@ returns-5 c =
     let r2 = e .before .before .before in
     let r1 = r2 .before .before .before .before in
     sym (at-request _ ∙ rw (← (r1 .before .before .read-start .ensures), r1 .r1 .given .1, ← (r2 .before .before .read-byte .ensures), r2 .r2 .given .1, sym (e .before .is-served .ensures) ∙ not-false _ (e .if1 .left), ← (r3 .before .before .read-byte2 .ensures), r3 .r3 .given .1, ← (v .find .ensures), c .enum-told3 .given .1))
-
-read-options-requires : tie.Need-read-options-requires
-read-options-requires c κs = search needs
 
 returns-6 : tie.Need-returns-6
 returns-6 c =
@@ -97,23 +58,23 @@ pub read-request-spec : {M : Type 1} → statement M
 read-request-spec =
     tie.close
     (tie.spec
-    read-start-requires
-    enum-known-r1
-    stop-number-requires
+    (λ c κs. search needs)
+    (λ c. search needs)
+    (λ c κs. search needs)
     returns
-    read-byte-requires
-    enum-known-r2
+    (λ c κs. search needs)
+    (λ c. search needs)
     enum-told
     returns-2
-    is-served-requires
+    (λ c κs. search needs)
     returns-3
-    read-byte-requires-2
-    enum-known-r3
-    enum-told-2
+    (λ c κs. search needs)
+    (λ c. search needs)
+    (λ c. search needs)
     returns-4
-    find-requires
-    enum-known-found
-    enum-told-3
+    (λ c κs. search needs)
+    (λ c. search needs)
+    (λ c. search needs)
     returns-5
-    read-options-requires
+    (λ c κs. search needs)
     returns-6)

@@ -7,12 +7,6 @@ use borrow.Author.Needs.{needs}
 use Rattle.request.proofs.read_start.Statement.{statement}
 use Rattle.request.proofs.read_start.Tie as tie
 
-read-byte-requires : tie.Need-read-byte-requires
-read-byte-requires c κs = search needs
-
-enum-known-r : tie.Need-enum-known-r
-enum-known-r c = search needs
-
 enum-told : tie.Need-enum-told
 enum-told c = search needs
 
@@ -23,9 +17,6 @@ returns-2 : tie.Need-returns-2
 returns-2 c =
     let r = c .before .before in
     rw (at-start, ← (r .before .before .read-byte .ensures), r .r .given .1, ne-eqb _ _ (c .if1 .taken))
-
-read-number-requires : tie.Need-read-number-requires
-read-number-requires c κs = search needs
 
 returns-3 : tie.Need-returns-3
 unfolding vLong
@@ -38,10 +29,10 @@ pub read-start-spec : {M : Type 1} → statement M
 read-start-spec =
     tie.close
     (tie.spec
-    read-byte-requires
-    enum-known-r
+    (λ c κs. search needs)
+    (λ c. search needs)
     enum-told
     returns
     returns-2
-    read-number-requires
+    (λ c κs. search needs)
     returns-3)

@@ -6,12 +6,6 @@ use Rattle.request.proofs.stop_number.Tie as tie
 enum-told : tie.Need-enum-told
 enum-told c = search needs
 
-enum-told-2 : tie.Need-enum-told-2
-enum-told-2 c = search needs
-
-enum-known-r : tie.Need-enum-known-r
-enum-known-r c = search needs
-
 returns : tie.Need-returns
 returns c s = rw (c .enum-told .given .1)
 
@@ -23,4 +17,4 @@ returns-3 c s = rw (c .before .r .given .1)
 
 pub stop-number-spec : {M : Type 1} → statement M
 stop-number-spec =
-    tie.close (tie.spec enum-told enum-told-2 enum-known-r returns returns-2 returns-3)
+    tie.close (tie.spec enum-told (λ c. search needs) (λ c. search needs) returns returns-2 returns-3)

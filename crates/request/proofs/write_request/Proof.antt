@@ -8,9 +8,6 @@ use borrow.Author.Needs.{needs}
 use Rattle.request.proofs.write_request.Statement.{statement}
 use Rattle.request.proofs.write_request.Tie as tie
 
-keeps-rules-requires : tie.Need-keeps-rules-requires
-keeps-rules-requires c κs = search needs
-
 returns : tie.Need-returns
 returns c = send-broken request _ _ (sym (c .before .keeps-rules .ensures) ∙ not-true _ (c .if1 .taken))
 
@@ -29,9 +26,6 @@ put-request-requires c κs =
     let e = l .before in
     record { good = sym (e .before .keeps-rules .ensures) ∙ not-false _ (e .if1 .left); room = omega (arith, l .length-of .ensures, c .before .if2 .left) }
 
-same-length : tie.Need-same-length
-same-length c = search needs
-
 returns-3 : tie.Need-returns-3
 returns-3 c =
     let p = c .before .before in
@@ -44,10 +38,10 @@ pub write-request-spec : {M : Type 1} → statement M
 write-request-spec =
     tie.close
     (tie.spec
-    keeps-rules-requires
+    (λ c κs. search needs)
     returns
     length-of-requires
     returns-2
     put-request-requires
-    same-length
+    (λ c. search needs)
     returns-3)

@@ -18,31 +18,13 @@ returns-3 : tie.Need-returns-3
 returns-3 c = let s = c .before .before .before .before .before .before .args in
     added-value (s .key .now) (s .value .now) (s .deadline .0) (s .t .now) (omega arith)
 
-count-requires : tie.Need-count-requires
-count-requires c κs = search needs
-
-same-length : tie.Need-same-length
-same-length c = search needs
-
 returns-4 : tie.Need-returns-4
 returns-4 c = let s = c .before .before .before .before .before .before .before .before .before .args in
     added-full (s .key .now) (s .value .now) (s .deadline .0) (s .t .now) (omega (arith, length-entries (s .t .now) (c .before .before .before .before .before .if1 .left)))
 
-get64-requires : tie.Need-get64-requires
-get64-requires c κs = search needs
-
-same-length-2 : tie.Need-same-length-2
-same-length-2 c = search needs
-
 returns-5 : tie.Need-returns-5
 returns-5 c = let s = c .before .before .before .before .before .before .before .before .before .before .before .before .args in
     added-last (s .key .now) (s .value .now) (s .deadline .0) (s .t .now) (omega (arith, last-is (s .t .now) (c .before .before .before .before .before .before .before .before .if1 .left)))
-
-append-requires : tie.Need-append-requires
-append-requires c κs = search needs
-
-same-length-3 : tie.Need-same-length-3
-same-length-3 c = search needs
 
 returns-6 : tie.Need-returns-6
 returns-6 c = let s = c .before .before .before .before .before .before .before .before .before .before .before .before .before .before .before .before .args in
@@ -56,12 +38,12 @@ add-spec =
     returns
     returns-2
     returns-3
-    count-requires
-    same-length
+    (λ c κs. search needs)
+    (λ c. search needs)
     returns-4
-    get64-requires
-    same-length-2
+    (λ c κs. search needs)
+    (λ c. search needs)
     returns-5
-    append-requires
-    same-length-3
+    (λ c κs. search needs)
+    (λ c. search needs)
     returns-6)

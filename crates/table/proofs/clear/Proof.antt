@@ -7,14 +7,8 @@ use Rattle.table.proofs.clear.Tie as tie
 returns : tie.Need-returns
 returns c = cleared-no (c .before .before .args .t .now) (c .if1 .taken)
 
-clear-requires : tie.Need-clear-requires
-clear-requires c κs = search needs
-
-same-length : tie.Need-same-length
-same-length c = search needs
-
 returns-2 : tie.Need-returns-2
 returns-2 c = cleared-yes (c .before .before .before .before .before .before .args .t .now) _ (c .before .before .before .before .if1 .left) (c .before .before .clear .ensures)
 
 pub clear-spec : {M : Type 1} → statement M
-clear-spec = tie.close (tie.spec returns clear-requires same-length returns-2)
+clear-spec = tie.close (tie.spec returns (λ c κs. search needs) (λ c. search needs) returns-2)

@@ -9,15 +9,9 @@ use borrow.Author.Needs.{needs}
 use Rattle.table.proofs.deadline_at.Statement.{statement}
 use Rattle.table.proofs.deadline_at.Tie as tie
 
-count-requires : tie.Need-count-requires
-count-requires c κs = search needs
-
 row-at-requires : tie.Need-row-at-requires
 row-at-requires c κs = let t = c .before .before .before .args .t .now in
     omega (arith, held-row t (c .before .before .before .args .i) (omega arith) .1, count-most t)
-
-add-get64 : tie.Need-add-get64
-add-get64 c = search needs
 
 get64-requires : tie.Need-get64-requires
 get64-requires c κs = let s = c .before .before .before .before in
@@ -37,4 +31,4 @@ returns-2 c = let s = c .before .before .before in
 
 pub deadline-at-spec : {M : Type 1} → statement M
 deadline-at-spec =
-    tie.close (tie.spec count-requires row-at-requires add-get64 get64-requires returns returns-2)
+    tie.close (tie.spec (λ c κs. search needs) row-at-requires (λ c. search needs) get64-requires returns returns-2)

@@ -10,32 +10,17 @@ use Rattle.table.proofs.is_table.Tie as tie
 returns : tie.Need-returns
 returns c = says-no (λ s. c .if1 .taken (s .form .long))
 
-get64-requires : tie.Need-get64-requires
-get64-requires c κs = search needs
-
 returns-2 : tie.Need-returns-2
 returns-2 c = says-no (λ s. omega (arith, s .form .counted))
-
-get64-requires-2 : tie.Need-get64-requires-2
-get64-requires-2 c κs = search needs
 
 returns-3 : tie.Need-returns-3
 returns-3 c = says-no (λ s. omega (arith, sound-last (c .before .before .before .before .before .before .args .t .now) s))
 
-all-within-requires : tie.Need-all-within-requires
-all-within-requires c κs = search needs
-
 returns-4 : tie.Need-returns-4
 returns-4 c = says-no (λ s. refuted (c .before .all-within .ensures) (not-true _ (c .if4 .taken)) (sound-within (c .before .before .before .before .before .before .before .before .args .t .now) s))
 
-rising-requires : tie.Need-rising-requires
-rising-requires c κs = search needs
-
 returns-5 : tie.Need-returns-5
 returns-5 c = says-no (λ s. refuted (c .before .rising .ensures) (not-true _ (c .if5 .taken)) (sound-rising (c .before .before .before .before .before .before .before .before .before .before .args .t .now) s))
-
-differ-requires : tie.Need-differ-requires
-differ-requires c κs = search needs
 
 returns-6 : tie.Need-returns-6
 returns-6 c = let t = c .before .before .before .before .before .before .before .before .before .before .before .args .t .now in (
@@ -51,13 +36,13 @@ is-table-spec =
     tie.close
     (tie.spec
     returns
-    get64-requires
+    (λ c κs. search needs)
     returns-2
-    get64-requires-2
+    (λ c κs. search needs)
     returns-3
-    all-within-requires
+    (λ c κs. search needs)
     returns-4
-    rising-requires
+    (λ c κs. search needs)
     returns-5
-    differ-requires
+    (λ c κs. search needs)
     returns-6)

@@ -10,11 +10,8 @@ use Rattle.table.proofs.last.Tie as tie
 returns : tie.Need-returns
 returns c = sym (ap (λ (st : State). st .last) (other-length (c .before .before .args .t .now) (c .if1 .taken)))
 
-get64-requires : tie.Need-get64-requires
-get64-requires c κs = search needs
-
 returns-2 : tie.Need-returns-2
 returns-2 c = c .get64 .ensures ∙ sym (last-is (c .before .before .before .args .t .now) (c .before .if1 .left))
 
 pub last-spec : {M : Type 1} → statement M
-last-spec = tie.close (tie.spec returns get64-requires returns-2)
+last-spec = tie.close (tie.spec returns (λ c κs. search needs) returns-2)

@@ -5,22 +5,13 @@ use borrow.Author.Needs.{needs}
 use Rattle.table.proofs.remove.Statement.{statement}
 use Rattle.table.proofs.remove.Tie as tie
 
-count-requires : tie.Need-count-requires
-count-requires c κs = search needs
-
 remove-requires : tie.Need-remove-requires
 remove-requires c κs = let s = c .before .before .before .before .before in
     held-row (s .args .t .now) (s .args .i) (omega arith)
 
-same-length : tie.Need-same-length
-same-length c = search needs
-
 returns : tie.Need-returns
 returns c = let s = c .before .before .before .before .before .before .before .before in
     removed-yes (s .args .t .now) (s .args .i) _ (omega arith) (c .before .before .remove .ensures)
-
-same-length-2 : tie.Need-same-length-2
-same-length-2 c = search needs
 
 returns-2 : tie.Need-returns-2
 returns-2 c = let s = c .before .before .before .before in
@@ -28,4 +19,4 @@ returns-2 c = let s = c .before .before .before .before in
 
 pub remove-spec : {M : Type 1} → statement M
 remove-spec =
-    tie.close (tie.spec count-requires remove-requires same-length returns same-length-2 returns-2)
+    tie.close (tie.spec (λ c κs. search needs) remove-requires (λ c. search needs) returns (λ c. search needs) returns-2)

@@ -9,9 +9,6 @@ use borrow.Author.Needs.{needs}
 use Rattle.table.proofs.version_at.Statement.{statement}
 use Rattle.table.proofs.version_at.Tie as tie
 
-count-requires : tie.Need-count-requires
-count-requires c κs = search needs
-
 row-at-requires : tie.Need-row-at-requires
 row-at-requires c κs = let t = c .before .before .before .args .t .now in
     omega (arith, held-row t (c .before .before .before .args .i) (omega arith) .1, count-most t)
@@ -34,4 +31,4 @@ returns-2 c = let s = c .before .before .before in
 
 pub version-at-spec : {M : Type 1} → statement M
 version-at-spec =
-    tie.close (tie.spec count-requires row-at-requires get64-requires returns returns-2)
+    tie.close (tie.spec (λ c κs. search needs) row-at-requires get64-requires returns returns-2)

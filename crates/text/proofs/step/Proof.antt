@@ -5,18 +5,12 @@ use borrow.Author.Needs.{needs}
 use Rattle.text.proofs.step.Statement.{statement}
 use Rattle.text.proofs.step.Tie as tie
 
-enum-known-w : tie.Need-enum-known-w
-enum-known-w c = search needs
-
 enum-told : tie.Need-enum-told
 enum-told c = search needs
 
 returns : tie.Need-returns
 unfolding stepOf
 returns c = rw (c .enum-told .given .1)
-
-lead-requires : tie.Need-lead-requires
-lead-requires c κs = search needs
 
 returns-2 : tie.Need-returns-2
 unfolding stepOf
@@ -31,9 +25,6 @@ unfolding stepOf
 returns-4 c =
     rw (c .before .before .before .before .w .given .1, ne-eqb _ _ (c .before .before .if1 .left), le-ltb _ _ (c .before .if2 .left), lt-ltb _ _ (c .if3 .taken))
 
-sub-t7 : tie.Need-sub-t7
-sub-t7 c = search needs
-
 returns-5 : tie.Need-returns-5
 unfolding stepOf
 returns-5 c =
@@ -43,12 +34,12 @@ pub step-spec : {M : Type 1} → statement M
 step-spec =
     tie.close
     (tie.spec
-    enum-known-w
+    (λ c. search needs)
     enum-told
     returns
-    lead-requires
+    (λ c κs. search needs)
     returns-2
     returns-3
     returns-4
-    sub-t7
+    (λ c. search needs)
     returns-5)

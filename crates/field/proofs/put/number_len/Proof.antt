@@ -19,12 +19,6 @@ returns : tie.Need-returns Inv-loop μ-loop
 unfolding vLong number
 returns c = (count-full 8 _ _ _ (c .before .before .loop .inv) (c .if1 .taken), omega arith)
 
-add-n : tie.Need-add-n Inv-loop μ-loop
-add-n c = search needs
-
-loop-less : tie.Need-loop-less Inv-loop μ-loop
-loop-less c = search needs
-
 loop-again : tie.Need-loop-again Inv-loop μ-loop
 loop-again c = count-on 8 _ _ _ (c .before .before .loop .inv) (c .before .loop-test .taken) (c .if1 .left)
 
@@ -34,4 +28,4 @@ returns-2 c = (count-end 8 _ _ _ (c .before .loop .inv) (c .loop-test .left), c 
 
 pub number-len-spec : {M : Type 1} → statement M
 number-len-spec =
-    tie.close (tie.spec Inv-loop μ-loop loop-holds returns add-n loop-less loop-again returns-2)
+    tie.close (tie.spec Inv-loop μ-loop loop-holds returns (λ c. search needs) (λ c. search needs) loop-again returns-2)

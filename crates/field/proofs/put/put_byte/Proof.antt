@@ -9,15 +9,6 @@ use borrow.Author.Needs.{needs}
 use Rattle.field.proofs.put.put_byte.Statement.{statement}
 use Rattle.field.proofs.put.put_byte.Tie as tie
 
-slice-write-out : tie.Need-slice-write-out
-slice-write-out c = search needs
-
-add-result : tie.Need-add-result
-add-result c = search needs
-
-same-length : tie.Need-same-length
-same-length c = search needs
-
 returns : tie.Need-returns
 unfolding byte
 returns c =
@@ -31,4 +22,4 @@ returns-2 c =
     put-short byte (a .b) (a .at) (a .out .now) (lt-ltb (a .b) 256 (omega arith)) (omega arith)
 
 pub put-byte-spec : {M : Type 1} → statement M
-put-byte-spec = tie.close (tie.spec slice-write-out add-result same-length returns returns-2)
+put-byte-spec = tie.close (tie.spec (λ c. search needs) (λ c. search needs) (λ c. search needs) returns returns-2)

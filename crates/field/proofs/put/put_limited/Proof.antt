@@ -41,27 +41,12 @@ returns-3 c = let b = c .before in
     let a = b .before .before .before .before .args in
     put-short (limited (a .lim)) _ _ _ (good b) (omega (arith, size b, enc-some 8 (length (a .s .now))))
 
-sub-room : tie.Need-sub-room
-sub-room c = search needs
-
-number-len-requires : tie.Need-number-len-requires
-number-len-requires c κs = search needs
-
 add-if4 : tie.Need-add-if4
 add-if4 c = omega (arith, c .number-len .ensures)
 
 returns-4 : tie.Need-returns-4
 returns-4 c = let b = c .before .before .before in
     put-short (limited _) _ _ _ (good b) (omega (arith, size b, c .before .number-len .ensures))
-
-put-number-requires : tie.Need-put-number-requires
-put-number-requires c κs = search needs
-
-put-raw-requires : tie.Need-put-raw-requires
-put-raw-requires c κs = search needs
-
-same-length : tie.Need-same-length
-same-length c = search needs
 
 returns-5 : tie.Need-returns-5
 unfolding vInt raw
@@ -84,11 +69,11 @@ put-limited-spec =
     returns
     returns-2
     returns-3
-    sub-room
-    number-len-requires
+    (λ c. search needs)
+    (λ c κs. search needs)
     add-if4
     returns-4
-    put-number-requires
-    put-raw-requires
-    same-length
+    (λ c κs. search needs)
+    (λ c κs. search needs)
+    (λ c. search needs)
     returns-5)

@@ -19,9 +19,6 @@ fits c = omega (arith, c .before .greatest .ensures, c .if1 .left)
 size : (c : tie.Else1) → let a = c .before .before .before .args in length (numberOf (a .k) .enc (a .v)) ≡ length (vLong .enc (a .v))
 size c = let a = c .before .before .before .args in ap length (kind-bytes (a .v) (a .k) (fits c))
 
-greatest-requires : tie.Need-greatest-requires
-greatest-requires c κs = search needs
-
 returns : tie.Need-returns
 returns c = let a = c .before .before .before .args in
     put-broken (numberOf (a .k)) _ _ _ (kind-bad (a .v) (a .k) (omega (arith, c .before .greatest .ensures)))
@@ -31,12 +28,6 @@ unfolding vLong number
 returns-2 c = let b = c .before in
     let a = b .before .before .before .args in
     put-short (numberOf (a .k)) _ _ _ (kind-good (a .v) (a .k) (fits b)) (omega (arith, size b, enc-some 8 (a .v)))
-
-sub-if3 : tie.Need-sub-if3
-sub-if3 c = search needs
-
-number-len-requires : tie.Need-number-len-requires
-number-len-requires c κs = search needs
 
 returns-3 : tie.Need-returns-3
 returns-3 c = let b = c .before .before .before in
@@ -48,9 +39,6 @@ write-number-requires c κs = let l = c .before .before in
     let b = l .before .before in
     let a = b .before .before .before .args in
     (greatest-long (a .v) (a .k) (fits b), omega (arith, l .number-len .ensures))
-
-same-length : tie.Need-same-length
-same-length c = search needs
 
 returns-4 : tie.Need-returns-4
 returns-4 c = let w = c .before .before in
@@ -64,12 +52,12 @@ pub put-number-spec : {M : Type 1} → statement M
 put-number-spec =
     tie.close
     (tie.spec
-    greatest-requires
+    (λ c κs. search needs)
     returns
     returns-2
-    sub-if3
-    number-len-requires
+    (λ c. search needs)
+    (λ c κs. search needs)
     returns-3
     write-number-requires
-    same-length
+    (λ c. search needs)
     returns-4)

@@ -8,18 +8,9 @@ use borrow.Author.Needs.{needs}
 use Rattle.field.proofs.put.put_text.Statement.{statement}
 use Rattle.field.proofs.put.put_text.Tie as tie
 
-is-text-requires : tie.Need-is-text-requires
-is-text-requires c κs = search needs
-
 returns : tie.Need-returns
 unfolding limitedText guard putAt
 returns c = rw (sym (c .before .is-text .ensures) ∙ not-true _ (c .if1 .taken))
-
-put-limited-requires : tie.Need-put-limited-requires
-put-limited-requires c κs = search needs
-
-same-length : tie.Need-same-length
-same-length c = search needs
 
 returns-2 : tie.Need-returns-2
 unfolding limitedText guard putAt
@@ -30,4 +21,4 @@ returns-2 c =
 
 pub put-text-spec : {M : Type 1} → statement M
 put-text-spec =
-    tie.close (tie.spec is-text-requires returns put-limited-requires same-length returns-2)
+    tie.close (tie.spec (λ c κs. search needs) returns (λ c κs. search needs) (λ c. search needs) returns-2)

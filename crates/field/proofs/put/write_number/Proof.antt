@@ -18,12 +18,6 @@ abbrev μ-loop : tie.MeasureT-loop
 loop-holds : tie.Need-loop-holds Inv-loop μ-loop
 loop-holds c = begin 2 127 8 _ _ _ (omega arith)
 
-add-out : tie.Need-add-out Inv-loop μ-loop
-add-out c = omega arith
-
-cast-out : tie.Need-cast-out Inv-loop μ-loop
-cast-out c = omega arith
-
 slice-write-out : tie.Need-slice-write-out Inv-loop μ-loop
 unfolding vLong number
 slice-write-out c = omega (arith, c .before .before .pre, room 2 127 8 _ _ _ _ _ _ (c .before .loop .inv), c .before .loop .inv .long)
@@ -31,14 +25,8 @@ slice-write-out c = omega (arith, c .before .before .pre, room 2 127 8 _ _ _ _ _
 add-i : tie.Need-add-i Inv-loop μ-loop
 add-i c = omega (arith, slice-write-out c)
 
-loop-less : tie.Need-loop-less Inv-loop μ-loop
-loop-less c = omega arith
-
 loop-again : tie.Need-loop-again Inv-loop μ-loop
 loop-again c = on 2 127 8 _ _ _ _ _ _ (lit≤ tt) (c .before .loop .inv) (c .loop-test .taken)
-
-cast-out-2 : tie.Need-cast-out-2 Inv-loop μ-loop
-cast-out-2 c = omega arith
 
 slice-write-out-2 : tie.Need-slice-write-out-2 Inv-loop μ-loop
 unfolding vLong number
@@ -61,13 +49,13 @@ write-number-spec =
     Inv-loop
     μ-loop
     loop-holds
-    add-out
-    cast-out
+    (λ c. omega arith)
+    (λ c. omega arith)
     slice-write-out
     add-i
-    loop-less
+    (λ c. omega arith)
     loop-again
-    cast-out-2
+    (λ c. omega arith)
     slice-write-out-2
     add-result
     same-length

@@ -5,9 +5,6 @@ use borrow.Author.Needs.{needs}
 use Rattle.request.proofs.write.keeps_args.Statement.{statement}
 use Rattle.request.proofs.write.keeps_args.Tie as tie
 
-limits-of-requires : tie.Need-limits-of-requires
-limits-of-requires c κs = search needs
-
 returns : tie.Need-returns
 returns c = broken-args _ _ _ (c .before .before .limits-of .ensures) (omega arith) (λ w. omega (arith, w .key))
 
@@ -37,4 +34,4 @@ returns-6 c =
 pub keeps-args-spec : {M : Type 1} → statement M
 keeps-args-spec =
     tie.close
-    (tie.spec limits-of-requires returns returns-2 returns-3 returns-4 returns-5 returns-6)
+    (tie.spec (λ c κs. search needs) returns returns-2 returns-3 returns-4 returns-5 returns-6)

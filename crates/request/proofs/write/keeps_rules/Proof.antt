@@ -12,14 +12,8 @@ use Rattle.request.proofs.write.keeps_rules.Tie as tie
 returns : tie.Need-returns
 returns c = broken _ (λ r. omega (arith, r .id))
 
-is-served-requires : tie.Need-is-served-requires
-is-served-requires c κs = search needs
-
 returns-2 : tie.Need-returns-2
 returns-2 c = broken _ (λ r. let e : false ≡ true = sym (not-true _ (c .if2 .taken)) ∙ c .before .is-served .ensures ∙ r .version in never (cc))
-
-greatest-flags-requires : tie.Need-greatest-flags-requires
-greatest-flags-requires c κs = search needs
 
 returns-3 : tie.Need-returns-3
 returns-3 c = broken _ (λ r. omega (arith, r .flags, c .before .before .greatest-flags .ensures))
@@ -36,14 +30,8 @@ returns-6 c = broken _ (λ r. omega (arith, r .topology))
 returns-7 : tie.Need-returns-7
 returns-7 c = broken _ (λ r. omega (arith, r .name))
 
-is-text-requires : tie.Need-is-text-requires
-is-text-requires c κs = search needs
-
 returns-8 : tie.Need-returns-8
 returns-8 c = broken _ (λ r. let e : false ≡ true = sym (not-true _ (c .if8 .taken)) ∙ c .before .is-text .ensures ∙ r .text in never (cc))
-
-keeps-args-requires : tie.Need-keeps-args-requires
-keeps-args-requires c κs = search needs
 
 returns-9 : tie.Need-returns-9
 returns-9 c =
@@ -75,15 +63,15 @@ keeps-rules-spec =
     tie.close
     (tie.spec
     returns
-    is-served-requires
+    (λ c κs. search needs)
     returns-2
-    greatest-flags-requires
+    (λ c κs. search needs)
     returns-3
     returns-4
     returns-5
     returns-6
     returns-7
-    is-text-requires
+    (λ c κs. search needs)
     returns-8
-    keeps-args-requires
+    (λ c κs. search needs)
     returns-9)

@@ -12,38 +12,11 @@ use Rattle.request.proofs.write.length_of.Tie as tie
 fits : (s : tie.Start) → s .args .h .entry .0 < 256 ^ 8
 fits s = omega arith
 
-number-len-requires : tie.Need-number-len-requires
-number-len-requires c κs = search needs
-
-size-requires : tie.Need-size-requires
-size-requires c κs = search needs
-
-number-len-requires-2 : tie.Need-number-len-requires-2
-number-len-requires-2 c κs = search needs
-
-number-len-requires-3 : tie.Need-number-len-requires-3
-number-len-requires-3 c κs = search needs
-
 args-len-requires : tie.Need-args-len-requires
 args-len-requires c κs =
     let s = c .before .before .before .before .before .before .before in
     let q = requestOf (s .args .h) (s .args .name .now) (s .args .key .now) (s .args .value .now) in
     args-small (q .args) (shapeOf (q .op)) (within (q .args) (shapeOf (q .op)) (fits s) (rules q (s .pre) .args))
-
-add-result : tie.Need-add-result
-add-result c = search needs
-
-add-result-2 : tie.Need-add-result-2
-add-result-2 c = search needs
-
-add-result-3 : tie.Need-add-result-3
-add-result-3 c = search needs
-
-add-result-4 : tie.Need-add-result-4
-add-result-4 c = search needs
-
-add-result-5 : tie.Need-add-result-5
-add-result-5 c = search needs
 
 returns : tie.Need-returns
 returns c =
@@ -58,14 +31,14 @@ pub length-of-spec : {M : Type 1} → statement M
 length-of-spec =
     tie.close
     (tie.spec
-    number-len-requires
-    size-requires
-    number-len-requires-2
-    number-len-requires-3
+    (λ c κs. search needs)
+    (λ c κs. search needs)
+    (λ c κs. search needs)
+    (λ c κs. search needs)
     args-len-requires
-    add-result
-    add-result-2
-    add-result-3
-    add-result-4
-    add-result-5
+    (λ c. search needs)
+    (λ c. search needs)
+    (λ c. search needs)
+    (λ c. search needs)
+    (λ c. search needs)
     returns)

@@ -12,17 +12,8 @@ use Rattle.request.proofs.write.put_args.Tie as tie
 shape : (c : tie.After-shape-of) {x : Shape} → c .shape-of .result ≡ x → shapeOf (c .before .before .before .before .args .h .op) ≡ asShape x
 shape c e = sym (c .shape-of .ensures) ∙ rw e
 
-shape-of-requires : tie.Need-shape-of-requires
-shape-of-requires c κs = search needs
-
 enum-told : tie.Need-enum-told
 enum-told c = search needs
-
-put-limited-requires : tie.Need-put-limited-requires
-put-limited-requires c κs = search needs
-
-enum-told-2 : tie.Need-enum-told-2
-enum-told-2 c = search needs
 
 put-writes-requires : tie.Need-put-writes-requires
 put-writes-requires c κs =
@@ -32,9 +23,6 @@ put-writes-requires c κs =
     let e = shape h (t .enum-told2 .given .1) in
     rw e at (s .pre)
 
-enum-told-3 : tie.Need-enum-told-3
-enum-told-3 c = search needs
-
 put-writes-if-requires : tie.Need-put-writes-if-requires
 put-writes-if-requires c κs =
     let t = c .before in
@@ -43,9 +31,6 @@ put-writes-if-requires c κs =
     let e = shape h (t .enum-told3 .given .1) in
     rw e at (s .pre)
 
-enum-told-4 : tie.Need-enum-told-4
-enum-told-4 c = search needs
-
 put-keyed-if-requires : tie.Need-put-keyed-if-requires
 put-keyed-if-requires c κs =
     let t = c .before in
@@ -53,12 +38,6 @@ put-keyed-if-requires c κs =
     let s = h .before .before .before .before in
     let e = shape h (t .enum-told4 .given .1) in
     rw e at (s .pre)
-
-enum-told-5 : tie.Need-enum-told-5
-enum-told-5 c = search needs
-
-same-length : tie.Need-same-length
-same-length c = search needs
 
 returns : tie.Need-returns
 returns c =
@@ -69,9 +48,6 @@ returns c =
     let e = shape h (t .enum-told .given .1) in
     rw e (put-keyed _ (rw e at (s .pre)) (w .put-limited .ensures))
 
-same-length-2 : tie.Need-same-length-2
-same-length-2 c = search needs
-
 returns-2 : tie.Need-returns-2
 returns-2 c =
     let w = c .before .before in
@@ -81,9 +57,6 @@ returns-2 c =
     let e = shape h (t .enum-told2 .given .1) in
     rw e (w .put-writes .ensures)
 
-same-length-3 : tie.Need-same-length-3
-same-length-3 c = search needs
-
 returns-3 : tie.Need-returns-3
 returns-3 c =
     let w = c .before .before in
@@ -92,9 +65,6 @@ returns-3 c =
     let s = h .before .before .before .before in
     let e = shape h (t .enum-told3 .given .1) in
     rw e (w .put-writes-if .ensures)
-
-same-length-4 : tie.Need-same-length-4
-same-length-4 c = search needs
 
 returns-4 : tie.Need-returns-4
 returns-4 c =
@@ -116,22 +86,22 @@ pub put-args-spec : {M : Type 1} → statement M
 put-args-spec =
     tie.close
     (tie.spec
-    shape-of-requires
+    (λ c κs. search needs)
     enum-told
-    put-limited-requires
-    enum-told-2
+    (λ c κs. search needs)
+    (λ c. search needs)
     put-writes-requires
-    enum-told-3
+    (λ c. search needs)
     put-writes-if-requires
-    enum-told-4
+    (λ c. search needs)
     put-keyed-if-requires
-    enum-told-5
-    same-length
+    (λ c. search needs)
+    (λ c. search needs)
     returns
-    same-length-2
+    (λ c. search needs)
     returns-2
-    same-length-3
+    (λ c. search needs)
     returns-3
-    same-length-4
+    (λ c. search needs)
     returns-4
     returns-5)

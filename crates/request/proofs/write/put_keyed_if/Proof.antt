@@ -5,15 +5,6 @@ use borrow.Author.Needs.{needs}
 use Rattle.request.proofs.write.put_keyed_if.Statement.{statement}
 use Rattle.request.proofs.write.put_keyed_if.Tie as tie
 
-put-limited-requires : tie.Need-put-limited-requires
-put-limited-requires c κs = search needs
-
-put-version-requires : tie.Need-put-version-requires
-put-version-requires c κs = search needs
-
-same-length : tie.Need-same-length
-same-length c = search needs
-
 returns : tie.Need-returns
 unfolding vInt
 returns c =
@@ -23,4 +14,4 @@ returns c =
 
 pub put-keyed-if-spec : {M : Type 1} → statement M
 put-keyed-if-spec =
-    tie.close (tie.spec put-limited-requires put-version-requires same-length returns)
+    tie.close (tie.spec (λ c κs. search needs) (λ c κs. search needs) (λ c. search needs) returns)

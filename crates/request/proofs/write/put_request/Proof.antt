@@ -24,36 +24,6 @@ header c =
     let s = d .before .before .before .before .before in
     put-header _ (s .pre) (w1 .put-byte .ensures) (w2 .put-number .ensures) (w3 .put-byte2 .ensures) _ (d .code .ensures) (w4 .put-byte3 .ensures) (w5 .put-text .ensures) (w6 .put-number2 .ensures) (w7 .put-byte4 .ensures) (w8 .put-number3 .ensures) (w9 .put-byte5 .ensures)
 
-code-requires : tie.Need-code-requires
-code-requires c κs = search needs
-
-put-byte-requires : tie.Need-put-byte-requires
-put-byte-requires c κs = search needs
-
-put-number-requires : tie.Need-put-number-requires
-put-number-requires c κs = search needs
-
-put-byte-requires-2 : tie.Need-put-byte-requires-2
-put-byte-requires-2 c κs = search needs
-
-put-byte-requires-3 : tie.Need-put-byte-requires-3
-put-byte-requires-3 c κs = search needs
-
-put-text-requires : tie.Need-put-text-requires
-put-text-requires c κs = search needs
-
-put-number-requires-2 : tie.Need-put-number-requires-2
-put-number-requires-2 c κs = search needs
-
-put-byte-requires-4 : tie.Need-put-byte-requires-4
-put-byte-requires-4 c κs = search needs
-
-put-number-requires-3 : tie.Need-put-number-requires-3
-put-number-requires-3 c κs = search needs
-
-put-byte-requires-5 : tie.Need-put-byte-requires-5
-put-byte-requires-5 c κs = search needs
-
 put-args-requires : tie.Need-put-args-requires
 put-args-requires c κs = header (c .before) .ready
 
@@ -67,16 +37,16 @@ pub put-request-spec : {M : Type 1} → statement M
 put-request-spec =
     tie.close
     (tie.spec
-    code-requires
-    put-byte-requires
-    put-number-requires
-    put-byte-requires-2
-    put-byte-requires-3
-    put-text-requires
-    put-number-requires-2
-    put-byte-requires-4
-    put-number-requires-3
-    put-byte-requires-5
+    (λ c κs. search needs)
+    (λ c κs. search needs)
+    (λ c κs. search needs)
+    (λ c κs. search needs)
+    (λ c κs. search needs)
+    (λ c κs. search needs)
+    (λ c κs. search needs)
+    (λ c κs. search needs)
+    (λ c κs. search needs)
+    (λ c κs. search needs)
     put-args-requires
     same-length
     returns)

@@ -18,26 +18,11 @@ Inv-loop t n i₀ i = (i ≤ n) × ((j : ℕ) → j < i → FoundFrom t (entryOf
 abbrev μ-loop : tie.MeasureT-loop
 μ-loop t n i₀ i = n - i
 
-count-requires : tie.Need-count-requires Inv-loop μ-loop
-count-requires c κs = search needs
-
 loop-holds : tie.Need-loop-holds Inv-loop μ-loop
 loop-holds c = (omega arith, λ j l. absurd (omega arith))
 
-key-requires : tie.Need-key-requires Inv-loop μ-loop
-key-requires c κs = search needs
-
-add-find-from : tie.Need-add-find-from Inv-loop μ-loop
-add-find-from c = search needs
-
-find-from-requires : tie.Need-find-from-requires Inv-loop μ-loop
-find-from-requires c κs = search needs
-
 enum-told : tie.Need-enum-told Inv-loop μ-loop
 enum-told c = search needs
-
-enum-told-2 : tie.Need-enum-told-2 Inv-loop μ-loop
-enum-told-2 c = search needs
 
 returns : tie.Need-returns Inv-loop μ-loop
 returns c = let l = c .before .before .before .before .before in
@@ -46,12 +31,6 @@ returns c = let l = c .before .before .before .before .before in
     let n : l .before .count .result ≡ countOf t = l .before .count .ensures .0 in
     let f = subst (FoundFrom t _ (i + 1)) (c .enum-told2 .given .1) (c .before .before .find-from .ensures) in
     says-no (λ p. p i (omega arith) _ (f .1) (f .0) (f .2 ∙ c .before .before .before .key .ensures))
-
-add-i : tie.Need-add-i Inv-loop μ-loop
-add-i c = search needs
-
-loop-less : tie.Need-loop-less Inv-loop μ-loop
-loop-less c = search needs
 
 loop-again : tie.Need-loop-again Inv-loop μ-loop
 loop-again c = let l = c .before .before .before .before .before in
@@ -73,15 +52,15 @@ differ-spec =
     (tie.spec
     Inv-loop
     μ-loop
-    count-requires
+    (λ c κs. search needs)
     loop-holds
-    key-requires
-    add-find-from
-    find-from-requires
+    (λ c κs. search needs)
+    (λ c. search needs)
+    (λ c κs. search needs)
     enum-told
-    enum-told-2
+    (λ c. search needs)
     returns
-    add-i
-    loop-less
+    (λ c. search needs)
+    (λ c. search needs)
     loop-again
     returns-2)

@@ -17,17 +17,8 @@ Inv-loop t n low₀ i₀ low i = (i ≤ n) × Rising t i low × ((x : ℕ) → (
 abbrev μ-loop : tie.MeasureT-loop
 μ-loop t n low₀ i₀ low i = n - i
 
-count-requires : tie.Need-count-requires Inv-loop μ-loop
-count-requires c κs = search needs
-
 loop-holds : tie.Need-loop-holds Inv-loop μ-loop
 loop-holds c = (omega arith, record { first = λ j l. absurd (omega arith); rise = λ j l. absurd (omega arith); most = λ j l. absurd (omega arith) }, λ x h. omega arith)
-
-row-at-requires : tie.Need-row-at-requires Inv-loop μ-loop
-row-at-requires c κs = search needs
-
-get64-requires : tie.Need-get64-requires Inv-loop μ-loop
-get64-requires c κs = search needs
 
 returns : tie.Need-returns Inv-loop μ-loop
 returns c = let l = c .before .before .before .before in
@@ -37,21 +28,12 @@ returns c = let l = c .before .before .before .before in
     let v : c .before .get64 .result ≡ be8 t (rowAt i) = c .before .get64 .ensures ∙ ap (be8 t) (c .before .before .row-at .ensures) in
     says-no (λ p. omega (arith, p .first i (omega arith), l .loop .inv .2 (be8 t (rowAt i) - 1) (λ j h. omega (arith, climbs t _ _ p j i h (omega arith)))))
 
-add-i : tie.Need-add-i Inv-loop μ-loop
-add-i c = search needs
-
-loop-less : tie.Need-loop-less Inv-loop μ-loop
-loop-less c = search needs
-
 loop-again : tie.Need-loop-again Inv-loop μ-loop
 loop-again c = let l = c .before .before .before .before in
     let t = l .before .before .before .args .t .now in
     let i = l .loop .i in
     let v : c .before .get64 .result ≡ be8 t (rowAt i) = c .before .get64 .ensures ∙ ap (be8 t) (c .before .before .row-at .ensures) in
     (omega arith, rising-more t i _ _ (l .loop .inv .1) v (omega arith), λ x h. omega (arith, h i (omega arith)))
-
-get64-requires-2 : tie.Need-get64-requires-2 Inv-loop μ-loop
-get64-requires-2 c κs = search needs
 
 returns-2 : tie.Need-returns-2 Inv-loop μ-loop
 returns-2 c = let l = c .before .before .before in
@@ -72,14 +54,14 @@ rising-spec =
     (tie.spec
     Inv-loop
     μ-loop
-    count-requires
+    (λ c κs. search needs)
     loop-holds
-    row-at-requires
-    get64-requires
+    (λ c κs. search needs)
+    (λ c κs. search needs)
     returns
-    add-i
-    loop-less
+    (λ c. search needs)
+    (λ c. search needs)
     loop-again
-    get64-requires-2
+    (λ c κs. search needs)
     returns-2
     returns-3)

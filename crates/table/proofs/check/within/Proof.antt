@@ -5,29 +5,11 @@ use borrow.Author.Needs.{needs}
 use Rattle.table.proofs.check.within.Statement.{statement}
 use Rattle.table.proofs.check.within.Tie as tie
 
-add-get64 : tie.Need-add-get64
-add-get64 c = search needs
-
-get64-requires : tie.Need-get64-requires
-get64-requires c κs = search needs
-
 returns : tie.Need-returns
 returns c = says-no (λ p. omega (arith, p .key))
 
-add-get64-2 : tie.Need-add-get64-2
-add-get64-2 c = search needs
-
-get64-requires-2 : tie.Need-get64-requires-2
-get64-requires-2 c κs = search needs
-
 returns-2 : tie.Need-returns-2
 returns-2 c = says-no (λ p. omega (arith, p .value))
-
-add-get64-3 : tie.Need-add-get64-3
-add-get64-3 c = search needs
-
-get64-requires-3 : tie.Need-get64-requires-3
-get64-requires-3 c κs = search needs
 
 returns-3 : tie.Need-returns-3
 returns-3 c = says-no (λ p. omega (arith, p .deadline))
@@ -39,13 +21,13 @@ pub within-spec : {M : Type 1} → statement M
 within-spec =
     tie.close
     (tie.spec
-    add-get64
-    get64-requires
+    (λ c. search needs)
+    (λ c κs. search needs)
     returns
-    add-get64-2
-    get64-requires-2
+    (λ c. search needs)
+    (λ c κs. search needs)
     returns-2
-    add-get64-3
-    get64-requires-3
+    (λ c. search needs)
+    (λ c κs. search needs)
     returns-3
     returns-4)

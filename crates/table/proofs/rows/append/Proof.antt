@@ -12,45 +12,6 @@ use borrow.Author.Needs.{needs}
 use Rattle.table.proofs.rows.append.Statement.{statement}
 use Rattle.table.proofs.rows.append.Tie as tie
 
-count-requires : tie.Need-count-requires
-count-requires c κs = search needs
-
-get64-requires : tie.Need-get64-requires
-get64-requires c κs = search needs
-
-add-version : tie.Need-add-version
-add-version c = search needs
-
-row-at-requires : tie.Need-row-at-requires
-row-at-requires c κs = search needs
-
-add-e : tie.Need-add-e
-add-e c = search needs
-
-sub-write : tie.Need-sub-write
-sub-write c = search needs
-
-part-write-start : tie.Need-part-write-start
-part-write-start c = search needs
-
-part-write-end : tie.Need-part-write-end
-part-write-end c = search needs
-
-write-requires : tie.Need-write-requires
-write-requires c κs = search needs
-
-add-put64 : tie.Need-add-put64
-add-put64 c = search needs
-
-put64-requires : tie.Need-put64-requires
-put64-requires c κs = search needs
-
-put64-requires-2 : tie.Need-put64-requires-2
-put64-requires-2 c κs = search needs
-
-same-length : tie.Need-same-length
-same-length c = search needs
-
 returns : tie.Need-returns
 returns c = let w = c .before .before .before .before .before .before .before .before .before .before in
     let r = w .before .before in
@@ -71,17 +32,17 @@ pub append-spec : {M : Type 1} → statement M
 append-spec =
     tie.close
     (tie.spec
-    count-requires
-    get64-requires
-    add-version
-    row-at-requires
-    add-e
-    sub-write
-    part-write-start
-    part-write-end
-    write-requires
-    add-put64
-    put64-requires
-    put64-requires-2
-    same-length
+    (λ c κs. search needs)
+    (λ c κs. search needs)
+    (λ c. search needs)
+    (λ c κs. search needs)
+    (λ c. search needs)
+    (λ c. search needs)
+    (λ c. search needs)
+    (λ c. search needs)
+    (λ c κs. search needs)
+    (λ c. search needs)
+    (λ c κs. search needs)
+    (λ c κs. search needs)
+    (λ c. search needs)
     returns)

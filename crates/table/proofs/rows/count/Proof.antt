@@ -4,12 +4,9 @@ use borrow.Author.Needs.{needs}
 use Rattle.table.proofs.rows.count.Statement.{statement}
 use Rattle.table.proofs.rows.count.Tie as tie
 
-capped-requires : tie.Need-capped-requires
-capped-requires c κs = search needs
-
 returns : tie.Need-returns
 unfolding countOf
 returns c = search needs
 
 pub count-spec : {M : Type 1} → statement M
-count-spec = tie.close (tie.spec capped-requires returns)
+count-spec = tie.close (tie.spec (λ c κs. search needs) returns)

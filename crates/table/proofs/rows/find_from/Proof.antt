@@ -17,28 +17,13 @@ Inv-loop t k from n i₀ i = (from ≤ i) × ((j : ℕ) → j < i → from ≤ j
 abbrev μ-loop : tie.MeasureT-loop
 μ-loop t k from n i₀ i = n - i
 
-count-requires : tie.Need-count-requires Inv-loop μ-loop
-count-requires c κs = search needs
-
 loop-holds : tie.Need-loop-holds Inv-loop μ-loop
 loop-holds c = (omega arith, λ j l h. absurd (omega arith))
-
-key-requires : tie.Need-key-requires Inv-loop μ-loop
-key-requires c κs = search needs
-
-same-key-requires : tie.Need-same-key-requires Inv-loop μ-loop
-same-key-requires c κs = search needs
 
 returns : tie.Need-returns Inv-loop μ-loop
 returns c = let l = c .before .before .before .before in
     let n : l .before .count .result ≡ countOf (l .before .before .before .before .args .t .now) = l .before .count .ensures .0 in
     (l .loop .inv .0, omega arith, sym (c .before .before .key .ensures) ∙ c .before .same-key .ensures .0 (c .if1 .taken), l .loop .inv .1)
-
-add-i : tie.Need-add-i Inv-loop μ-loop
-add-i c = search needs
-
-loop-less : tie.Need-loop-less Inv-loop μ-loop
-loop-less c = search needs
 
 loop-again : tie.Need-loop-again Inv-loop μ-loop
 loop-again c = let l = c .before .before .before .before in
@@ -58,12 +43,12 @@ find-from-spec =
     (tie.spec
     Inv-loop
     μ-loop
-    count-requires
+    (λ c κs. search needs)
     loop-holds
-    key-requires
-    same-key-requires
+    (λ c κs. search needs)
+    (λ c κs. search needs)
     returns
-    add-i
-    loop-less
+    (λ c. search needs)
+    (λ c. search needs)
     loop-again
     returns-2)

@@ -11,30 +11,6 @@ use borrow.Author.Needs.{needs}
 use Rattle.table.proofs.rows.remove.Statement.{statement}
 use Rattle.table.proofs.rows.remove.Tie as tie
 
-count-requires : tie.Need-count-requires
-count-requires c κs = search needs
-
-row-at-requires : tie.Need-row-at-requires
-row-at-requires c κs = search needs
-
-sub-row-at : tie.Need-sub-row-at
-sub-row-at c = search needs
-
-row-at-requires-2 : tie.Need-row-at-requires-2
-row-at-requires-2 c κs = search needs
-
-shift-down-requires : tie.Need-shift-down-requires
-shift-down-requires c κs = search needs
-
-sub-put64 : tie.Need-sub-put64
-sub-put64 c = search needs
-
-put64-requires : tie.Need-put64-requires
-put64-requires c κs = search needs
-
-same-length : tie.Need-same-length
-same-length c = search needs
-
 returns : tie.Need-returns
 returns c = let s = c .before .before .before .before .before .before .before .before .before .before .before .before .before in
     let t = s .args .t .now in
@@ -50,12 +26,12 @@ pub remove-spec : {M : Type 1} → statement M
 remove-spec =
     tie.close
     (tie.spec
-    count-requires
-    row-at-requires
-    sub-row-at
-    row-at-requires-2
-    shift-down-requires
-    sub-put64
-    put64-requires
-    same-length
+    (λ c κs. search needs)
+    (λ c κs. search needs)
+    (λ c. search needs)
+    (λ c κs. search needs)
+    (λ c κs. search needs)
+    (λ c. search needs)
+    (λ c κs. search needs)
+    (λ c. search needs)
     returns)

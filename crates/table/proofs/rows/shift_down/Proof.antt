@@ -22,21 +22,6 @@ loop-holds c =
     let z : c .args .a - c .args .a ≡ 0 = omega arith in
     (omega arith, omega arith, refl, rw z (put-none _ _))
 
-add-t : tie.Need-add-t Inv-loop μ-loop
-add-t c = search needs
-
-slice-read-t : tie.Need-slice-read-t Inv-loop μ-loop
-slice-read-t c = search needs
-
-slice-write-t : tie.Need-slice-write-t Inv-loop μ-loop
-slice-write-t c = search needs
-
-add-j : tie.Need-add-j Inv-loop μ-loop
-add-j c = search needs
-
-loop-less : tie.Need-loop-less Inv-loop μ-loop
-loop-less c = search needs
-
 loop-again : tie.Need-loop-again Inv-loop μ-loop
 loop-again c =
     let b = c .before .before in
@@ -48,9 +33,6 @@ loop-again c =
     let e₂ : a + w + n ≡ b .loop .j + w = omega arith in
     let e₃ : n + 1 ≡ b .loop .j + 1 - a = omega arith in
     (omega arith, omega arith, simp length-set (omega arith), cc (shift-more t₀ a (a + w) n (omega arith) (omega arith)))
-
-same-length : tie.Need-same-length Inv-loop μ-loop
-same-length c = search needs
 
 returns : tie.Need-returns Inv-loop μ-loop
 returns c =
@@ -65,11 +47,11 @@ shift-down-spec =
     Inv-loop
     μ-loop
     loop-holds
-    add-t
-    slice-read-t
-    slice-write-t
-    add-j
-    loop-less
+    (λ c. search needs)
+    (λ c. search needs)
+    (λ c. search needs)
+    (λ c. search needs)
+    (λ c. search needs)
     loop-again
-    same-length
+    (λ c. search needs)
     returns)

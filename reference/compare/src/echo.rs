@@ -1,0 +1,665 @@
+//! The reference in the shape of the library: the same functions over byte
+//! slices, the table in the same memory. The tests of the harness put one
+//! fault at a time into it, and the harness has to find it.
+
+use reference::lines::{LINE_END, LINE_LIMIT};
+use reference::map::{LARGEST_DEADLINE, LARGEST_VERSION, MOST_KEYS};
+use reference::operation::{sends_entry_version, sends_value, CLEAR, REMOVE};
+use reference::serve::{answer_request, error_id, LEAST_ROOM};
+use reference::{
+    load, read_reply, read_request, serve_line, store, write_reply, write_request, Read, Reply,
+    Request, Table, Verdict,
+};
+
+use crate::fields::{of_reply, of_request, place, Kind};
+use crate::memory::{self, number, put_number, row_at, COUNT, DEADLINE, LAST, SIZE};
+use crate::messages::{reply_numbers, request_numbers};
+use crate::subject::{
+    read_code, verdict_code, write_code, Asked, Piece, ReplyParts, RequestParts, ServesLines,
+    Stores, Subject, GOOD,
+};
+
+/// What is wrong with an `Echo`.
+#[derive(Clone, Copy, Debug, PartialEq, Eq)]
+pub enum Fault {
+    // Messages.
+    TakesOneMore,
+    SixForFive,
+    ShortIsMore,
+    LengthOfOneByte,
+    SpanOff,
+    AnswersMore,
+    AnswersInShortBuffer,
+    IgnoresFlag,
+    ReplyTextUnchecked,
+    LooksBeforeOperation,
+    WritesBehind,
+    RoomBeforeRules,
+    NeedsOneMore,
+    CutsNumbers,
+    WritesUnsentFields,
+    // Serving.
+    OldValueAlways,
+    VersionAtLeast,
+    FullRefusesOverwrite,
+    ClearRestarts,
+    RemovalUsesVersion,
+    DeadlineWraps,
+    LastVersionEarly,
+    RefusedTouchesMemory,
+    ReplyTouchesBehind,
+    ServesAnyName,
+    RoomOneLess,
+    MoreTakes,
+    LeavesOrder,
+    // Streams.
+    StopsAtNine,
+    CountsReplies,
+    HidesTwelve,
+    ChecksOnce,
+    // Tables.
+    EqualKeys,
+    VersionZero,
+    LateDeadline,
+    LastTooLarge,
+    VersionAboveLast,
+    AnyOrder,
+    LooksBehind,
+    CountCutToByte,
+    LengthCutToByte,
+    MakesAnyLength,
+    // Values.
+    ValueSteersReply,
+    ValueSteersVersion,
+    // Lines.
+    LongLineTwice,
+    EndsAsRead,
+    ServesBeforeFifteen,
+    ChecksNoTable,
+    LimitOneMore,
+    // Stored tables.
+    StoreNeedsOneMore,
+    RoomBeforeTable,
+    LoadsUpperCase,
+    LoadsWithoutEnd,
+    LoadTouchesOld,
+    LoadsLateDeadline,
+}
+
+pub struct Echo {
+    fault: Option<Fault>,
+}
+
+/// Writes the words if the buffer is long enough for all.
+fn fill(answer: &mut [u64], words: &[u64]) {
+    if answer.len() >= words.len() {
+        answer[..words.len()].copy_from_slice(words);
+    }
+}
+
+/// Start and length of a field.
+fn span(start: usize, bytes: &[u8]) -> [u64; 2] {
+    [start as u64, bytes.len() as u64]
+}
+
+fn small(number: u64) -> Option<u8> {
+    u8::try_from(number).ok()
+}
+
+fn int(number: u64) -> Option<u32> {
+    u32::try_from(number).ok()
+}
+
+fn request_from(numbers: &[u64], parts: RequestParts) -> Option<Request> {
+    let number = |at: usize| numbers.get(at).copied();
+    Some(Request {
+        id: number(0)?,
+        version: small(number(1)?)?,
+        operation: small(number(2)?)?,
+        flags: int(number(3)?)?,
+        intelligence: small(number(4)?)?,
+        topology: int(number(5)?)?,
+        lifespan: int(number(6)?)?,
+        max_idle: int(number(7)?)?,
+        entry_version: number(8)?,
+        name: parts.name.to_vec(),
+        key: parts.key.to_vec(),
+        value: parts.value.to_vec(),
+    })
+}
+
+fn reply_from(numbers: &[u64], parts: ReplyParts) -> Option<Reply> {
+    let number = |at: usize| numbers.get(at).copied();
+    Some(Reply {
+        id: number(0)?,
+        operation: small(number(1)?)?,
+        status: small(number(2)?)?,
+        version: number(3)?,
+        value: parts.value.to_vec(),
+        text: parts.text.to_vec(),
+    })
+}
+
+/// One call: the code, the bytes taken, and the bytes sent.
+type Called = (u64, usize, usize);
+
+impl Echo {
+    pub fn new() -> Echo {
+        Echo { fault: None }
+    }
+
+    pub fn with(fault: Fault) -> Echo {
+        Echo { fault: Some(fault) }
+    }
+
+    fn has(&self, fault: Fault) -> bool {
+        self.fault == Some(fault)
+    }
+
+    fn faulty_read(&self, code: u64, input: &[u8]) -> u64 {
+        match self.fault {
+            Some(Fault::TakesOneMore) if code >= GOOD => code + 1,
+            Some(Fault::SixForFive) if code == 5 => 6,
+            Some(Fault::ShortIsMore) if code == 8 && input.len() < 9 => 0,
+            _ => code,
+        }
+    }
+
+    /// A number written at the end of a message that has room behind it.
+    fn after_writing(&self, code: u64, out: &mut [u8]) -> u64 {
+        let length = code.saturating_sub(GOOD) as usize;
+        if self.has(Fault::WritesBehind) && code >= GOOD && length < out.len() {
+            out[length] = out[length].wrapping_add(1);
+        }
+        code
+    }
+
+    /// The table that the memory holds, if it is one.
+    fn table(&self, memory: &[u8]) -> Option<Table> {
+        let mut memory = memory.to_vec();
+        if memory.len() != SIZE {
+            return None;
+        }
+        self.forgive(&mut memory);
+        let behind = row_at(number(&memory, COUNT).min(MOST_KEYS as u64) as usize);
+        if self.has(Fault::LooksBehind) && behind < SIZE && memory[SIZE - 1] == 0x55 {
+            return None;
+        }
+        let table = memory::decode(&memory)?;
+        reference::is_table(&table).then_some(table)
+    }
+
+    /// Mends what a faulty check of the table does not see.
+    fn forgive(&self, memory: &mut [u8]) {
+        let count = number(memory, COUNT).min(MOST_KEYS as u64) as usize;
+        match self.fault {
+            Some(Fault::LastTooLarge) => cap(memory, LAST, LARGEST_VERSION),
+            Some(Fault::VersionAboveLast) if count > 0 => {
+                let greatest = number(memory, row_at(count - 1));
+                put_number(memory, LAST, greatest.max(number(memory, LAST)));
+            }
+            Some(Fault::CountCutToByte) => cut_to(memory, COUNT, 0xff),
+            Some(Fault::EqualKeys) => spread_keys(memory, count),
+            Some(Fault::AnyOrder) => sort_rows(memory, count),
+            _ => self.forgive_rows(memory, count),
+        }
+    }
+
+    fn forgive_rows(&self, memory: &mut [u8], count: usize) {
+        for row in 0..count {
+            let at = row_at(row);
+            match self.fault {
+                Some(Fault::LateDeadline) => cap(memory, at + DEADLINE, LARGEST_DEADLINE),
+                Some(Fault::VersionZero) if row == 0 && number(memory, at) == 0 => {
+                    put_number(memory, at, 1);
+                }
+                Some(Fault::LengthCutToByte) => {
+                    cut_to(memory, at + memory::KEY_LENGTH, 0xff);
+                    cut_to(memory, at + memory::VALUE_LENGTH, 0x1ff);
+                }
+                _ => {}
+            }
+        }
+    }
+
+    fn one_call(&self, input: &[u8], memory: &mut [u8], second: u32, reply: &mut [u8]) -> Called {
+        let least = LEAST_ROOM - usize::from(self.has(Fault::RoomOneLess));
+        if reply.len() < least {
+            return (12, 0, 0);
+        }
+        let Some(table) = self.table(memory) else {
+            return (13, 0, 0);
+        };
+        let (code, taken, message) = self.answer(input, memory, second, table);
+        let sent = message.len();
+        reply[..sent].copy_from_slice(&message);
+        if self.has(Fault::ReplyTouchesBehind) && sent > 0 {
+            reply[sent] ^= 1;
+        }
+        if self.has(Fault::RefusedTouchesMemory) && code != GOOD && code != 0 {
+            memory[SIZE - 1] ^= 1;
+        }
+        (code, taken, sent)
+    }
+
+    fn answer(
+        &self,
+        input: &[u8],
+        memory: &mut [u8],
+        second: u32,
+        mut table: Table,
+    ) -> (u64, usize, Vec<u8>) {
+        match read_request(input) {
+            Read::More => {
+                let taken = if self.has(Fault::MoreTakes) { input.len() } else { 0 };
+                (0, taken, Vec::new())
+            }
+            Read::Refused(refusal) => {
+                let id = error_id(refusal, input);
+                let message = reference::reply::error_bytes(id, refusal);
+                (u64::from(refusal), 0, message)
+            }
+            Read::Whole(request, taken) => {
+                let (message, verdict) = self.step(request, second, &mut table);
+                if verdict == Verdict::Served {
+                    self.put_back(&table, memory);
+                }
+                (verdict_code(verdict), taken, message)
+            }
+        }
+    }
+
+    fn put_back(&self, table: &Table, memory: &mut [u8]) {
+        memory::encode(table, memory);
+        let count = table.entries.len();
+        if self.has(Fault::LeavesOrder) && count > 1 {
+            swap_rows(memory, count - 1, count - 2);
+        }
+    }
+
+    /// The reference's step with a fault before or after it.
+    fn step(&self, mut request: Request, second: u32, table: &mut Table) -> (Vec<u8>, Verdict) {
+        if let Some(refusal) = self.wrong_refusal(&request, table) {
+            let message = reference::reply::error_bytes(request.id, refusal);
+            return (message, Verdict::Refused(refusal));
+        }
+        self.change_request(&mut request, table);
+        let before = table.clone();
+        let answer = answer_request(&request, second, table);
+        self.change_table(&request, &before, table);
+        answer
+    }
+
+    fn wrong_refusal(&self, request: &Request, table: &Table) -> Option<u8> {
+        let writes = sends_value(request.operation) && request.name.is_empty();
+        let first = request.value.first().copied().unwrap_or(0);
+        match self.fault {
+            Some(Fault::FullRefusesOverwrite) if writes && table.entries.len() == MOST_KEYS => {
+                Some(10)
+            }
+            Some(Fault::LastVersionEarly) if writes && table.last == LARGEST_VERSION - 1 => {
+                Some(11)
+            }
+            Some(Fault::ValueSteersReply) if writes && first == 0xff => Some(10),
+            _ => None,
+        }
+    }
+
+    fn change_request(&self, request: &mut Request, table: &Table) {
+        let held = table.entries.get(&request.key).map_or(0, |e| e.version);
+        match self.fault {
+            Some(Fault::OldValueAlways) => request.flags |= 1,
+            Some(Fault::ServesAnyName) => request.name.clear(),
+            Some(Fault::VersionAtLeast)
+                if sends_entry_version(request.operation) && request.entry_version >= held =>
+            {
+                request.entry_version = held;
+            }
+            _ => {}
+        }
+    }
+
+    fn change_table(&self, request: &Request, before: &Table, table: &mut Table) {
+        let wrote = table.last > before.last;
+        match self.fault {
+            Some(Fault::ClearRestarts) if request.operation == CLEAR => table.last = 0,
+            Some(Fault::RemovalUsesVersion)
+                if request.operation == REMOVE && table.last < LARGEST_VERSION =>
+            {
+                table.last += 1;
+            }
+            Some(Fault::DeadlineWraps) if wrote => {
+                for entry in table.entries.values_mut() {
+                    entry.deadline &= 0xffff_ffff;
+                }
+            }
+            Some(Fault::ValueSteersVersion)
+                if wrote && request.value.len() == 1 && request.value[0] > 0xf0 =>
+            {
+                table.last = LARGEST_VERSION;
+            }
+            _ => {}
+        }
+    }
+
+    fn stream_goes_on(&self, code: u64) -> bool {
+        let first = if self.has(Fault::StopsAtNine) { 10 } else { 9 };
+        code == GOOD || (first..=11).contains(&code)
+    }
+
+    fn line_limit(&self) -> usize {
+        LINE_LIMIT + usize::from(self.has(Fault::LimitOneMore))
+    }
+
+    /// The output line for a line, which leads the memory on.
+    fn line(&self, line: &[u8], memory: &mut [u8]) -> Vec<u8> {
+        let mut table = memory::decode(memory).unwrap_or_default();
+        let mut out = serve_line(line, &mut table);
+        if self.has(Fault::LimitOneMore) && line.len() == LINE_LIMIT + 1 {
+            out = serve_line(&line[..LINE_LIMIT - 1], &mut table);
+        }
+        if self.has(Fault::ServesBeforeFifteen) && out == b"refused 15" {
+            table.last = (table.last + 1).min(LARGEST_VERSION);
+        }
+        memory::encode(&table, memory);
+        out.push(LINE_END);
+        out
+    }
+
+    /// The next line of the rest: its length with its end, and the line. A
+    /// line that is cut counts only if nothing comes behind it.
+    fn next_line<'a>(&self, rest: &'a [u8], last: bool) -> Option<(usize, &'a [u8])> {
+        match rest.iter().position(|byte| *byte == LINE_END) {
+            Some(end) => Some((end + 1, &rest[..end])),
+            None if last && !rest.is_empty() => Some((rest.len(), rest)),
+            None => None,
+        }
+    }
+}
+
+impl Default for Echo {
+    fn default() -> Echo {
+        Echo::new()
+    }
+}
+
+fn cap(memory: &mut [u8], at: usize, greatest: u64) {
+    put_number(memory, at, number(memory, at).min(greatest));
+}
+
+fn cut_to(memory: &mut [u8], at: usize, bits: u64) {
+    put_number(memory, at, number(memory, at) & bits);
+}
+
+/// Gives each key of full length that is there twice another last byte.
+fn spread_keys(memory: &mut [u8], count: usize) {
+    for row in 1..count {
+        let at = row_at(row);
+        let key = at + memory::KEY_LENGTH..at + memory::VALUE;
+        let before = row_at(row - 1) + memory::KEY_LENGTH..row_at(row - 1) + memory::VALUE;
+        if memory[key.clone()] == memory[before] && memory[key.start + 7] > 0 {
+            let length = memory[key.start + 7] as usize;
+            memory[at + memory::KEY + length - 1] ^= 0x80;
+        }
+    }
+}
+
+fn swap_rows(memory: &mut [u8], one: usize, two: usize) {
+    for at in 0..memory::ROW {
+        memory.swap(row_at(one) + at, row_at(two) + at);
+    }
+}
+
+fn sort_rows(memory: &mut [u8], count: usize) {
+    for end in (1..count).rev() {
+        for row in 0..end {
+            if number(memory, row_at(row)) > number(memory, row_at(row + 1)) {
+                swap_rows(memory, row, row + 1);
+            }
+        }
+    }
+}
+
+impl Subject for Echo {
+    fn read_request(&mut self, input: &[u8], answer: &mut [u64]) -> u64 {
+        let read = read_request(input);
+        let code = self.faulty_read(read_code(&read), input);
+        let Read::Whole(request, taken) = read else {
+            if self.has(Fault::AnswersMore) && code == 0 {
+                fill(answer, &[0]);
+            }
+            return code;
+        };
+        if self.has(Fault::LengthOfOneByte) && request.value.len() > 127 {
+            return 5;
+        }
+        if self.has(Fault::AnswersInShortBuffer) && answer.len() == 15 {
+            answer[0] = taken as u64;
+        }
+        let fields = of_request(&request);
+        let off = usize::from(self.has(Fault::SpanOff));
+        let spans = [
+            span(place(&fields, Kind::Name), &request.name),
+            span(place(&fields, Kind::Key), &request.key),
+            span(place(&fields, Kind::Value) + off, &request.value),
+        ];
+        let words = [&request_numbers(&request, taken)[..], &spans.concat()].concat();
+        fill(answer, &words);
+        code
+    }
+
+    fn write_request(&mut self, out: &mut [u8], numbers: &[u64], parts: RequestParts) -> u64 {
+        let mut numbers = numbers.to_vec();
+        if self.has(Fault::CutsNumbers) && numbers.len() > 1 {
+            numbers[1] &= 0xff;
+        }
+        if self.has(Fault::RoomBeforeRules) && out.is_empty() {
+            return 12;
+        }
+        let Some(mut request) = request_from(&numbers, parts) else {
+            return 16;
+        };
+        if self.has(Fault::WritesUnsentFields) && !sends_value(request.operation) {
+            request.lifespan = 0;
+        }
+        let code = write_code(write_request(&request, out));
+        if self.has(Fault::NeedsOneMore) && code == GOOD + out.len() as u64 {
+            return 12;
+        }
+        self.after_writing(code, out)
+    }
+
+    fn read_reply(&mut self, input: &[u8], asked: Asked, answer: &mut [u64]) -> u64 {
+        let flag = asked.flag || self.has(Fault::IgnoresFlag);
+        let read = read_reply(asked.op, flag, input);
+        let code = read_code(&read);
+        if self.has(Fault::ReplyTextUnchecked) && code == 7 {
+            return 0;
+        }
+        if self.has(Fault::LooksBeforeOperation) && code == 4 && input.is_empty() {
+            return 0;
+        }
+        let Read::Whole(reply, taken) = read else {
+            return code;
+        };
+        let fields = of_reply(asked, &reply);
+        let spans = [
+            span(place(&fields, Kind::Value), &reply.value),
+            span(place(&fields, Kind::Text), &reply.text),
+        ];
+        let words = [&reply_numbers(&reply, taken)[..], &spans.concat()].concat();
+        fill(answer, &words);
+        code
+    }
+
+    fn write_reply(
+        &mut self,
+        out: &mut [u8],
+        asked: Asked,
+        numbers: &[u64],
+        parts: ReplyParts,
+    ) -> u64 {
+        let Some(reply) = reply_from(numbers, parts) else {
+            return 16;
+        };
+        let code = write_code(write_reply(asked.op, asked.flag, &reply, out));
+        self.after_writing(code, out)
+    }
+
+    fn serve(
+        &mut self,
+        input: &[u8],
+        table: &mut [u8],
+        second: u32,
+        reply: &mut [u8],
+        answer: &mut [u64],
+    ) -> u64 {
+        let (code, taken, sent) = self.one_call(input, table, second, reply);
+        fill(answer, &[taken as u64, sent as u64]);
+        code
+    }
+
+    fn serve_stream(
+        &mut self,
+        input: &[u8],
+        table: &mut [u8],
+        second: u32,
+        reply: &mut [u8],
+        answer: &mut [u64],
+    ) -> u64 {
+        let (mut taken, mut sent, mut calls) = (0, 0, 0);
+        loop {
+            let (code, more, length) =
+                self.one_call(&input[taken..], table, second, &mut reply[sent..]);
+            taken += more;
+            sent += length;
+            calls += u64::from(length > 0 || !self.has(Fault::CountsReplies));
+            if self.stream_goes_on(code) {
+                continue;
+            }
+            fill(answer, &[taken as u64, sent as u64, calls]);
+            let hidden = self.has(Fault::HidesTwelve) && code == 12 && calls > 1;
+            let unchecked = self.has(Fault::ChecksOnce) && code == 13;
+            return if hidden || unchecked { GOOD } else { code };
+        }
+    }
+
+    fn is_table(&mut self, table: &[u8]) -> bool {
+        self.table(table).is_some()
+    }
+
+    fn make(&mut self, table: &mut [u8]) -> bool {
+        if table.len() != SIZE && !(self.has(Fault::MakesAnyLength) && table.len() > SIZE) {
+            return false;
+        }
+        put_number(table, COUNT, 0);
+        put_number(table, LAST, 0);
+        true
+    }
+}
+
+/// The most bytes of an output line, its end included.
+const OUTPUT_LINE: usize = 2 * 279 + 1;
+
+impl ServesLines for Echo {
+    fn serve_lines(
+        &mut self,
+        input: &[u8],
+        table: &mut [u8],
+        out: &mut [u8],
+        piece: Piece,
+        answer: &mut [u64],
+    ) -> u64 {
+        if out.len() < OUTPUT_LINE {
+            return 12;
+        }
+        if self.table(table).is_none() && !self.has(Fault::ChecksNoTable) {
+            return 13;
+        }
+        let (mut taken, mut written, mut passing) = (0, 0, piece.passing);
+        while taken < input.len() && out.len() - written >= OUTPUT_LINE {
+            let rest = &input[taken..];
+            let next = self.next_line(rest, piece.last);
+            if passing {
+                taken += next.map_or(rest.len(), |(length, _)| length);
+                passing = next.is_none();
+                continue;
+            }
+            let too_long = next.is_none() && rest.len() > self.line_limit();
+            let (length, line) = match next {
+                Some(next) => next,
+                None if too_long => (rest.len(), rest),
+                None => break,
+            };
+            let line = self.line(line, table);
+            out[written..written + line.len()].copy_from_slice(&line);
+            written += line.len();
+            taken += length;
+            passing = too_long && !self.has(Fault::LongLineTwice);
+            if self.has(Fault::EndsAsRead) && input[taken - 1] != LINE_END {
+                written -= 1;
+            }
+        }
+        fill(
+            answer,
+            &[taken as u64, written as u64, u64::from(passing)],
+        );
+        GOOD
+    }
+}
+
+impl Stores for Echo {
+    fn store(&mut self, table: &[u8], out: &mut [u8]) -> u64 {
+        if self.has(Fault::RoomBeforeTable) && out.len() < 19 {
+            return 12;
+        }
+        let Some(table) = self.table(table) else {
+            return 13;
+        };
+        let file = store(&table);
+        let needed = file.len() + usize::from(self.has(Fault::StoreNeedsOneMore));
+        if out.len() < needed {
+            return 12;
+        }
+        out[..file.len()].copy_from_slice(&file);
+        GOOD + file.len() as u64
+    }
+
+    fn load(&mut self, file: &[u8], spare: &mut [u8], table: &mut [u8]) -> bool {
+        let mut file = file.to_vec();
+        if self.has(Fault::LoadsUpperCase) {
+            file.make_ascii_lowercase();
+        }
+        if self.has(Fault::LoadsWithoutEnd) && file.last() != Some(&LINE_END) {
+            file.push(LINE_END);
+        }
+        if spare.len() != SIZE || table.len() != SIZE {
+            return false;
+        }
+        if self.has(Fault::LoadsLateDeadline) {
+            file = with_early_deadlines(&file);
+        }
+        let Some(loaded) = load(&file) else {
+            if self.has(Fault::LoadTouchesOld) {
+                table[SIZE - 1] ^= 1;
+            }
+            return false;
+        };
+        memory::encode(&loaded, table);
+        true
+    }
+}
+
+/// The file with each deadline of ten digits and more made 0.
+fn with_early_deadlines(file: &[u8]) -> Vec<u8> {
+    let mut lines: Vec<Vec<u8>> = file
+        .split_inclusive(|byte| *byte == LINE_END)
+        .map(<[u8]>::to_vec)
+        .collect();
+    for line in lines.iter_mut().skip(1) {
+        if line.len() > 32 && line[23] != b'0' {
+            line[16..32].fill(b'0');
+        }
+    }
+    lines.concat()
+}

@@ -2,7 +2,6 @@
 
 use reference::fields::{KEY_LIMIT, NAME_LIMIT, TEXT_LIMIT, VALUE_LIMIT};
 use reference::map::{LARGEST_DEADLINE, LARGEST_VERSION, MOST_KEYS};
-use reference::number::LARGEST_VLONG;
 use reference::operation::{
     body, may_answer, sends_entry_version, sends_key, sends_value, Body, ERROR, SERVED,
 };

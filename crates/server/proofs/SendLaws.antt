@@ -1,0 +1,154 @@
+-- Replies that fit are written, and the reply to a request is the one that the map gives. Assumes nothing.
+use mathlib.Core.Path.{_≡_, refl, sym, ap, _∙_}
+use mathlib.Core.List.{List, [], _∷_, _++_, append-nil}
+use mathlib.Core.Bool.{Bool, true, false}
+use mathlib.Core.Option.{Option, none, some}
+use Prim.Native.Nat.{ℕ, _+_, _≤_, _<_}
+use native.Mathlib.Nat.{zero-add}
+use native.Mathlib.Omega.{arith}
+use lib.ListN.{length, drop, List·getD-eq-default}
+use lib.Seq.{sets, sets-eq}
+use lib.Dec.{eqb}
+use types.Run.{OneOf, miss}
+use denote.Enum.Declared.{tagOf}
+use borrow.Author.Tests.{ne-eqb}
+use Rattle.wire.specs.Codec.{Read, whole, more, refused, Codec, Valid, Bytes, byte, guard, seq, as-type}
+use Rattle.wire.specs.Number.{vLong}
+use Rattle.wire.specs.Write as wire
+use Rattle.wire.specs.Write.{send, written}
+use Rattle.wire.proofs.Laws.{after-whole, seq-valid, seq-laws, guard-laws, byte-laws}
+use Rattle.wire.proofs.NumberLaws.{valid, vLong-laws}
+use Rattle.wire.proofs.WriteLaws.{send-room}
+use Rattle.message.specs.declared.Operation.{Operation}
+use Rattle.message.specs.Operation.{codeOf}
+use Rattle.message.specs.Request.{Request, request}
+use Rattle.message.specs.Reply as m
+use Rattle.message.specs.Reply.{table, bodyAt, allowed, rowsOf, reply, errorReply}
+use Rattle.message.specs.Refusal.{refusal}
+use Rattle.message.proofs.ErrorLaws.{refusal-good}
+use Rattle.message.proofs.ReplySize.{error-most}
+use Rattle.map.specs.State.{Entry}
+use Rattle.map.specs.Step.{mostKeys, shows, wantsOld, held, answer}
+use Rattle.map.specs.Reply.{Piece, flat, pieces, entryOf, valueOf, replyTo, askedBy}
+use Rattle.map.proofs.Format.{pieces-reply, reply-valid, answer-most}
+use Rattle.table.specs.Memory as memory
+use Rattle.table.specs.Memory.{stateOf, Sound}
+use Rattle.table.specs.Found.{entryAt}
+use Rattle.request.specs.Answer.{start, idFound, idIn}
+use Rattle.reply.specs.Answer.{asked}
+use Rattle.reply.specs.Body.{formOf}
+use Rattle.reply.specs.declared.body.Form.{Form}
+use Rattle.reply.specs.declared.body.Form.the-variants as f
+use Rattle.reply.proofs.body.Form as form-code
+use Rattle.reply.proofs.BodyLaws.{code-small}
+use Rattle.stream.specs.Serve as stream
+use Rattle.stream.specs.Serve.{room, errorPieces}
+use Rattle.server.specs.declared.Answer.{Answer}
+use Rattle.server.specs.declared.plan.Held.{Held}
+use Rattle.server.specs.Answer.{Says, Sends}
+use Rattle.server.specs.Plan.{heldAt}
+use Rattle.server.specs.Act.{valueShown, entryShown, Planned}
+
+pub count : {m n : ℕ} → written m ≡ written n → m ≡ n
+count e = cc
+
+-- a message that fits is written, and its bytes are the pieces sent
+module _ {A : Type 0} (c : Codec A) (a : A) {x : wire.Sent} {old new : List ℕ} {ps : List Piece} {n : ℕ} {v : stream.Verdict} {r : Answer} where
+  pub sent : (x, new) ≡ send c a old → Valid c a → length (c .enc a) ≤ room → room ≤ length old → flat ps ≡ c .enc a
+      → ((m : ℕ) → x ≡ written m → Says n m v r) → Sends ps n v old new r
+  sent s g l o f h =
+      let b : length (c .enc a) ≤ length old = omega arith in
+      let e : _≡_ {A = wire.Sent × List ℕ} (x, new) (written (length (c .enc a)), c .enc a ++ drop (length (c .enc a)) old) = s ∙ send-room c a old g (omega arith) in
+      let p : x ≡ written (length (c .enc a)) = ap (λ (z : wire.Sent × List ℕ). z .0) e in
+      let q : new ≡ c .enc a ++ drop (length (c .enc a)) old = ap (λ (z : wire.Sent × List ℕ). z .1) e in
+      let d : sets old 0 (c .enc a) ≡ c .enc a ++ drop (length (c .enc a)) old = sets-eq (c .enc a) old 0 (omega arith) ∙ rw zero-add in
+      record { says = rw f (h (length (c .enc a)) p); buffer = rw f (q ∙ sym d) }
+
+-- the error reply of a refusal
+pub error-sent : (k id : ℕ) {x : wire.Sent} {old new : List ℕ} {n : ℕ} {v : stream.Verdict} {r : Answer}
+    → 1 ≤ k → k ≤ 11 → id < 0x8000_0000_0000_0000 → room ≤ length old → (x, new) ≡ send errorReply (refusal k id) old
+    → ((m : ℕ) → x ≡ written m → Says n m v r) → Sends (errorPieces k id) n v old new r
+unfolding flat
+error-sent k id l u i o s h =
+    let g = refusal-good k id l u i in
+    sent errorReply (refusal k id) s g (omega (arith, error-most (refusal k id) g)) o (append-nil (errorReply .enc (refusal k id))) h
+
+-- a row that no table holds has no value
+pub past-rows : (t : List ℕ) → Sound t → entryAt t mostKeys .value ≡ []
+unfolding entryAt memory.entry
+past-rows t s = rw (List·getD-eq-default (stateOf t .entries) (memory.entry [] [] 0 0) (s .table .few))
+
+-- a form that is not `Versioned` shows no version
+pub no-version : (g : Form) → OneOf (0 ∷ 1 ∷ 3 ∷ []) (tagOf form-code.the-type g) → (o : Option Entry) → 0 ≡ entryShown g o
+no-version g k none = refl
+no-version f.Nothing k (some e) = refl
+no-version (f.Value lim) k (some e) = refl
+no-version f.Versioned k (some e) = absurd (miss (0 ∷ 1 ∷ 3 ∷ []) 2 tt k)
+no-version f.Text k (some e) = refl
+
+-- what a form shows is what the map shows
+shown-same : (t : Bool) (b : m.Body) (o : Option Entry)
+    → (entryShown (formOf t b) o ≡ entryOf (shows t b o)) × (valueShown (formOf t b) o ≡ valueOf (shows t b o))
+unfolding shows
+shown-same t m.nothing none = (refl, refl)
+shown-same t m.nothing (some e) = (refl, refl)
+shown-same true m.old none = (refl, refl)
+shown-same true m.old (some e) = (refl, refl)
+shown-same false m.old none = (refl, refl)
+shown-same false m.old (some e) = (refl, refl)
+shown-same true m.oldNone none = (refl, refl)
+shown-same true m.oldNone (some e) = (refl, refl)
+shown-same false m.oldNone none = (refl, refl)
+shown-same false m.oldNone (some e) = (refl, refl)
+shown-same t m.value none = (refl, refl)
+shown-same t m.value (some e) = (refl, refl)
+shown-same t m.versioned none = (refl, refl)
+shown-same t m.versioned (some e) = (refl, refl)
+shown-same t m.text none = (refl, refl)
+shown-same t m.text (some e) = (refl, refl)
+
+-- the rows of a reply to an operation are the operation's
+rows-are : (o : Operation) → rowsOf o (codeOf o + 1) ≡ table o
+rows-are o = rw (ne-eqb (codeOf o + 1) 0x50 (λ e. omega (arith, code-small o)))
+
+-- the form of the reply to a request, by the status
+abbrev pub form : Request → ℕ → Form
+form q s = formOf (wantsOld q) (allowed (bodyAt s (rowsOf (q .op) (codeOf (q .op) + 1))))
+
+module _ {t : List ℕ} {q : Request} {y : Held} {s : ℕ} (g : Planned t q y s) where
+  -- the reply to a request, of an operation's code, a version and a value
+  abbrev made : ℕ → ℕ → List ℕ → m.Reply
+  made code e v = record { id = q .id; op = code + 1; status = s; entry = e; value = v; text = [] }
+
+  made-is : {code e : ℕ} {v : List ℕ} → code ≡ codeOf (q .op) → e ≡ entryShown (form q s) (heldAt t (q .args .key)) → v ≡ valueShown (form q s) (heldAt t (q .args .key))
+      → made code e v ≡ replyTo q (answer q (stateOf t))
+  unfolding answer held
+  made-is o e w =
+      let f = shown-same (wantsOld q) (allowed (bodyAt s (table (q .op)))) (heldAt t (q .args .key)) in
+      rw (g .status, o, e, w, rows-are (q .op), f .0, f .1)
+
+  pub reply-sent : {code e : ℕ} {v : List ℕ} {x : wire.Sent} {old new : List ℕ} {n : ℕ} {d : stream.Verdict} {r : Answer}
+      → code ≡ codeOf (q .op) → e ≡ entryShown (form q s) (heldAt t (q .args .key)) → v ≡ valueShown (form q s) (heldAt t (q .args .key))
+      → room ≤ length old → (x, new) ≡ send (reply (asked code (wantsOld q))) (made code e v) old
+      → ((m : ℕ) → x ≡ written m → Says n m d r) → Sends (pieces q (answer q (stateOf t))) n d old new r
+  reply-sent o e v l z h =
+      let p = pieces-reply q (stateOf t) in
+      let b = answer-most q (stateOf t) (g .valid) (g .sound .table) in
+      sent (reply (askedBy q)) (replyTo q (answer q (stateOf t))) (rw (made-is o e v, o) at z) (reply-valid q (stateOf t) (g .valid) (g .sound .table))
+      (omega (arith, ap length p)) l p h
+
+-- a message id is small
+found-small : (s : List ℕ) → Bytes s → (r : Read ℕ) → start .dec s ≡ r → idFound r < 0x8000_0000_0000_0000
+unfolding start as-type vLong
+found-small s b (whole i n) e =
+    let c = seq {A = ℕ} {B = λ _. ℕ} (guard (λ m. eqb m 0xa0) 1 byte) (λ _. vLong) in
+    let w = after-whole (c .dec s) _ i n e in
+    let x = seq-laws _ _ (guard-laws (λ m. eqb m 0xa0) 1 byte byte-laws) (λ _. vLong-laws) .exact s (w .val) (w .len) b (w .first) in
+    let z : w .val .1 ≡ i = cc (w .then) in
+    rw (← z) (valid 2 127 8 0 (w .val .1) (seq-valid _ _ (w .val) (x .good) .1) .1)
+found-small s b more e = omega arith
+found-small s b (refused k) e = omega arith
+
+pub id-small : (s : List ℕ) → Bytes s → idIn s < 0x8000_0000_0000_0000
+unfolding idIn
+id-small s b = found-small s b (start .dec s) refl

@@ -1,0 +1,41 @@
+-- `server::serve` meets its contract. Assumes nothing.
+use mathlib.Core.Path.{_∙_}
+use native.Mathlib.Omega.{arith}
+use borrow.Author.Tests.{not-true, not-false}
+use Rattle.server.proofs.StepLaws.{serves-short, serves-unsound, told-sound}
+use borrow.Author.Needs.{needs}
+use Rattle.server.proofs.serve.Statement.{statement}
+use Rattle.server.proofs.serve.Tie as tie
+
+returns : tie.Need-returns
+returns c = serves-short _ _ _ _ (c .before .if1 .taken) (c .still .ensures)
+
+returns-2 : tie.Need-returns-2
+returns-2 c =
+    let i = c .before in
+    let w = i .before in
+    serves-unsound _ _ _ _ (w .before .before .if1 .left) (told-sound _ _ (w .is-table .ensures) ∙ not-true _ (i .if2 .taken)) (c .still2 .ensures)
+
+serve-sound-requires : tie.Need-serve-sound-requires
+serve-sound-requires c κs =
+    let i = c .before .before in
+    let w = i .before in
+    (told-sound _ _ (w .is-table .ensures) ∙ not-false _ (i .if2 .left), (w .before .before .if1 .left, omega arith))
+
+returns-3 : tie.Need-returns-3
+returns-3 c = c .before .before .before .before .serve-sound .ensures
+
+pub serve-spec : {M : Type 1} → statement M
+serve-spec =
+    tie.close
+    (tie.spec
+    (λ c κs. search needs)
+    returns
+    (λ c κs. search needs)
+    (λ c κs. search needs)
+    (λ c. search needs)
+    returns-2
+    serve-sound-requires
+    (λ c. search needs)
+    (λ c. search needs)
+    returns-3)

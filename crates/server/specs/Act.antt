@@ -1,0 +1,70 @@
+-- What a request is given to be served with, and what a reply shows by the form of its body.
+use mathlib.Core.Path.{_≡_}
+use mathlib.Core.List.{List, []}
+use mathlib.Core.Bool.{cond}
+use mathlib.Core.Option.{Option, none, some}
+use Prim.Native.Nat.{ℕ, _<_, _≤_}
+use lib.ListN.{length}
+use lib.Dec.{eqb}
+use Rattle.wire.specs.Codec.{Valid}
+use Rattle.message.specs.Request.{Request, request}
+use Rattle.map.specs.State.{Entry, State, withEntries, without, hasKey}
+use Rattle.map.specs.Step as map
+use Rattle.map.specs.Step.{Context}
+use Rattle.map.specs.Reply.{pieces}
+use Rattle.reply.specs.declared.body.Form.{Form}
+use Rattle.reply.specs.declared.body.Form.the-variants as f
+use Rattle.table.specs.Memory.{stateOf, Sound}
+use Rattle.stream.specs.Serve.{room, served, onStep}
+use Rattle.stream.specs.Stream.{Done, Does}
+use Rattle.server.specs.declared.Answer.{Answer}
+use Rattle.server.specs.declared.plan.Held.{Held}
+use Rattle.server.specs.Answer.{Sends}
+use Rattle.server.specs.Plan.{Holds}
+
+abbrev pub at : ℕ → Context
+at second = record { second = second }
+
+-- the value and the version that a reply of the form shows of the entry held
+abbrev pub valueShown : Form → Option Entry → List ℕ
+valueShown g none = []
+valueShown f.Nothing (some e) = []
+valueShown (f.Value lim) (some e) = cond (eqb lim 0) [] (e .value)
+valueShown f.Versioned (some e) = e .value
+valueShown f.Text (some e) = []
+
+abbrev pub entryShown : Form → Option Entry → ℕ
+entryShown g none = 0
+entryShown f.Nothing (some e) = 0
+entryShown (f.Value lim) (some e) = 0
+entryShown f.Versioned (some e) = e .version
+entryShown f.Text (some e) = 0
+
+-- the state without the entry that has the key
+abbrev pub less : List ℕ → State → State
+less k st = withEntries (without (hasKey k) (st .entries)) st
+
+-- a well-formed request on a sound table, with what is held and the status planned
+pub record Planned (t : List ℕ) (q : Request) (held : Held) (s : ℕ) : Type 0 where
+  pub sound : Sound t
+  pub valid : Valid request q
+  pub holds : Holds t (q .args .key) held
+  pub status : map.planned q (stateOf t) .status ≡ s
+
+-- what a call has beside its request
+pub record Given (t out : List ℕ) (now : ℕ) : Type 0 where
+  pub sound : Sound t
+  pub room : room ≤ length out
+  pub second : now < 0x1_0000_0000
+
+-- the step of the request makes the change
+abbrev pub Acts : List ℕ → Request → ℕ → map.Change → Type 0
+Acts t q second d = map.step (at second) q (stateOf t) ≡ map.act (at second) q (stateOf t) (map.answer q (stateOf t)) d
+
+-- the map's reply to the request is sent
+abbrev pub Replies : List ℕ → Request → ℕ → List ℕ → List ℕ → Answer → Type 0
+Replies t q n old new a = Sends (pieces q (map.answer q (stateOf t))) n served old new a
+
+-- the request is performed, of which n bytes are taken
+abbrev pub Performs : List ℕ → Request → ℕ → ℕ → List ℕ → Done → Type 0
+Performs t q second n old d = Does (onStep q n (map.step (at second) q (stateOf t))) t old d

@@ -1,0 +1,238 @@
+// Serving a request on a table that is sound, with room for any reply.
+use crate::Answer;
+use crate::Verdict;
+use crate::plan;
+use crate::plan::Change;
+use crate::plan::Held;
+use field::EntryVersion;
+use field::Second;
+use message::Head;
+use message::Request;
+use message::Sent;
+use reply::body;
+use reply::body::Form;
+use request::RequestRead;
+use table::Table;
+ghost use mathlib.Core.Path.{_≡_};
+ghost use mathlib.Core.Bool.{true};
+ghost use mathlib.Core.List.{List};
+ghost use Prim.Native.Nat.{ℕ, _+_, _≤_, _<_};
+ghost use lib.ListN.{length};
+ghost use Rattle.wire.specs.Codec.{Valid};
+ghost use Rattle.wire.specs.Write.{written};
+ghost use Rattle.message.specs.Answer.{asSent};
+ghost use Rattle.message.specs.Request as message;
+ghost use Rattle.message.specs.Request.{request, requestOf, requestIn};
+ghost use Rattle.map.specs.Step as map;
+ghost use Rattle.table.specs.Memory.{stateOf, Sound};
+ghost use Rattle.table.specs.Found.{entryAt};
+ghost use Rattle.table.specs.Change as table;
+ghost use Rattle.stream.specs.Sound.{isSound};
+ghost use Rattle.stream.specs.Serve as stream;
+ghost use Rattle.stream.specs.Stream.{Serves};
+ghost use Rattle.server.specs.Answer.{asVerdict, callOf, doneOf, Says, Sends};
+ghost use Rattle.server.specs.Plan.{Holds, heldAt};
+ghost use Rattle.server.specs.Act.{at, valueShown, entryShown, less, Planned, Given, Acts, Replies, Performs};
+
+// Nothing taken and nothing sent.
+pub(crate) fn still(v: Verdict) -> Answer
+    ensures { λ r. ⌜ Says 0 0 (asVerdict v) r ⌝ }
+{
+    Answer {
+        taken: 0,
+        size: 0,
+        verdict: v,
+    }
+}
+
+// The answer with a reply that was written.
+fn ended(w: Sent, taken: usize, v: Verdict) -> Answer
+    ensures { λ r. ⌜ ((n : ℕ) → asSent w ≡ written n → Says taken n (asVerdict v) r) ⌝ }
+{
+    let size = match w {
+        Sent::Written(n) => n,
+        Sent::Refused(_) => 0,
+    };
+    Answer {
+        taken: taken,
+        size: size,
+        verdict: v,
+    }
+}
+
+// The error reply of a refusal.
+fn refuse(out: &mut [u8], id: u64, k: u8, taken: usize) -> Answer
+    requires { ⌜ stream.room ≤ length (now out) ⌝ }
+    requires { ⌜ id < 0x8000_0000_0000_0000 ⌝ }
+    requires { ⌜ 1 ≤ k ⌝ }
+    requires { ⌜ k ≤ 11 ⌝ }
+    ensures { λ r. ⌜ Sends (stream.errorPieces k id) taken (stream.refused k) (now (out .entry)) (now (out .exit)) r ⌝ }
+{
+    let w = reply::write_error(out, id, k);
+    ended(w, taken, Verdict::Refused(k))
+}
+
+// The row whose value a reply of the form shows; where it shows none, a row that no table holds.
+fn shown_row(f: Form, held: Held) -> usize
+    ensures { λ r. ⌜ ((t k : List ℕ) → Sound t → Holds t k held → entryAt t r .value ≡ valueShown f (heldAt t k)) ⌝ }
+{
+    let Held::Row(i, _) = held else {
+        return Table::KEYS;
+    };
+    match f {
+        Form::Nothing => Table::KEYS,
+        Form::Value(lim) => { if lim == 0 { Table::KEYS } else { i } }
+        Form::Versioned => i,
+        Form::Text => Table::KEYS,
+    }
+}
+
+// The version that a reply of the form shows, or 0.
+fn shown_version(f: Form, held: Held) -> EntryVersion
+    ensures { λ r. ⌜ ((t k : List ℕ) → Holds t k held → r .0 ≡ entryShown f (heldAt t k)) ⌝ }
+{
+    let Held::Row(_, v) = held else {
+        return EntryVersion(0);
+    };
+    match f {
+        Form::Versioned => v,
+        _ => EntryVersion(0),
+    }
+}
+
+// The reply of a status, with what it shows of the entry held.
+fn respond(out: &mut [u8], t: &[u8], h: Head, status: u8, held: Held, taken: usize) -> Answer
+    requires { ⌜ stream.room ≤ length (now out) ⌝ }
+    ensures { λ r. ⌜ ((name key value : List ℕ) → Planned (now (t .entry)) (requestOf h name key value) held status → Replies (now (t .entry)) (requestOf h name key value) taken (now (out .entry)) (now (out .exit)) r) ⌝ }
+{
+    let op = h.op;
+    let code = message::code(op);
+    let flag = h.flags % 2 == 1;
+    let awaited = code + 1;
+    let f = body::form_of(flag, body::body_at(op, awaited, status));
+    let a = message::Answer {
+        id: h.id,
+        op: awaited,
+        status: status,
+        entry: shown_version(f, held),
+    };
+    let value = table::value_at(t, shown_row(f, held));
+    let w = reply::write_reply(out, code, flag, a, value, b"");
+    ended(w, taken, Verdict::Served)
+}
+
+// The table without the row held.
+fn drop_row(t: &mut [u8], held: Held)
+    ensures { λ r. ⌜ ((k : List ℕ) → Sound (now (t .entry)) → Holds (now (t .entry)) k held → table.Changed (now (t .entry)) (now (t .exit)) (less k (stateOf (now (t .entry))))) ⌝ }
+{
+    let Held::Row(i, _) = held else {
+        return;
+    };
+    table::remove(t, i);
+}
+
+// "The deadline is that second plus the lifespan, or 0 if the lifespan is 0 or flag 0x0002 is set."
+fn deadline(h: Head, second: Second) -> Second
+    requires { ⌜ second .0 + h .lifespan < 0x2_0000_0000 ⌝ }
+    ensures { λ r. ⌜ ((name key value : List ℕ) → r .0 ≡ map.deadline (at (second .0)) (requestOf h name key value)) ⌝ }
+{
+    if h.lifespan == 0 {
+        return Second(0);
+    }
+    if h.flags / 2 % 2 == 1 {
+        return Second(0);
+    }
+    Second(second.0 + h.lifespan)
+}
+
+fn is_full(t: &[u8], held: Held) -> bool
+    ensures { λ r. ⌜ ((q : message.Request) → Holds (now (t .entry)) (q .args .key) held → r ≡ map.full q (stateOf (now (t .entry)))) ⌝ }
+{
+    let Held::Absent = held else {
+        return false;
+    };
+    Table::KEYS <= table::count(t)
+}
+
+// The request's entry, where a key and a version are left for it. The reply comes first, since an old value stands in the table.
+fn store(
+    input: &[u8],
+    r: Request,
+    n: usize,
+    t: &mut [u8],
+    second: Second,
+    out: &mut [u8],
+    status: u8,
+    held: Held,
+) -> Answer
+    requires { ⌜ Given (now t) (now out) (second .0) ⌝ }
+    requires { ⌜ Planned (now t) (requestIn (now input) r) held status ⌝ }
+    requires { ⌜ Acts (now t) (requestIn (now input) r) (second .0) map.store ⌝ }
+    ensures { λ a. ⌜ Performs (now (t .entry)) (requestIn (now (input .entry)) r) (second .0) n (now (out .entry)) (doneOf a (now (out .exit)) (now (t .exit))) ⌝ }
+{
+    let h = r.head;
+    if is_full(t, held) {
+        return refuse(out, h.id, 10, n);
+    }
+    if Table::LAST_VERSION <= table::last(t).0 {
+        return refuse(out, h.id, 11, n);
+    }
+    let a = respond(out, t, h, status, held, n);
+    drop_row(t, held);
+    table::add(t, r.key_in(input), r.value_in(input), deadline(h, second));
+    a
+}
+
+// A request that was read, which took n bytes.
+fn perform(
+    input: &[u8],
+    r: Request,
+    n: usize,
+    t: &mut [u8],
+    second: Second,
+    out: &mut [u8],
+) -> Answer
+    requires { ⌜ Given (now t) (now out) (second .0) ⌝ }
+    requires { ⌜ Valid request (requestIn (now input) r) ⌝ }
+    ensures { λ a. ⌜ Performs (now (t .entry)) (requestIn (now (input .entry)) r) (second .0) n (now (out .entry)) (doneOf a (now (out .exit)) (now (t .exit))) ⌝ }
+{
+    let h = r.head;
+    if r.name_in(input).len() != 0 {
+        return refuse(out, h.id, 9, n);
+    }
+    let held = plan::held_in(t, r.key_in(input));
+    let op = h.op;
+    let asked = h.entry;
+    let p = plan::plan_of(op, asked, held);
+    let status = p.status;
+    let c = p.change;
+    match c {
+        Change::Keep => respond(out, t, h, status, held, n),
+        Change::Store => store(input, r, n, t, second, out, status, held),
+        Change::Drop => {
+            let a = respond(out, t, h, status, held, n);
+            drop_row(t, held);
+            a
+        }
+        Change::Empty => {
+            let a = respond(out, t, h, status, held, n);
+            table::clear(t);
+            a
+        }
+    }
+}
+
+// The request at the front of the input.
+pub(crate) fn serve_sound(input: &[u8], t: &mut [u8], second: Second, out: &mut [u8]) -> Answer
+    requires { ⌜ isSound (now t) ≡ true ⌝ }
+    requires { ⌜ stream.room ≤ length (now out) ⌝ }
+    requires { ⌜ second .0 < 0x1_0000_0000 ⌝ }
+    ensures { λ a. ⌜ Serves (now (input .entry)) (now (t .entry)) (callOf (second .0) (now (out .entry))) (doneOf a (now (out .exit)) (now (t .exit))) ⌝ }
+{
+    let q = request::read_request(input);
+    match q {
+        RequestRead::Whole(r, n) => perform(input, r, n, t, second, out),
+        RequestRead::More => still(Verdict::More),
+        RequestRead::Refused(k) => refuse(out, request::read_id(input), k, 0),
+    }
+}

@@ -1,0 +1,220 @@
+//! The harness tried on `Echo`: without a fault no part finds a difference,
+//! and each fault is found by its part.
+
+use compare::echo::{Echo, Fault};
+use compare::run::{lines_part, parts, play, stored_part, Part};
+use compare::subject::GOOD;
+use compare::trial::Counts;
+
+const SEED: u64 = 11;
+
+fn all_parts() -> Vec<Part<Echo>> {
+    let mut all = parts();
+    all.push(lines_part());
+    all.push(stored_part());
+    all
+}
+
+fn part(name: &str) -> Part<Echo> {
+    let found = all_parts().into_iter().find(|part| part.name == name);
+    found.expect("there is such a part")
+}
+
+/// Plays so many rounds without a fault, which have to find nothing.
+fn sound_rounds(name: &str, rounds: u64) -> Counts {
+    let part = part(name);
+    let mut sum = Counts::default();
+    for round in 0..rounds {
+        match play(&part, &mut Echo::new(), SEED, round) {
+            Ok(counts) => sum.add(&counts),
+            Err(found) => panic!("{found}"),
+        }
+    }
+    sum
+}
+
+fn all_given(counts: &Counts, codes: &[u64]) {
+    for code in codes {
+        assert!(counts.given(*code) > 0, "{code} not in {}", counts.shown());
+    }
+}
+
+/// Plays rounds until the fault is found.
+fn is_found(name: &str, fault: Fault) {
+    let part = part(name);
+    let found = (0..600).any(|round| play(&part, &mut Echo::with(fault), SEED, round).is_err());
+    assert!(found, "{fault:?} is not found by {name}");
+}
+
+fn are_found(name: &str, faults: &[Fault]) {
+    for fault in faults {
+        is_found(name, *fault);
+    }
+}
+
+#[test]
+fn messages_give_every_code_of_reading_and_writing() {
+    let counts = sound_rounds("messages", 60);
+    all_given(&counts, &[GOOD, 0, 1, 2, 3, 4, 5, 6, 7, 8, 12, 16]);
+    assert_eq!(counts.messages, counts.inputs);
+}
+
+#[test]
+fn serving_gives_every_code_but_13() {
+    let counts = sound_rounds("serving", 200);
+    all_given(&counts, &[GOOD, 0, 1, 2, 3, 4, 5, 6, 7, 8, 9, 10, 11, 12]);
+}
+
+#[test]
+fn streams_give_every_code_but_13() {
+    let counts = sound_rounds("streams", 300);
+    all_given(&counts, &[GOOD, 0, 1, 2, 3, 4, 5, 6, 7, 8, 9, 10, 11, 12]);
+}
+
+#[test]
+fn tables_give_13_and_others() {
+    all_given(&sound_rounds("tables", 40), &[GOOD, 9, 12, 13]);
+}
+
+#[test]
+fn values_give_most_codes() {
+    let counts = sound_rounds("values", 200);
+    all_given(&counts, &[GOOD, 0, 1, 9, 10, 11, 12]);
+}
+
+#[test]
+fn lines_are_served_alike() {
+    all_given(&sound_rounds("lines", 40), &[GOOD, 12, 13]);
+}
+
+#[test]
+fn stored_tables_are_alike() {
+    all_given(&sound_rounds("stored", 30), &[GOOD, 12, 13, 17]);
+}
+
+#[test]
+fn faults_of_readers_are_found() {
+    use Fault::*;
+    let faults = [
+        TakesOneMore,
+        SixForFive,
+        ShortIsMore,
+        LengthOfOneByte,
+        SpanOff,
+        AnswersMore,
+        AnswersInShortBuffer,
+        IgnoresFlag,
+        ReplyTextUnchecked,
+        LooksBeforeOperation,
+    ];
+    are_found("messages", &faults);
+}
+
+#[test]
+fn faults_of_writers_are_found() {
+    use Fault::*;
+    let faults = [
+        WritesBehind,
+        RoomBeforeRules,
+        NeedsOneMore,
+        CutsNumbers,
+        WritesUnsentFields,
+    ];
+    are_found("messages", &faults);
+}
+
+#[test]
+fn faults_of_serving_are_found() {
+    use Fault::*;
+    let faults = [
+        OldValueAlways,
+        VersionAtLeast,
+        FullRefusesOverwrite,
+        ClearRestarts,
+        RemovalUsesVersion,
+        DeadlineWraps,
+        LastVersionEarly,
+        RefusedTouchesMemory,
+        ReplyTouchesBehind,
+        ServesAnyName,
+        RoomOneLess,
+        MoreTakes,
+        LeavesOrder,
+    ];
+    are_found("serving", &faults);
+}
+
+#[test]
+fn faults_of_streams_are_found() {
+    use Fault::*;
+    are_found("streams", &[StopsAtNine, CountsReplies, HidesTwelve]);
+    is_found("tables", ChecksOnce);
+}
+
+#[test]
+fn faults_of_the_table_check_are_found() {
+    use Fault::*;
+    let faults = [
+        EqualKeys,
+        VersionZero,
+        LateDeadline,
+        LastTooLarge,
+        VersionAboveLast,
+        AnyOrder,
+        LooksBehind,
+        CountCutToByte,
+        LengthCutToByte,
+        MakesAnyLength,
+    ];
+    are_found("tables", &faults);
+}
+
+#[test]
+fn values_that_steer_are_found() {
+    are_found(
+        "values",
+        &[Fault::ValueSteersReply, Fault::ValueSteersVersion],
+    );
+}
+
+#[test]
+fn faults_of_lines_are_found() {
+    use Fault::*;
+    let faults = [
+        LongLineTwice,
+        EndsAsRead,
+        ServesBeforeFifteen,
+        ChecksNoTable,
+        LimitOneMore,
+    ];
+    are_found("lines", &faults);
+}
+
+#[test]
+fn faults_of_stored_tables_are_found() {
+    use Fault::*;
+    let faults = [
+        StoreNeedsOneMore,
+        RoomBeforeTable,
+        LoadsUpperCase,
+        LoadsWithoutEnd,
+        LoadTouchesOld,
+        LoadsLateDeadline,
+    ];
+    are_found("stored", &faults);
+}
+
+#[test]
+fn a_difference_is_told_in_full_and_can_be_played_again() {
+    let part = part("serving");
+    let mut echo = Echo::with(Fault::ServesAnyName);
+    let found = (0..50).find_map(|round| play(&part, &mut echo, SEED, round).err());
+    let text = found.expect("the fault is found").to_string();
+    for word in ["expected: 9", "got: 256", "input: ", "table before: ", "seed: 11"] {
+        assert!(text.contains(word), "{word} is not in {text}");
+    }
+    let round = text.split("again 11 serving ").nth(1).expect("a round");
+    let round = round.trim().parse().expect("a number");
+    let again = play(&part, &mut echo, SEED, round).err().expect("a difference");
+    assert_eq!(again.to_string(), text);
+}

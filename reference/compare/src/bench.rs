@@ -1,0 +1,546 @@
+//! Benchmarks: medians of several rounds. In each round the subject, the
+//! reference and a memory copy of the same bytes are measured one after the
+//! other, so that all meet the same conditions.
+
+use std::hint::black_box;
+use std::time::{Duration, Instant};
+
+use reference::hex::to_digits;
+use reference::operation::{GET, PUT};
+use reference::{Entry, Read, Reply, Request, Table};
+
+use crate::chance::Chance;
+use crate::fields::{join, of_reply, of_request};
+use crate::memory::{self, SIZE};
+use crate::messages::{reply_numbers, request_numbers};
+use crate::subject::{
+    Asked, Piece, ReplyParts, RequestParts, ServesLines, Subject, GOOD, LINES_WORDS, REPLY_WORDS,
+    REQUEST_WORDS, SERVE_WORDS, STREAM_WORDS,
+};
+
+/// The rounds whose median is told.
+const ROUNDS: usize = 21;
+/// The entries of the table.
+const ENTRIES: usize = 128;
+/// The requests of a stream and the lines of a file.
+const REQUESTS: usize = 1000;
+/// The calls on one message in a round.
+const CALLS: usize = 10_000;
+/// The calls that check the table in a round.
+const CHECKS: usize = 128;
+const SECOND: u32 = 5;
+const REPLY_ROOM: usize = 512;
+
+/// What is said above the table of results.
+pub const CONDITIONS: &str = "\
+Medians of 21 rounds in nanoseconds for one message, request, check or line.
+The table has 128 entries with keys of 32 bytes, 24 of them the same, and
+values of 256 bytes. Cleared before each round: the table is set back to these
+entries, reply and output buffers are filled with zeros. Not cleared: the
+caches of the processor, so all is warm. Reading of the reference copies name,
+key and value, that of the library does not. serve_stream of the library checks
+the table once a stream, that of the reference at each request; serve of both
+checks it at each call. `copy` is a memory copy of the same bytes: those read
+and those written.";
+
+/// One line of the results, in nanoseconds for one unit.
+pub struct Row {
+    name: &'static str,
+    bytes: usize,
+    subject: f64,
+    reference: f64,
+    copy: f64,
+}
+
+fn median(mut times: Vec<Duration>, units: usize) -> f64 {
+    times.sort();
+    times[times.len() / 2].as_nanos() as f64 / units as f64
+}
+
+/// What is measured: how many units a round has, and the bytes that a copy
+/// moves for `copies` of them at a time.
+struct Task<'a> {
+    name: &'static str,
+    units: usize,
+    copied: &'a [u8],
+    copies: usize,
+}
+
+fn timed(body: impl FnOnce()) -> Duration {
+    let start = Instant::now();
+    body();
+    start.elapsed()
+}
+
+fn copy_time(task: &Task, room: &mut [u8]) -> Duration {
+    timed(|| {
+        for _ in 0..task.units / task.copies {
+            room.copy_from_slice(black_box(task.copied));
+            black_box(&mut *room);
+        }
+    })
+}
+
+/// Measures all three in turn. Each of the two bodies clears first and gives
+/// the time of its round without that.
+fn measured(
+    task: Task,
+    mut subject: impl FnMut() -> Duration,
+    mut reference: impl FnMut() -> Duration,
+) -> Row {
+    let mut times = [Vec::new(), Vec::new(), Vec::new()];
+    let mut room = vec![0; task.copied.len()];
+    for _ in 0..ROUNDS {
+        times[0].push(subject());
+        times[1].push(reference());
+        times[2].push(copy_time(&task, &mut room));
+    }
+    let [subject, reference, copy] = times.map(|times| median(times, task.units));
+    Row {
+        name: task.name,
+        bytes: task.copied.len() / task.copies,
+        subject,
+        reference,
+        copy,
+    }
+}
+
+/// The table and the keys it holds.
+struct Setup {
+    table: Table,
+    memory: Vec<u8>,
+    keys: Vec<Vec<u8>>,
+    chance: Chance,
+}
+
+impl Setup {
+    fn new() -> Setup {
+        let mut chance = Chance::new(1);
+        let front = chance.bytes(24);
+        let mut table = Table::default();
+        let mut keys = Vec::new();
+        for at in 1..=ENTRIES as u64 {
+            let key = [&front[..], &at.to_be_bytes()].concat();
+            let entry = Entry {
+                value: chance.bytes(256),
+                version: at,
+                deadline: 0,
+            };
+            table.entries.insert(key.clone(), entry);
+            keys.push(key);
+        }
+        table.last = ENTRIES as u64;
+        let mut memory = vec![0; SIZE];
+        memory::encode(&table, &mut memory);
+        Setup {
+            table,
+            memory,
+            keys,
+            chance,
+        }
+    }
+
+    /// A request for a held key, with a value if it is a put.
+    fn request(&mut self, operation: u8) -> Request {
+        Request {
+            id: 1000 + self.chance.below(10_000) as u64,
+            version: 12,
+            operation,
+            intelligence: 1,
+            key: self.chance.pick(&self.keys),
+            value: self.chance.bytes(if operation == PUT { 256 } else { 0 }),
+            ..Request::default()
+        }
+    }
+
+    /// Requests of which so many in ten are puts.
+    fn requests(&mut self, puts: usize) -> Vec<Request> {
+        let operation = |at: usize| if at % 10 < puts { PUT } else { GET };
+        (0..REQUESTS)
+            .map(|at| self.request(operation(at)))
+            .collect()
+    }
+}
+
+fn bytes_of(requests: &[Request]) -> Vec<u8> {
+    requests
+        .iter()
+        .flat_map(|request| join(&of_request(request)))
+        .collect()
+}
+
+/// All benchmarks but that of request files.
+pub fn rows<S: Subject>(subject: &mut S) -> Vec<Row> {
+    let mut setup = Setup::new();
+    let gets = bytes_of(&setup.requests(0));
+    let puts = bytes_of(&setup.requests(10));
+    let mixed = bytes_of(&setup.requests(1));
+    vec![
+        read_request(subject, &mut setup),
+        write_request(subject, &mut setup),
+        read_reply(subject, &mut setup),
+        write_reply(subject, &mut setup),
+        stream(subject, &setup, "serve_stream, get", &gets),
+        stream(subject, &setup, "serve_stream, put over a held key", &puts),
+        stream(
+            subject,
+            &setup,
+            "serve_stream, nine gets to one put",
+            &mixed,
+        ),
+        one_get(subject, &mut setup),
+        check(subject, &setup),
+    ]
+}
+
+fn read_request<S: Subject>(subject: &mut S, setup: &mut Setup) -> Row {
+    let bytes = join(&of_request(&setup.request(PUT)));
+    let mut answer = [0; REQUEST_WORDS];
+    let task = Task {
+        name: "read_request, a put",
+        units: CALLS,
+        copied: &bytes,
+        copies: 1,
+    };
+    let library = || {
+        timed(|| {
+            for _ in 0..CALLS {
+                black_box(subject.read_request(black_box(&bytes), &mut answer));
+            }
+        })
+    };
+    let reference = || {
+        timed(|| {
+            for _ in 0..CALLS {
+                black_box(reference::read_request(black_box(&bytes)));
+            }
+        })
+    };
+    measured(task, library, reference)
+}
+
+fn write_request<S: Subject>(subject: &mut S, setup: &mut Setup) -> Row {
+    let request = setup.request(PUT);
+    let bytes = join(&of_request(&request));
+    let numbers = &request_numbers(&request, 0)[1..];
+    let parts = RequestParts {
+        name: &request.name,
+        key: &request.key,
+        value: &request.value,
+    };
+    let mut out = [0; REPLY_ROOM];
+    let mut other = [0; REPLY_ROOM];
+    let task = Task {
+        name: "write_request, a put",
+        units: CALLS,
+        copied: &bytes,
+        copies: 1,
+    };
+    let library = || {
+        out.fill(0);
+        timed(|| {
+            for _ in 0..CALLS {
+                black_box(subject.write_request(black_box(&mut out), numbers, parts));
+            }
+        })
+    };
+    let reference = || {
+        other.fill(0);
+        timed(|| {
+            for _ in 0..CALLS {
+                let written = reference::write_request(black_box(&request), &mut other);
+                black_box(written.is_ok());
+            }
+        })
+    };
+    measured(task, library, reference)
+}
+
+/// The reply to a get, with a value of 256 bytes.
+fn reply(setup: &mut Setup) -> (Asked, Reply) {
+    let asked = Asked {
+        op: GET,
+        flag: false,
+    };
+    let reply = Reply {
+        id: 1000,
+        operation: GET + 1,
+        value: setup.chance.bytes(256),
+        ..Reply::default()
+    };
+    (asked, reply)
+}
+
+fn read_reply<S: Subject>(subject: &mut S, setup: &mut Setup) -> Row {
+    let (asked, reply) = reply(setup);
+    let bytes = join(&of_reply(asked, &reply));
+    let mut answer = [0; REPLY_WORDS];
+    let task = Task {
+        name: "read_reply, to a get",
+        units: CALLS,
+        copied: &bytes,
+        copies: 1,
+    };
+    let library = || {
+        timed(|| {
+            for _ in 0..CALLS {
+                black_box(subject.read_reply(black_box(&bytes), asked, &mut answer));
+            }
+        })
+    };
+    let reference = || {
+        timed(|| {
+            for _ in 0..CALLS {
+                let read = reference::read_reply(asked.op, asked.flag, black_box(&bytes));
+                black_box(matches!(read, Read::Whole(_, _)));
+            }
+        })
+    };
+    measured(task, library, reference)
+}
+
+fn write_reply<S: Subject>(subject: &mut S, setup: &mut Setup) -> Row {
+    let (asked, reply) = reply(setup);
+    let bytes = join(&of_reply(asked, &reply));
+    let numbers = &reply_numbers(&reply, 0)[1..];
+    let parts = ReplyParts {
+        value: &reply.value,
+        text: &reply.text,
+    };
+    let mut out = [0; REPLY_ROOM];
+    let mut other = [0; REPLY_ROOM];
+    let task = Task {
+        name: "write_reply, to a get",
+        units: CALLS,
+        copied: &bytes,
+        copies: 1,
+    };
+    let library = || {
+        out.fill(0);
+        timed(|| {
+            for _ in 0..CALLS {
+                black_box(subject.write_reply(black_box(&mut out), asked, numbers, parts));
+            }
+        })
+    };
+    let reference = || {
+        other.fill(0);
+        timed(|| {
+            for _ in 0..CALLS {
+                let (op, flag) = (asked.op, asked.flag);
+                let written = reference::write_reply(op, flag, black_box(&reply), &mut other);
+                black_box(written.is_ok());
+            }
+        })
+    };
+    measured(task, library, reference)
+}
+
+/// The row of requests and all replies to it.
+fn with_replies(setup: &Setup, row: &[u8]) -> Vec<u8> {
+    let mut replies = vec![0; REPLY_ROOM * (REQUESTS + 1)];
+    let mut table = setup.table.clone();
+    let answer = reference::serve_stream(row, &mut table, SECOND, &mut replies);
+    [row, &replies[..answer.reply_len]].concat()
+}
+
+fn stream<S: Subject>(subject: &mut S, setup: &Setup, name: &'static str, row: &[u8]) -> Row {
+    let copied = with_replies(setup, row);
+    let mut memory = vec![0; SIZE];
+    let mut replies = vec![0; REPLY_ROOM * (REQUESTS + 1)];
+    let mut others = replies.clone();
+    let task = Task {
+        name,
+        units: REQUESTS,
+        copied: &copied,
+        copies: REQUESTS,
+    };
+    let library = || {
+        memory.copy_from_slice(&setup.memory);
+        replies.fill(0);
+        let mut answer = [0; STREAM_WORDS];
+        let time = timed(|| {
+            subject.serve_stream(row, &mut memory, SECOND, &mut replies, &mut answer);
+        });
+        assert_eq!(
+            answer[2],
+            REQUESTS as u64 + 1,
+            "a stream is not served whole"
+        );
+        time
+    };
+    let reference = || {
+        let mut table = setup.table.clone();
+        others.fill(0);
+        timed(|| {
+            black_box(reference::serve_stream(row, &mut table, SECOND, &mut others).taken);
+        })
+    };
+    measured(task, library, reference)
+}
+
+/// One get a call, each for another key in turn.
+fn one_get<S: Subject>(subject: &mut S, setup: &mut Setup) -> Row {
+    let requests: Vec<Vec<u8>> = (0..CHECKS)
+        .map(|_| join(&of_request(&setup.request(GET))))
+        .collect();
+    let copied = with_replies(setup, &requests[0]);
+    let mut memory = setup.memory.clone();
+    let mut reply = [0; REPLY_ROOM];
+    let mut other = [0; REPLY_ROOM];
+    let task = Task {
+        name: "serve, one get",
+        units: CHECKS,
+        copied: &copied,
+        copies: 1,
+    };
+    let library = || {
+        memory.copy_from_slice(&setup.memory);
+        reply.fill(0);
+        let mut answer = [0; SERVE_WORDS];
+        let mut codes = 0;
+        let time = timed(|| {
+            for request in &requests {
+                codes += subject.serve(request, &mut memory, SECOND, &mut reply, &mut answer);
+            }
+        });
+        assert_eq!(codes, GOOD * CHECKS as u64, "a get is not served");
+        time
+    };
+    let reference = || {
+        let mut table = setup.table.clone();
+        other.fill(0);
+        timed(|| {
+            for request in &requests {
+                black_box(reference::serve(request, &mut table, SECOND, &mut other).taken);
+            }
+        })
+    };
+    measured(task, library, reference)
+}
+
+fn check<S: Subject>(subject: &mut S, setup: &Setup) -> Row {
+    let task = Task {
+        name: "the check of the table alone",
+        units: CHECKS,
+        copied: &setup.memory,
+        copies: 1,
+    };
+    let library = || {
+        let mut sound = 0;
+        let time = timed(|| {
+            for _ in 0..CHECKS {
+                sound += usize::from(subject.is_table(black_box(&setup.memory)));
+            }
+        });
+        assert_eq!(sound, CHECKS, "the table is not sound");
+        time
+    };
+    let reference = || {
+        timed(|| {
+            for _ in 0..CHECKS {
+                black_box(reference::is_table(black_box(&setup.table)));
+            }
+        })
+    };
+    measured(task, library, reference)
+}
+
+/// A file of nine gets to one put.
+fn file(setup: &mut Setup) -> Vec<u8> {
+    let mut file = Vec::new();
+    for request in setup.requests(1) {
+        file.extend(to_digits(&SECOND.to_be_bytes()));
+        file.push(b' ');
+        file.extend(to_digits(&join(&of_request(&request))));
+        file.push(b'\n');
+    }
+    file
+}
+
+/// The benchmark of request files.
+pub fn lines_row<S: ServesLines>(subject: &mut S) -> Row {
+    let mut setup = Setup::new();
+    let file = file(&mut setup);
+    let mut output = Vec::new();
+    // Writing to memory does not fail.
+    let _ = reference::serve_reader(&mut &file[..], &mut output, &mut setup.table.clone());
+    let copied = [&file[..], &output].concat();
+    let mut memory = vec![0; SIZE];
+    let mut out = vec![0; output.len() + 2 * 1024];
+    let task = Task {
+        name: "serve_lines, nine gets to one put",
+        units: REQUESTS,
+        copied: &copied,
+        copies: REQUESTS,
+    };
+    let length = output.len();
+    let library = || {
+        memory.copy_from_slice(&setup.memory);
+        out.fill(0);
+        let mut written = 0;
+        let time = timed(|| written = all_lines(subject, &file, &mut memory, &mut out));
+        assert_eq!(written, length, "the file is not served whole");
+        time
+    };
+    let reference = || {
+        let mut table = setup.table.clone();
+        output.clear();
+        timed(|| {
+            let _ = reference::serve_reader(&mut &file[..], &mut output, &mut table);
+        })
+    };
+    measured(task, library, reference)
+}
+
+/// Hands in the file until it is taken whole, and gives the bytes written.
+fn all_lines<S: ServesLines>(
+    subject: &mut S,
+    file: &[u8],
+    memory: &mut [u8],
+    out: &mut [u8],
+) -> usize {
+    let piece = Piece {
+        passing: false,
+        last: true,
+    };
+    let (mut taken, mut written) = (0, 0);
+    while taken < file.len() {
+        let mut answer = [0; LINES_WORDS];
+        let code = subject.serve_lines(
+            &file[taken..],
+            memory,
+            &mut out[written..],
+            piece,
+            &mut answer,
+        );
+        assert!(
+            code == GOOD && answer[0] > 0,
+            "lines are not served: {code}"
+        );
+        taken += answer[0] as usize;
+        written += answer[1] as usize;
+    }
+    written
+}
+
+/// The results as a table.
+pub fn shown(rows: &[Row]) -> String {
+    let mut text = format!(
+        "{:36}{:>7}{:>12}{:>12}{:>19}{:>10}{:>14}\n",
+        "", "bytes", "library", "reference", "reference/library", "copy", "library/copy"
+    );
+    for row in rows {
+        text += &format!(
+            "{:36}{:>7}{:>12.1}{:>12.1}{:>19.2}{:>10.1}{:>14.1}\n",
+            row.name,
+            row.bytes,
+            row.subject,
+            row.reference,
+            row.reference / row.subject,
+            row.copy,
+            row.subject / row.copy
+        );
+    }
+    text
+}

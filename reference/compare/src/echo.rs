@@ -71,6 +71,8 @@ pub enum Fault {
     // Values.
     ValueSteersReply,
     ValueSteersVersion,
+    ValueLeaksToId,
+    ValueLeaksToOther,
     // Lines.
     LongLineTwice,
     EndsAsRead,
@@ -251,7 +253,11 @@ impl Echo {
     ) -> (u64, usize, Vec<u8>) {
         match read_request(input) {
             Read::More => {
-                let taken = if self.has(Fault::MoreTakes) { input.len() } else { 0 };
+                let taken = if self.has(Fault::MoreTakes) {
+                    input.len()
+                } else {
+                    0
+                };
                 (0, taken, Vec::new())
             }
             Read::Refused(refusal) => {
@@ -307,7 +313,12 @@ impl Echo {
 
     fn change_request(&self, request: &mut Request, table: &Table) {
         let held = table.entries.get(&request.key).map_or(0, |e| e.version);
+        let first = table
+            .entries
+            .get(&request.key)
+            .and_then(|e| e.value.first());
         match self.fault {
+            Some(Fault::ValueLeaksToId) if first > Some(&0x7f) => request.id ^= 1,
             Some(Fault::OldValueAlways) => request.flags |= 1,
             Some(Fault::ServesAnyName) => request.name.clear(),
             Some(Fault::VersionAtLeast)
@@ -331,6 +342,14 @@ impl Echo {
             Some(Fault::DeadlineWraps) if wrote => {
                 for entry in table.entries.values_mut() {
                     entry.deadline &= 0xffff_ffff;
+                }
+            }
+            Some(Fault::ValueLeaksToOther) if wrote => {
+                let low = request.value.first().unwrap_or(&0) & 1;
+                for (key, entry) in &mut table.entries {
+                    if *key != request.key {
+                        entry.value.iter_mut().for_each(|byte| *byte ^= low);
+                    }
                 }
             }
             Some(Fault::ValueSteersVersion)
@@ -600,10 +619,7 @@ impl ServesLines for Echo {
                 written -= 1;
             }
         }
-        fill(
-            answer,
-            &[taken as u64, written as u64, u64::from(passing)],
-        );
+        fill(answer, &[taken as u64, written as u64, u64::from(passing)]);
         GOOD
     }
 }

@@ -109,7 +109,10 @@ pub fn of_reply(asked: Asked, reply: &Reply) -> Vec<Field> {
 }
 
 pub fn join(fields: &[Field]) -> Vec<u8> {
-    fields.iter().flat_map(|field| field.bytes.clone()).collect()
+    fields
+        .iter()
+        .flat_map(|field| field.bytes.clone())
+        .collect()
 }
 
 /// Where the first field of this kind begins, and 0 if there is none.

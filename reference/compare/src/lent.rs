@@ -116,11 +116,7 @@ impl Words {
             return self.kept_behind(0);
         }
         for (at, word) in expected.iter().enumerate() {
-            crate::difference::same(
-                &format!("word {at} of the answer"),
-                *word,
-                self.slice()[at],
-            )?;
+            crate::difference::same(&format!("word {at} of the answer"), *word, self.slice()[at])?;
         }
         self.kept_behind(expected.len())
     }

@@ -8,6 +8,12 @@
 //!
 //! The parts: `messages` (a), `serving` (b), `streams` (c), `tables` (d),
 //! `values` (e), `lines` and `stored` (f).
+//!
+//! `cargo test --offline` tests the harness without the library. With it:
+//! `cargo run --release --offline --features library,lines,stored -- quick`;
+//! `lines` and `stored` can be left out while the library lacks them. The
+//! environment variable EXPORTS_DIR names the folder of libexports.a; without
+//! it that is target/staticlib of the repository.
 
 pub mod bench;
 pub mod calls;

@@ -243,10 +243,9 @@ impl Feed<'_> {
             last: self.last,
         };
         let (table, space) = (memory.slice_mut(), out.slice_mut());
-        let code =
-            trial
-                .subject
-                .serve_lines(input.slice(), table, space, piece, words.slice_mut());
+        let code = trial
+            .subject
+            .serve_lines(input.slice(), table, space, piece, words.slice_mut());
         trial.counts.code(code);
         hold(
             code == GOOD || (code == 12 && room < AMPLE),
@@ -314,7 +313,11 @@ fn unsound<S: ServesLines>(trial: &mut Trial<S>) -> Outcome {
         .serve_lines(&file, table, space, piece, &mut words);
     trial.counts.input(code);
     same("the return code of fq_serve_lines on no table", 13, code)
-        .and_then(|()| world.memory.same("a refused call changes the memory", &before))
+        .and_then(|()| {
+            world
+                .memory
+                .same("a refused call changes the memory", &before)
+        })
         .and_then(|()| out.same("a refused call changes the output buffer", &lent))
         .map_err(|found| {
             found

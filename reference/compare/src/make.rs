@@ -3,7 +3,8 @@
 use reference::fields::{KEY_LIMIT, NAME_LIMIT, TEXT_LIMIT, VALUE_LIMIT};
 use reference::map::{LARGEST_DEADLINE, LARGEST_VERSION, MOST_KEYS};
 use reference::operation::{
-    body, may_answer, sends_entry_version, sends_key, sends_value, Body, ERROR, SERVED,
+    body, may_answer, sends_entry_version, sends_key, sends_value, Body, CLEAR, ERROR, PUT,
+    PUT_IF_ABSENT, REMOVE, REMOVE_IF_UNMODIFIED, SERVED,
 };
 use reference::{Entry, Reply, Request, Table};
 
@@ -70,9 +71,26 @@ pub fn second(chance: &mut Chance) -> u32 {
 
 /// Characters at the edges of the ranges of first and second bytes.
 const EDGES: [char; 20] = [
-    '\0', 'a', '\u{7f}', '\u{80}', '\u{bf}', '\u{c0}', '\u{7ff}', '\u{800}', '\u{fff}', '\u{1000}',
-    '\u{cfff}', '\u{d000}', '\u{d7ff}', '\u{e000}', '\u{ffff}', '\u{10000}', '\u{3ffff}',
-    '\u{40000}', '\u{fffff}', '\u{10ffff}',
+    '\0',
+    'a',
+    '\u{7f}',
+    '\u{80}',
+    '\u{bf}',
+    '\u{c0}',
+    '\u{7ff}',
+    '\u{800}',
+    '\u{fff}',
+    '\u{1000}',
+    '\u{cfff}',
+    '\u{d000}',
+    '\u{d7ff}',
+    '\u{e000}',
+    '\u{ffff}',
+    '\u{10000}',
+    '\u{3ffff}',
+    '\u{40000}',
+    '\u{fffff}',
+    '\u{10ffff}',
 ];
 
 /// UTF-8 of just this length.
@@ -284,13 +302,26 @@ fn entry_version(chance: &mut Chance, table: &Table, key: &[u8]) -> u64 {
     }
 }
 
-/// A request for a server with this table: the key is one of these, rarely
-/// another; clear comes rarely; a name comes at times.
-pub fn request_for(chance: &mut Chance, table: &Table, keys: &[Vec<u8>]) -> Request {
-    let mut operation = operation(chance);
-    if operation == reference::operation::CLEAR && !chance.one_in(10) {
-        operation = reference::operation::PUT;
+/// An operation by chance. Clear comes rarely, and removals too where many
+/// keys are held, so that tables stay full for a while.
+fn operation_for(chance: &mut Chance, table: &Table) -> u8 {
+    let many = table.entries.len() > 100;
+    let operation = operation(chance);
+    let rare = match operation {
+        CLEAR => !chance.one_in(if many { 80 } else { 10 }),
+        REMOVE | REMOVE_IF_UNMODIFIED => many && !chance.one_in(8),
+        _ => false,
+    };
+    if rare {
+        return chance.pick(&[PUT, PUT_IF_ABSENT]);
     }
+    operation
+}
+
+/// A request for a server with this table: the key is one of these, rarely
+/// another; a name comes at times.
+pub fn request_for(chance: &mut Chance, table: &Table, keys: &[Vec<u8>]) -> Request {
+    let operation = operation_for(chance, table);
     let mut request = request_of(chance, operation);
     if chance.one_in(20) {
         let length = 1 + chance.below(4);

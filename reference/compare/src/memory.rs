@@ -78,7 +78,8 @@ pub fn rows(memory: &[u8]) -> Option<Vec<Row<'_>>> {
 }
 
 fn ascend(rows: &[Row]) -> bool {
-    rows.windows(2).all(|pair| pair[0].version < pair[1].version)
+    rows.windows(2)
+        .all(|pair| pair[0].version < pair[1].version)
 }
 
 /// The state that the memory stands for, or nothing if it has not the form:

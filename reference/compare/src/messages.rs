@@ -176,7 +176,11 @@ fn span_is(fields: &[Field], kind: Kind, bytes: &[u8], span: &[u64], input: &[u8
     )?;
     let start = span[0] as usize;
     if !bytes.is_empty() {
-        same(&format!("the start of {kind:?}"), place(fields, kind), start)?;
+        same(
+            &format!("the start of {kind:?}"),
+            place(fields, kind),
+            start,
+        )?;
     }
     if &input[start..start + bytes.len()] != bytes {
         return Err(Difference::new("the bytes of a span").bytes("expected", bytes));

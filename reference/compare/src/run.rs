@@ -146,7 +146,7 @@ impl Totals {
 }
 
 /// Plays rounds until the time is over or a difference is found. `report` is
-/// called after every minute.
+/// called after every minute but the last.
 pub fn for_time<S>(
     parts: &[Part<S>],
     subject: &mut S,
@@ -163,7 +163,8 @@ pub fn for_time<S>(
         let counts = play(&parts[at], subject, seed, totals.counts[at].rounds)?;
         totals.used[at] += began.elapsed();
         totals.counts[at].add(&counts);
-        if start.elapsed().as_secs() >= 60 * minutes {
+        let elapsed = start.elapsed();
+        if elapsed.as_secs() >= 60 * minutes && elapsed < time {
             report(&totals);
             minutes += 1;
         }

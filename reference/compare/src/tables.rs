@@ -37,7 +37,9 @@ pub fn round<S: Subject>(trial: &mut Trial<S>) -> Outcome {
 
 /// Random bytes of the right length and of others.
 fn noise<S: Subject>(trial: &mut Trial<S>) -> Outcome {
-    let length = trial.chance.pick(&[0, 1, 8, 16, SIZE - 1, SIZE, SIZE + 1, 2 * SIZE]);
+    let length = trial
+        .chance
+        .pick(&[0, 1, 8, 16, SIZE - 1, SIZE, SIZE + 1, 2 * SIZE]);
     let mut memory = Lent::random(&mut trial.chance, length);
     if length >= SIZE && trial.chance.one_in(2) {
         let count = trial.chance.below(3) as u64;
@@ -55,7 +57,9 @@ fn noise<S: Subject>(trial: &mut Trial<S>) -> Outcome {
 
 /// Memory of the right length is made a fresh table, other memory is left.
 fn made<S: Subject>(trial: &mut Trial<S>) -> Outcome {
-    let length = trial.chance.pick(&[0, 15, 16, SIZE - 1, SIZE, SIZE, SIZE + 1]);
+    let length = trial
+        .chance
+        .pick(&[0, 15, 16, SIZE - 1, SIZE, SIZE, SIZE + 1]);
     let before = Lent::random(&mut trial.chance, length);
     let mut memory = before.clone();
     let answer = trial.subject.make(memory.slice_mut());
@@ -86,7 +90,9 @@ fn checked<S: Subject>(trial: &mut Trial<S>, memory: &Lent, keys: &[Vec<u8>]) ->
     let expected = is_table(memory.slice());
     let lent = memory.clone();
     let answer = trial.subject.is_table(lent.slice());
-    trial.counts.input(if answer { crate::subject::GOOD } else { 13 });
+    trial
+        .counts
+        .input(if answer { crate::subject::GOOD } else { 13 });
     same("the answer of fq_is_table", expected, answer)?;
     lent.same("fq_is_table changes the memory", memory)?;
     match decode(memory.slice()) {
@@ -172,7 +178,11 @@ fn damage_head(chance: &mut Chance, memory: &mut [u8]) -> &'static str {
         2 => put_number(memory, COUNT, MOST_KEYS as u64 + 1),
         3 => put_number(memory, COUNT, count | 1 << (8 + chance.below(56))),
         4 => put_number(memory, LAST, LARGEST_VERSION + chance.below(2) as u64),
-        _ => put_number(memory, LAST, last.saturating_sub(1 + chance.below(3) as u64)),
+        _ => put_number(
+            memory,
+            LAST,
+            last.saturating_sub(1 + chance.below(3) as u64),
+        ),
     }
     "count or last version"
 }

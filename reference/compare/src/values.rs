@@ -5,6 +5,7 @@
 //! of the entry that this request wrote, and the tables only in that entry's
 //! value.
 
+use reference::operation::{sends_key, GET, GET_WITH_VERSION, PUT};
 use reference::{read_reply, read_request, Read, Reply, Request};
 
 use crate::calls::{room, World};
@@ -55,11 +56,12 @@ pub fn round<S: Subject>(trial: &mut Trial<S>) -> Outcome {
     Ok(())
 }
 
-/// A request that sends a value of at least one byte.
+/// A request that sends a value of at least one byte, mostly a put.
 fn writer(chance: &mut Chance, world: &World) -> Request {
+    let any = chance.one_in(3);
     loop {
         let request = make::request_for(chance, &world.table, &world.keys);
-        if !request.value.is_empty() {
+        if !request.value.is_empty() && (any || request.operation == PUT) {
             return request;
         }
     }
@@ -115,9 +117,10 @@ fn some_requests(chance: &mut Chance, world: &World) -> Vec<u8> {
 fn readers(chance: &mut Chance, written: &Request) -> Vec<u8> {
     let mut row = Vec::new();
     for _ in 0..1 + chance.below(4) {
-        let operation = make::operation(chance);
+        let any = make::operation(chance);
+        let operation = chance.pick(&[GET, GET_WITH_VERSION, any]);
         let mut request = make::request_of(chance, operation);
-        if reference::operation::sends_key(operation) {
+        if sends_key(operation) {
             request.key = written.key.clone();
         }
         row.extend(join(&of_request(&request)));
@@ -221,11 +224,8 @@ fn replies_fit(
         return Ok(());
     }
     let fit = shows_change(before, &one.row[taken..], mine, other, change);
-    hold(fit, "the replies differ outside that value").map_err(|found| {
-        found
-            .bytes("one reply", mine)
-            .bytes("other reply", other)
-    })
+    hold(fit, "the replies differ outside that value")
+        .map_err(|found| found.bytes("one reply", mine).bytes("other reply", other))
 }
 
 /// Whether the replies differ only in the value, which is that of the entry

@@ -262,9 +262,10 @@ fn check_reply<S: Subject>(trial: &mut Trial<S>, draft: &ReplyDraft) -> Outcome 
     let mut out = Lent::random(&mut trial.chance, room);
     let mut expected = out.clone();
     let answer = draft.written(expected.slice_mut());
-    let code = trial
-        .subject
-        .write_reply(out.slice_mut(), draft.asked, &draft.numbers, draft.parts());
+    let code =
+        trial
+            .subject
+            .write_reply(out.slice_mut(), draft.asked, &draft.numbers, draft.parts());
     trial.counts.message(code);
     same("the return code", write_code(answer), code)
         .and_then(|()| out.same("the buffer, with a margin on both sides", &expected))

@@ -42,8 +42,10 @@ fn all_given(counts: &Counts, codes: &[u64]) {
 /// Plays rounds until the fault is found.
 fn is_found(name: &str, fault: Fault) {
     let part = part(name);
-    let found = (0..600).any(|round| play(&part, &mut Echo::with(fault), SEED, round).is_err());
-    assert!(found, "{fault:?} is not found by {name}");
+    let found = (0..600).find_map(|round| play(&part, &mut Echo::with(fault), SEED, round).err());
+    let found = found.unwrap_or_else(|| panic!("{fault:?} is not found by {name}"));
+    let text = found.to_string();
+    assert!(!text.contains("broke off"), "{fault:?}: {text}");
 }
 
 fn are_found(name: &str, faults: &[Fault]) {
@@ -171,10 +173,14 @@ fn faults_of_the_table_check_are_found() {
 
 #[test]
 fn values_that_steer_are_found() {
-    are_found(
-        "values",
-        &[Fault::ValueSteersReply, Fault::ValueSteersVersion],
-    );
+    use Fault::*;
+    let faults = [
+        ValueSteersReply,
+        ValueSteersVersion,
+        ValueLeaksToId,
+        ValueLeaksToOther,
+    ];
+    are_found("values", &faults);
 }
 
 #[test]
@@ -210,11 +216,17 @@ fn a_difference_is_told_in_full_and_can_be_played_again() {
     let mut echo = Echo::with(Fault::ServesAnyName);
     let found = (0..50).find_map(|round| play(&part, &mut echo, SEED, round).err());
     let text = found.expect("the fault is found").to_string();
-    for word in ["expected: 9", "got: 256", "input: ", "table before: ", "seed: 11"] {
+    for word in [
+        "expected: 9",
+        "got: 256",
+        "input: ",
+        "table before: ",
+        "seed: 11",
+    ] {
         assert!(text.contains(word), "{word} is not in {text}");
     }
     let round = text.split("again 11 serving ").nth(1).expect("a round");
     let round = round.trim().parse().expect("a number");
-    let again = play(&part, &mut echo, SEED, round).err().expect("a difference");
+    let again = play(&part, &mut echo, SEED, round).expect_err("a difference");
     assert_eq!(again.to_string(), text);
 }

@@ -1,3 +1,5 @@
 pub mod PlanLaws
 pub mod SendLaws
 pub mod StepLaws
+pub mod ManyLaws
+pub mod CallLaws

@@ -1,15 +1,20 @@
 -- What the answers of the serving functions say.
 use mathlib.Core.Path.{_≡_}
 use mathlib.Core.List.{List}
-use Prim.Native.Nat.{ℕ}
-use lib.ListN.{length}
+use mathlib.Core.Bool.{true}
+use Prim.Native.Nat.{ℕ, _-_, _≤_}
+use lib.ListN.{length, take, drop}
 use lib.Seq.{sets}
 use Rattle.map.specs.Reply.{Piece, flat}
 use Rattle.stream.specs.Serve as stream
-use Rattle.stream.specs.Stream.{Call, Done}
+use Rattle.map.specs.Step.{Context}
+use Rattle.stream.specs.Sound.{isSound}
+use Rattle.stream.specs.Stream.{Call, Done, Serves}
+use Rattle.stream.specs.Many.{Total}
 use Rattle.server.specs.declared.Verdict.{Verdict}
 use Rattle.server.specs.declared.Verdict.the-variants as v
 use Rattle.server.specs.declared.Answer.{Answer}
+use Rattle.server.specs.declared.Streamed.{Streamed}
 
 abbrev pub asVerdict : Verdict → stream.Verdict
 asVerdict v.Served = stream.served
@@ -19,13 +24,21 @@ asVerdict (v.Refused k) = stream.refused k
 abbrev pub asAnswer : Answer → stream.Answer
 asAnswer a = record { taken = a .taken; verdict = asVerdict (a .verdict) }
 
+abbrev pub contextOf : ℕ → Context
+contextOf second = record { second = second }
+
 -- a call at a second, with a reply buffer
 abbrev pub callOf : ℕ → List ℕ → Call
-callOf second buffer = record { context = record { second = second }; buffer = buffer }
+callOf second buffer = record { context = contextOf second; buffer = buffer }
 
 -- what a call left
 abbrev pub doneOf : Answer → List ℕ → List ℕ → Done
 doneOf a buffer table = record { answer = asAnswer a; size = a .size; buffer = buffer; table = table }
+
+-- what a stream of calls left
+abbrev pub totalOf : Streamed → List ℕ → List ℕ → Total
+totalOf a buffer table =
+    record { taken = a .taken; size = a .size; calls = a .calls; verdict = asVerdict (a .verdict); buffer = buffer; table = table }
 
 -- the answer has these parts
 pub record Says (n m : ℕ) (v : stream.Verdict) (a : Answer) : Type 0 where
@@ -37,3 +50,16 @@ pub record Says (n m : ℕ) (v : stream.Verdict) (a : Answer) : Type 0 where
 pub record Sends (ps : List Piece) (n : ℕ) (v : stream.Verdict) (old new : List ℕ) (a : Answer) : Type 0 where
   pub says : Says n (length (flat ps)) v a
   pub buffer : new ≡ sets old 0 (flat ps)
+
+-- a stream may go on: the table is sound, and there is room behind what is sent
+pub record Ready (input : List ℕ) (taken : ℕ) (table reply : List ℕ) (size : ℕ) : Type 0 where
+  pub sound : isSound table ≡ true
+  pub within : taken ≤ length input
+  pub sized : size ≤ length reply
+  pub room : stream.room ≤ length reply - size
+
+-- a call of a stream, which keeps what is sent already
+pub record CallsAt (c : Context) (input : List ℕ) (taken : ℕ) (table old : List ℕ) (size : ℕ) (a : Answer) (new after : List ℕ) : Type 0 where
+  pub serves : Serves (drop taken input) table (record { context = c; buffer = drop size old }) (doneOf a (drop size new) after)
+  pub front : take size new ≡ take size old
+  pub long : length new ≡ length old

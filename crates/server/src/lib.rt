@@ -3,8 +3,10 @@ mod act;
 mod plan;
 
 use field::Second;
+ghost use mathlib.Core.Path.{_≡_};
 ghost use Rattle.stream.specs.Stream.{Serves};
-ghost use Rattle.server.specs.Answer.{callOf, doneOf};
+ghost use Rattle.stream.specs.Many.{goesOn, Streams};
+ghost use Rattle.server.specs.Answer.{asVerdict, callOf, doneOf, contextOf, totalOf, Ready, CallsAt};
 
 // How a call ended.
 pub enum Verdict {
@@ -36,4 +38,80 @@ pub fn serve(input: &[u8], table: &mut [u8], second: u32, reply: &mut [u8]) -> A
         return act::still(Verdict::Refused(13));
     }
     act::serve_sound(input, table, Second(second as u64), reply)
+}
+
+// What a stream of calls gives: the bytes taken and sent by all of them, how many there were, and how the last one ended.
+pub struct Streamed {
+    pub taken: usize,
+    pub size: usize,
+    pub calls: usize,
+    pub verdict: Verdict,
+}
+
+// "After 1 to 8 a stream is closed. After 9 to 11 it goes on."
+fn goes_on(v: Verdict) -> bool
+    ensures { λ r. ⌜ r ≡ goesOn (asVerdict v) ⌝ }
+{
+    match v {
+        Verdict::Served => true,
+        Verdict::More => false,
+        Verdict::Refused(k) => 9 <= k && k <= 11,
+    }
+}
+
+fn all_calls(taken: usize, size: usize, calls: usize, verdict: Verdict) -> Streamed
+    ensures { λ r. ⌜ r ≡ record { taken = taken; size = size; calls = calls; verdict = verdict } ⌝ }
+{
+    Streamed {
+        taken: taken,
+        size: size,
+        calls: calls,
+        verdict: verdict,
+    }
+}
+
+// A call on the input behind what is taken, and on the reply buffer behind what is sent.
+fn call_at(
+    input: &[u8],
+    taken: usize,
+    table: &mut [u8],
+    second: u32,
+    reply: &mut [u8],
+    size: usize,
+) -> Answer
+    requires { ⌜ Ready (now input) taken (now table) (now reply) size ⌝ }
+    ensures { λ r. ⌜ CallsAt (contextOf second) (now (input .entry)) taken (now (table .entry)) (now (reply .entry)) size r (now (reply .exit)) (now (table .exit)) ⌝ }
+{
+    act::serve_sound(
+        &input[taken..],
+        table,
+        Second(second as u64),
+        &mut reply[size..],
+    )
+}
+
+// Calls one after the other at one second, each on what the last one left, with one check of the table.
+pub fn serve_stream(input: &[u8], table: &mut [u8], second: u32, reply: &mut [u8]) -> Streamed
+    ensures { λ r. ⌜ Streams (contextOf second) (now (input .entry)) (now (table .entry)) (now (reply .entry)) (totalOf r (now (reply .exit)) (now (table .exit))) ⌝ }
+{
+    if reply.len() < Answer::ROOM {
+        return all_calls(0, 0, 1, Verdict::Refused(12));
+    }
+    if !table::is_table(table) {
+        return all_calls(0, 0, 1, Verdict::Refused(13));
+    }
+    let mut taken: usize = 0;
+    let mut size: usize = 0;
+    let mut calls: usize = 0;
+    while Answer::ROOM <= reply.len() - size {
+        let a = call_at(input, taken, table, second, reply, size);
+        taken = taken + a.taken;
+        size = size + a.size;
+        calls = calls + 1;
+        let v = a.verdict;
+        if !goes_on(v) {
+            return all_calls(taken, size, calls, v);
+        }
+    }
+    all_calls(taken, size, calls + 1, Verdict::Refused(12))
 }

@@ -8,3 +8,4 @@ pub mod Served
 pub mod Demand3
 pub mod Determined
 pub mod Exist
+pub mod Bounds

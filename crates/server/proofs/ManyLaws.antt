@@ -1,0 +1,187 @@
+-- What a loop of calls knows between two of them. Assumes nothing.
+use mathlib.Core.Path.{_≡_, refl, sym, ap, subst, subst₂, _∙_}
+use mathlib.Core.List.{List, _++_, append-assoc}
+use mathlib.Core.Bool.{true, false}
+use Prim.Native.Nat.{ℕ, _+_, _-_, _≤_, _<_}
+use borrow.Author.Tests.{lt-ltb, le-ltb}
+use native.Mathlib.Nat.{zero-add, add-zero, add-assoc}
+use native.Mathlib.Omega.{arith}
+use lib.ListN.{length, take, drop, length-drop, length-append, take-append-drop}
+use lib.Seq.{drop-drop, length-take-le, take-append-add, drop-append-add, length-sets}
+use Rattle.wire.specs.Codec.{Bytes}
+use Rattle.wire.proofs.Laws.{bytes-drop}
+use Rattle.map.specs.Step.{Context}
+use Rattle.stream.specs.Serve.{room}
+use Rattle.map.specs.Reply.{flat}
+use Rattle.stream.specs.Stream.{Done, effectOf, Serves}
+use Rattle.stream.specs.Serve as serving
+use Rattle.stream.specs.Many.{goesOn, Total, only, behind, at, Streams, last, then}
+use Rattle.stream.specs.Sound.{isSound}
+use Rattle.stream.proofs.Sounds.{is-sound}
+use Rattle.stream.proofs.Bounds.{Facts, facts, stays-sound}
+use Rattle.server.specs.declared.Answer.{Answer}
+use Rattle.server.specs.Answer.{asVerdict, doneOf, CallsAt}
+use Rattle.server.proofs.SendLaws.{id-small}
+
+module _ (c : Context) (input table lent : List ℕ) where
+  -- so many bytes are taken and sent by so many calls, and whatever the calls behind them make, they make it of the whole
+  pub record Between (taken size calls : ℕ) (now out : List ℕ) : Type 0 where
+    pub whole : (t : Total) → Streams c (drop taken input) now (drop size out) t → Streams c input table lent (behind taken size calls out t)
+    pub sound : isSound now ≡ true
+    pub within : taken ≤ length input
+    pub sized : size ≤ length out
+    pub long : length out ≡ length lent
+    pub few : calls ≤ taken
+    pub kept : length now ≡ length table
+
+  first : (t : Total) → behind 0 0 0 lent t ≡ t
+  first t =
+      let a = zero-add (t .taken) in
+      let b = zero-add (t .size) in
+      let d = zero-add (t .calls) in
+      λ i. record { taken = a i; size = b i; calls = d i; verdict = t .verdict; buffer = t .buffer; table = t .table }
+
+  pub begin : isSound table ≡ true → Between 0 0 0 table lent
+  begin s =
+      record {
+        whole = λ t x. subst (Streams c input table lent) (sym (first t)) x;
+        sound = s;
+        within = omega arith;
+        sized = omega arith;
+        long = refl;
+        few = omega arith;
+        kept = refl;
+      }
+
+  module _ (b : Bytes input) (taken size calls : ℕ) (now out : List ℕ) (g : Between taken size calls now out) (d : Done)
+      (x : Serves (drop taken input) now (at c (drop size out)) d) (h : room ≤ length (drop size out)) where
+    known : Facts (drop taken input) (effectOf (drop taken input) now (at c (drop size out)))
+    known = facts (drop taken input) (bytes-drop taken input b) (id-small (drop taken input) (bytes-drop taken input b)) now (at c (drop size out)) d (g .sound) h x
+
+    pub takes : taken + d .answer .taken ≤ length input
+    takes = let k = known in omega (arith, g .within, k .within, length-drop taken input, ap (λ (a : serving.Answer). a .taken) (x .answer))
+
+    pub sends : size + d .size ≤ length out
+    sends = let k = known in omega (arith, g .sized, k .size, x .size, h, length-drop size out)
+
+    abbrev filled : List ℕ
+    filled = take size out ++ d .buffer
+
+    keeps : length (d .buffer) ≡ length (drop size out)
+    keeps = ap length (x .buffer) ∙ length-sets (drop size out) 0 (flat (effectOf (drop taken input) now (at c (drop size out)) .sent))
+
+    pub filled-long : length filled ≡ length lent
+    filled-long = omega (arith, length-append (take size out) (d .buffer), length-take-le size out (g .sized), keeps, length-drop size out, g .sized, g .long)
+
+    front : length (take size out) ≡ size
+    front = length-take-le size out (g .sized)
+
+    joins : (t : Total) → behind taken size calls out (behind (d .answer .taken) (d .size) 1 (d .buffer) t)
+        ≡ behind (taken + d .answer .taken) (size + d .size) (calls + 1) filled t
+    joins t =
+        let p = sym (add-assoc taken (d .answer .taken) (t .taken)) in
+        let q = sym (add-assoc size (d .size) (t .size)) in
+        let r = sym (add-assoc calls 1 (t .calls)) in
+        let e : take (size + d .size) filled ≡ take size out ++ take (d .size) (d .buffer) =
+        subst (λ (n : ℕ). take (n + d .size) filled ≡ take size out ++ take (d .size) (d .buffer)) front (take-append-add (take size out) (d .buffer) (d .size)) in
+        let f : take size out ++ (take (d .size) (d .buffer) ++ t .buffer) ≡ take (size + d .size) filled ++ t .buffer =
+        rw e (sym (append-assoc (take size out) (take (d .size) (d .buffer)) (t .buffer))) in
+        λ i. record { taken = p i; size = q i; calls = r i; verdict = t .verdict; buffer = f i; table = t .table }
+
+    rest : drop (size + d .size) filled ≡ drop (d .size) (d .buffer)
+    rest = subst (λ (n : ℕ). drop (n + d .size) filled ≡ drop (d .size) (d .buffer)) front (drop-append-add (take size out) (d .buffer) (d .size))
+
+    pub goes : goesOn (d .answer .verdict) ≡ true → 1 ≤ d .answer .taken
+    goes v = let k = known in rw (x .answer) (k .some (sym (ap (λ (a : serving.Answer). goesOn (a .verdict)) (x .answer)) ∙ v))
+
+    after-sound : isSound (d .table) ≡ true
+    after-sound = stays-sound (drop taken input) now (at c (drop size out)) d (g .sound) x
+
+    pub table-kept : length (d .table) ≡ length table
+    table-kept = is-sound (d .table) after-sound .form .long ∙ (sym (is-sound now (g .sound) .form .long) ∙ g .kept)
+
+    -- a call that goes on
+    pub on : goesOn (d .answer .verdict) ≡ true → Between (taken + d .answer .taken) (size + d .size) (calls + 1) (d .table) filled
+    on v =
+        record {
+          whole = λ t y.
+              subst (Streams c input table lent) (joins t)
+              (g .whole _
+              (then x v (subst₂ (λ (i l : List ℕ). Streams c i (d .table) l t) (sym (drop-drop (d .answer .taken) taken input)) rest y)));
+          sound = after-sound;
+          within = takes;
+          sized = omega (arith, sends, filled-long, g .long);
+          long = filled-long;
+          few = omega (arith, g .few, goes v);
+          kept = table-kept;
+        }
+
+    -- the last call
+    pub ends : goesOn (d .answer .verdict) ≡ false
+        → Streams c input table lent (record { taken = taken + d .answer .taken; size = size + d .size; calls = calls + 1; verdict = d .answer .verdict; buffer = filled; table = d .table })
+    ends v = g .whole (only d) (last x v)
+
+  -- the same of a call of the code, whose buffer is new
+  module _ (b : Bytes input) (taken size calls : ℕ) (now out : List ℕ) (g : Between taken size calls now out) (a : Answer) (new after : List ℕ)
+      (x : CallsAt c input taken now out size a new after) (h : room ≤ length (drop size out)) where
+    abbrev d : Done
+    d = doneOf a (drop size new) after
+
+    same : take size out ++ drop size new ≡ new
+    same = ap (λ (l : List ℕ). l ++ drop size new) (sym (x .front)) ∙ take-append-drop size new
+
+    pub call-takes : taken + a .taken ≤ length input
+    call-takes = takes b taken size calls now out g d (x .serves) h
+
+    pub call-sends : size + a .size ≤ length out
+    call-sends = sends b taken size calls now out g d (x .serves) h
+
+    pub call-kept : length after ≡ length table
+    call-kept = table-kept b taken size calls now out g d (x .serves) h
+
+    pub call-goes : goesOn (asVerdict (a .verdict)) ≡ true → 1 ≤ a .taken
+    call-goes v = goes b taken size calls now out g d (x .serves) h v
+
+    pub call-on : goesOn (asVerdict (a .verdict)) ≡ true → Between (taken + a .taken) (size + a .size) (calls + 1) after new
+    call-on v = subst (Between (taken + a .taken) (size + a .size) (calls + 1) after) same (on b taken size calls now out g d (x .serves) h v)
+
+    pub call-ends : goesOn (asVerdict (a .verdict)) ≡ false
+        → Streams c input table lent (record { taken = taken + a .taken; size = size + a .size; calls = calls + 1; verdict = asVerdict (a .verdict); buffer = new; table = after })
+    call-ends v =
+        subst
+        (λ (l : List ℕ). Streams c input table lent (record { taken = taken + a .taken; size = size + a .size; calls = calls + 1; verdict = asVerdict (a .verdict); buffer = l; table = after }))
+        same (ends b taken size calls now out g d (x .serves) h v)
+
+  -- no room for a further call
+  pub no-room : (taken size calls : ℕ) (now out : List ℕ) → Between taken size calls now out → length out - size < room
+      → Streams c input table lent (record { taken = taken; size = size; calls = calls + 1; verdict = serving.refused 12; buffer = out; table = now })
+  unfolding serving.still serving.serve flat
+  no-room taken size calls now out g h =
+      let s : length (drop size out) < room = simp length-drop (omega arith) in
+      let d : Done = record { answer = record { taken = 0; verdict = serving.refused 12 }; size = 0; buffer = drop size out; table = now } in
+      let x : Serves (drop taken input) now (at c (drop size out)) d = rw (lt-ltb (length (drop size out)) room s) (record { answer = refl; size = refl; buffer = refl; table = refl }) in
+      let y = g .whole (only d) (last x refl) in
+      subst (Streams c input table lent) (settled taken size calls now out) y
+    where
+      settled : (taken size calls : ℕ) (now out : List ℕ)
+          → behind taken size calls out (record { taken = 0; size = 0; calls = 1; verdict = serving.refused 12; buffer = drop size out; table = now })
+          ≡ record { taken = taken; size = size; calls = calls + 1; verdict = serving.refused 12; buffer = out; table = now }
+      settled taken size calls now out =
+          let p = add-zero taken in
+          let q = add-zero size in
+          let r = take-append-drop size out in
+          λ i. record { taken = p i; size = q i; calls = calls + 1; verdict = serving.refused 12; buffer = r i; table = now }
+
+  -- one call that is refused for want of room, or because the table is not sound
+  pub short : length lent < room → Streams c input table lent (record { taken = 0; size = 0; calls = 1; verdict = serving.refused 12; buffer = lent; table = table })
+  unfolding serving.still serving.serve flat
+  short h =
+      last {input = input} {table = table} {lent = lent} {d = record { answer = record { taken = 0; verdict = serving.refused 12 }; size = 0; buffer = lent; table = table }}
+      (rw (lt-ltb (length lent) room h) (record { answer = refl; size = refl; buffer = refl; table = refl })) refl
+
+  pub unsound : room ≤ length lent → isSound table ≡ false
+      → Streams c input table lent (record { taken = 0; size = 0; calls = 1; verdict = serving.refused 13; buffer = lent; table = table })
+  unfolding serving.still serving.serve flat
+  unsound h s =
+      last {input = input} {table = table} {lent = lent} {d = record { answer = record { taken = 0; verdict = serving.refused 13 }; size = 0; buffer = lent; table = table }}
+      (rw (le-ltb (length lent) room h, s) (record { answer = refl; size = refl; buffer = refl; table = refl })) refl

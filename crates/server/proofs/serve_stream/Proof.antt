@@ -1,0 +1,124 @@
+-- `server::serve_stream` meets its contract: between two calls the loop knows what `Between` says. The measure is what is left of the input.
+-- Assumes nothing.
+use mathlib.Core.Path.{sym, _∙_}
+use Prim.Native.Nat.{_-_, _≤_}
+use native.Mathlib.Omega.{arith}
+use lib.ListN.{length, drop, length-drop}
+use borrow.Author.Tests.{not-true, not-false}
+use Rattle.wire.specs.Codec.{Bytes}
+use Rattle.stream.specs.Serve.{room}
+use Rattle.server.specs.Answer.{contextOf}
+use Rattle.server.proofs.StepLaws.{told-sound}
+use Rattle.server.proofs.ManyLaws.{Between, begin, short, unsound, no-room, call-takes, call-sends, call-kept, call-goes, call-on, call-ends}
+use borrow.Author.Needs.{needs}
+use Rattle.server.proofs.serve_stream.Statement.{statement}
+use Rattle.server.proofs.serve_stream.Tie as tie
+
+abbrev Inv-loop : tie.InvT-loop
+Inv-loop input table₀ second reply₀ taken₀ size₀ calls₀ table reply taken size calls = Between (contextOf second) input table₀ reply₀ taken size calls table reply
+
+abbrev μ-loop : tie.MeasureT-loop
+μ-loop input table₀ second reply₀ taken₀ size₀ calls₀ table reply taken size calls = length input - taken
+
+-- a slice holds bytes
+bytes : (c : tie.At-loop Inv-loop μ-loop) → Bytes (c .before .before .before .before .before .before .before .before .args .input .now)
+bytes c i = omega (arith, c .before .before .before .before .before .before .before .shared-slice-known .given i)
+
+-- the loop's test
+roomy : (c : tie.In-loop Inv-loop μ-loop) → room ≤ length (drop (c .before .loop .size) (c .before .loop .reply))
+roomy c = simp length-drop (c .loop-test .taken)
+
+returns : tie.Need-returns Inv-loop μ-loop
+returns c = rw (c .all-calls .ensures) (short _ _ _ _ (c .before .if1 .taken))
+
+returns-2 : tie.Need-returns-2 Inv-loop μ-loop
+returns-2 c = let i = c .before in
+    let w = i .before in
+    rw (c .all-calls2 .ensures) (unsound _ _ _ _ (w .before .before .if1 .left) (told-sound _ _ (w .is-table .ensures) ∙ not-true _ (i .if2 .taken)))
+
+loop-holds : tie.Need-loop-holds Inv-loop μ-loop
+loop-holds c = begin _ _ _ _ (told-sound _ _ (c .before .is-table .ensures) ∙ not-false _ (c .if2 .left))
+
+sub-loop : tie.Need-sub-loop Inv-loop μ-loop
+sub-loop c = c .loop .inv .sized
+
+call-at-requires : tie.Need-call-at-requires Inv-loop μ-loop
+call-at-requires c κs = let i = c .before .before in
+    let l = i .before .loop .inv in
+    record { sound = l .sound; within = l .within; sized = l .sized; room = i .loop-test .taken }
+
+add-taken : tie.Need-add-taken Inv-loop μ-loop
+add-taken c = let w = c .before .before .before .before .before in
+    let i = w .before .before .before in
+    let l = i .before in
+    omega (arith, call-takes _ _ _ _ (bytes l) _ _ _ _ _ (l .loop .inv) _ _ _ (w .call-at .ensures) (roomy i), l .before .before .before .before .before .before .before .before .good)
+
+add-size : tie.Need-add-size Inv-loop μ-loop
+add-size c = let w = c .before .before .before .before .before .before in
+    let i = w .before .before .before in
+    let l = i .before in
+    omega (arith, call-sends _ _ _ _ (bytes l) _ _ _ _ _ (l .loop .inv) _ _ _ (w .call-at .ensures) (roomy i), l .loop .inv .long, l .before .before .before .before .before .before .before .before .good)
+
+same-length-2 : tie.Need-same-length-2 Inv-loop μ-loop
+same-length-2 c = let w = c .before .before .before .before .before .before .before .before .before in
+    let i = w .before .before .before in
+    let l = i .before in
+    call-kept _ _ _ _ (bytes l) _ _ _ _ _ (l .loop .inv) _ _ _ (w .call-at .ensures) (roomy i)
+
+returns-3 : tie.Need-returns-3 Inv-loop μ-loop
+returns-3 c = let w = c .before .before .before .before .before .before .before .before .before in
+    let i = w .before .before .before in
+    let l = i .before in
+    rw (c .all-calls3 .ensures)
+    (call-ends _ _ _ _ (bytes l) _ _ _ _ _ (l .loop .inv) _ _ _ (w .call-at .ensures) (roomy i) (sym (c .before .before .goes-on .ensures) ∙ not-true _ (c .before .if3 .taken)))
+
+loop-less : tie.Need-loop-less Inv-loop μ-loop
+loop-less c = let w = c .before .before .before .before .before .before .before .before in
+    let i = w .before .before .before in
+    let l = i .before in
+    let v = sym (c .before .goes-on .ensures) ∙ not-false _ (c .if3 .left) in
+    omega (arith, call-goes _ _ _ _ (bytes l) _ _ _ _ _ (l .loop .inv) _ _ _ (w .call-at .ensures) (roomy i) v, call-takes _ _ _ _ (bytes l) _ _ _ _ _ (l .loop .inv) _ _ _ (w .call-at .ensures) (roomy i))
+
+loop-again : tie.Need-loop-again Inv-loop μ-loop
+loop-again c = let w = c .before .before .before .before .before .before .before .before in
+    let i = w .before .before .before in
+    let l = i .before in
+    call-on _ _ _ _ (bytes l) _ _ _ _ _ (l .loop .inv) _ _ _ (w .call-at .ensures) (roomy i) (sym (c .before .goes-on .ensures) ∙ not-false _ (c .if3 .left))
+
+same-length-4 : tie.Need-same-length-4 Inv-loop μ-loop
+same-length-4 c = c .before .before .loop .inv .kept
+
+returns-4 : tie.Need-returns-4 Inv-loop μ-loop
+returns-4 c = let l = c .before .before in
+    rw (c .all-calls4 .ensures) (no-room _ _ _ _ _ _ _ _ _ (l .loop .inv) (c .before .loop-test .left))
+
+pub serve-stream-spec : {M : Type 1} → statement M
+serve-stream-spec =
+    tie.close
+    (tie.spec
+    Inv-loop
+    μ-loop
+    (λ c κs. search needs)
+    returns
+    (λ c κs. search needs)
+    (λ c κs. search needs)
+    (λ c. search needs)
+    returns-2
+    loop-holds
+    sub-loop
+    call-at-requires
+    add-taken
+    add-size
+    (λ c. search needs)
+    (λ c κs. search needs)
+    (λ c κs. search needs)
+    same-length-2
+    (λ c. search needs)
+    returns-3
+    loop-less
+    loop-again
+    (λ c. search needs)
+    (λ c κs. search needs)
+    same-length-4
+    (λ c. search needs)
+    returns-4)

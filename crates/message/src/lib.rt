@@ -4,6 +4,8 @@ use field::Span;
 ghost use mathlib.Core.Path.{_≡_};
 ghost use Rattle.field.specs.Answer.{partOf};
 ghost use Rattle.message.specs.Operation.{codeOf, asFound, findCode};
+ghost use Rattle.message.specs.Request.{nameLimit, keyLimit, valueLimit};
+ghost use Rattle.message.specs.Reply.{textLimit};
 
 pub enum Operation {
     Put,
@@ -55,6 +57,13 @@ pub struct Reply {
     pub text: Span,
 }
 
+// The largest sizes of a request's name, key and value.
+pub struct Limits {
+    pub name: u64,
+    pub key: u64,
+    pub value: u64,
+}
+
 // What the writer of a message answers: how many bytes it wrote, or the refusal for which it wrote none.
 pub enum Sent {
     Written(usize),
@@ -67,6 +76,17 @@ impl Request {
     pub const KEY: u64 = 64;
 
     pub const VALUE: u64 = 256;
+
+    // The limits, as the formats have them.
+    pub fn limits() -> Limits
+        ensures { λ r. ⌜ (r .name ≡ nameLimit) × (r .key ≡ keyLimit) × (r .value ≡ valueLimit) ⌝ }
+    {
+        Limits {
+            name: Self::NAME,
+            key: Self::KEY,
+            value: Self::VALUE,
+        }
+    }
 
     // The name, the key and the value, as parts of the bytes that the request was read from.
     pub fn name_in(self, s: &[u8]) -> &[u8]
@@ -92,9 +112,16 @@ impl Request {
 }
 
 impl Reply {
-    pub const VALUE: u64 = 256;
+    pub const VALUE: u64 = Request::VALUE;
 
     pub const TEXT: u64 = 64;
+
+    // The limit of a text, as the formats have it.
+    pub fn limit() -> u64
+        ensures { λ r. ⌜ r ≡ textLimit ⌝ }
+    {
+        Self::TEXT
+    }
 
     pub fn value_in(self, s: &[u8]) -> &[u8]
         ensures { λ r. ⌜ now r ≡ partOf (now (s .entry)) (self .value) ⌝ }

@@ -2,4 +2,3 @@ pub mod Codec
 pub mod Number
 pub mod Field
 pub mod Write
-pub mod Vectors

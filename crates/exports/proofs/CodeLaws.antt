@@ -1,0 +1,51 @@
+-- What the tests of given numbers say, that a code fits, and what a reader tells by each of its answers. Assumes nothing.
+use mathlib.Core.Path.{_≡_, refl, sym, ap, _∙_}
+use mathlib.Core.List.{List, []}
+use mathlib.Core.Bool.{Bool, true, false, cond, _&&_}
+use Prim.Native.Nat.{ℕ, _+_, _≤_, _<_, _^_}
+use native.Mathlib.Omega.{arith}
+use lib.ListN.{length, getD}
+use lib.Dec.{leb}
+use borrow.Author.Tests.{le-leb, leb-true}
+use Rattle.wire.specs.Codec.{Read, whole, more, refused, Codec}
+use Rattle.wire.specs.Write.{Sent, written, kept, send}
+use Rattle.wire.proofs.Laws.{Laws, both}
+use Rattle.exports.specs.Codes.{readCode, sentCode, coded, tell, Tells}
+use Rattle.exports.specs.Messages.{isHead, HeadFits, isAnswer, AnswerFits}
+
+pub head-fits : (ns : List ℕ) → isHead ns ≡ true → HeadFits ns
+head-fits ns e =
+    let a = both (leb 9 (length ns)) _ e in
+    let b = both (leb (getD ns 1 0) 255) _ (a .1) in
+    let d = both (leb (getD ns 2 0) 255) _ (b .1) in
+    record { long = leb-true _ _ (a .0); version = leb-true _ _ (b .0); op = leb-true _ _ (d .0); intelligence = leb-true _ _ (d .1) }
+
+pub answer-fits : (ns : List ℕ) → isAnswer ns ≡ true → AnswerFits ns
+answer-fits ns e =
+    let a = both (leb 4 (length ns)) _ e in
+    let b = both (leb (getD ns 1 0) 255) _ (a .1) in
+    record { long = leb-true _ _ (a .0); op = leb-true _ _ (b .0); status = leb-true _ _ (b .1) }
+
+-- a message is written in the list lent, and so its length is at most that list's
+module _ {A : Type 0} (c : Codec A) (a : A) (old : List ℕ) (h : length old < 2 ^ 63) where
+  send-fits : sentCode (send c a old .0) < 2 ^ 64
+  unfolding send
+  send-fits = go (c .ok a) (leb (length (c .enc a)) (length old)) refl _
+    where
+      go : (t u : Bool) → leb (length (c .enc a)) (length old) ≡ u → (new : List ℕ)
+          → sentCode (cond {A = Sent × List ℕ} t (cond u (written (length (c .enc a)), new) (kept 12, old)) (kept 16, old) .0) < 2 ^ 64
+      go true true e new = omega (arith, leb-true (length (c .enc a)) (length old) e)
+      go true false e new = omega arith
+      go false u e new = omega arith
+
+  pub sent-fits : (x : Sent) (new : List ℕ) → (x, new) ≡ send c a old → sentCode x < 2 ^ 64
+  sent-fits x new e = rw (ap (λ (p : Sent × List ℕ). p .0) e) send-fits
+
+-- no numbers told leave the list as it was
+pub tell-none : (old : List ℕ) → old ≡ tell [] old
+unfolding tell
+tell-none old = rw (le-leb 0 (length old) (omega arith))
+
+-- a message that was read whole is in the input, and so its length is at most the input's
+pub whole-fits : {A : Type 0} (c : Codec A) → Laws c → (s : List ℕ) → length s < 2 ^ 63 → (a : A) (n : ℕ) → whole a n ≡ c .dec s → 256 + n < 2 ^ 64
+whole-fits c l s h a n e = omega (arith, l .spans s a n (sym e))

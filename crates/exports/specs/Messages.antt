@@ -1,0 +1,88 @@
+-- The numbers by which the exported readers and writers know a message.
+use mathlib.Core.List.{List, [], _∷_}
+use mathlib.Core.Bool.{Bool, cond, _&&_}
+use mathlib.Core.Option.{Option, none, some}
+use Prim.Native.Nat.{ℕ, _≤_}
+use lib.ListN.{length, getD}
+use lib.Dec.{leb}
+use Rattle.wire.specs.Write.{Sent, kept, send}
+use Rattle.message.specs.declared.Operation.{Operation}
+use Rattle.message.specs.declared.Head.{Head}
+use Rattle.message.specs.declared.Answer.{Answer}
+use Rattle.message.specs.declared.Request as code
+use Rattle.message.specs.declared.Reply as code-reply
+use Rattle.message.specs.Operation.{codeOf, findCode}
+use Rattle.message.specs.Request.{request, requestOf}
+use Rattle.message.specs.Reply.{Asked, reply, replyOf}
+use Rattle.request.specs.declared.RequestRead.{RequestRead}
+use Rattle.request.specs.declared.RequestRead.the-variants as r
+use Rattle.reply.specs.declared.ReplyRead.{ReplyRead}
+use Rattle.reply.specs.declared.ReplyRead.the-variants as p
+
+-- the count of bytes of a request that was read, its numbers, and where its name, key and value stand
+abbrev pub wholeRequest : code.Request → ℕ → List ℕ
+wholeRequest q n =
+    n ∷ q .head .id ∷ q .head .version ∷ codeOf (q .head .op) ∷ q .head .flags ∷ q .head .intelligence ∷ q .head .topology ∷ q .head .lifespan
+    ∷ q .head .idle ∷ q .head .entry .0 ∷ q .name .start ∷ q .name .len ∷ q .key .start ∷ q .key .len ∷ q .value .start ∷ q .value .len ∷ []
+
+abbrev pub requestNumbers : RequestRead → List ℕ
+requestNumbers (r.Whole q n) = wholeRequest q n
+requestNumbers r.More = []
+requestNumbers (r.Refused k) = []
+
+-- the same of a reply, and where its value and text stand
+abbrev pub wholeReply : code-reply.Reply → ℕ → List ℕ
+wholeReply q n =
+    n ∷ q .answer .id ∷ q .answer .op ∷ q .answer .status ∷ q .answer .entry .0 ∷ q .value .start ∷ q .value .len ∷ q .text .start ∷ q .text .len ∷ []
+
+abbrev pub replyNumbers : ReplyRead → List ℕ
+replyNumbers (p.Whole q n) = wholeReply q n
+replyNumbers p.More = []
+replyNumbers (p.Refused k) = []
+
+-- the numbers of a request to be written: too few, one that does not fit its field, or a code that is not served are none of a request
+abbrev pub headWith : List ℕ → Operation → Head
+headWith ns o =
+    record {
+      id = getD ns 0 0;
+      version = getD ns 1 0;
+      op = o;
+      flags = getD ns 3 0;
+      intelligence = getD ns 4 0;
+      topology = getD ns 5 0;
+      lifespan = getD ns 6 0;
+      idle = getD ns 7 0;
+      entry = record { 0 = getD ns 8 0 };
+    }
+
+abbrev pub isHead : List ℕ → Bool
+isHead ns = leb 9 (length ns) && (leb (getD ns 1 0) 255 && (leb (getD ns 2 0) 255 && leb (getD ns 4 0) 255))
+
+pub record HeadFits (ns : List ℕ) : Type 0 where
+  pub long : 9 ≤ length ns
+  pub version : getD ns 1 0 ≤ 255
+  pub op : getD ns 2 0 ≤ 255
+  pub intelligence : getD ns 4 0 ≤ 255
+
+-- "16 | writing: message breaks a rule above"
+abbrev pub sendHead : List ℕ → Option Operation → List ℕ → List ℕ → List ℕ → List ℕ → Sent × List ℕ
+sendHead ns none name key value old = (kept 16, old)
+sendHead ns (some o) name key value old = send request (requestOf (headWith ns o) name key value) old
+
+unfoldable pub sendRequest : List ℕ → List ℕ → List ℕ → List ℕ → List ℕ → Sent × List ℕ
+sendRequest ns name key value old = cond (isHead ns) (sendHead ns (findCode (getD ns 2 0)) name key value old) (kept 16, old)
+
+-- the same of a reply
+abbrev pub answerWith : List ℕ → Answer
+answerWith ns = record { id = getD ns 0 0; op = getD ns 1 0; status = getD ns 2 0; entry = record { 0 = getD ns 3 0 } }
+
+abbrev pub isAnswer : List ℕ → Bool
+isAnswer ns = leb 4 (length ns) && (leb (getD ns 1 0) 255 && leb (getD ns 2 0) 255)
+
+pub record AnswerFits (ns : List ℕ) : Type 0 where
+  pub long : 4 ≤ length ns
+  pub op : getD ns 1 0 ≤ 255
+  pub status : getD ns 2 0 ≤ 255
+
+unfoldable pub sendReply : Asked → List ℕ → List ℕ → List ℕ → List ℕ → Sent × List ℕ
+sendReply a ns value text old = cond (isAnswer ns) (send (reply a) (replyOf (answerWith ns) value text) old) (kept 16, old)

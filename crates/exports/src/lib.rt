@@ -1,0 +1,146 @@
+// The library for other languages: each function takes numbers and slices. One that answers a number answers 0 for more needed, a refusal's number,
+// or 256 and the count of the bytes read or written. A list of numbers that is lent too short is left as it was.
+mod given;
+mod tell;
+
+use message::Found;
+use reply::ReplyRead;
+use request::RequestRead;
+ghost use mathlib.Core.Path.{_≡_};
+ghost use Rattle.message.specs.Request.{request};
+ghost use Rattle.message.specs.Reply.{reply};
+ghost use Rattle.request.specs.Answer.{asRequest};
+ghost use Rattle.reply.specs.Answer.{asReply, asked};
+ghost use Rattle.table.specs.Memory.{Sound};
+ghost use Rattle.table.specs.Found.{Tells as Says};
+ghost use Rattle.table.specs.Change.{Left, isSome, made};
+ghost use Rattle.server.specs.Answer.{callOf, contextOf};
+ghost use Rattle.exports.specs.Calls.{TellsDone, TellsTotal};
+ghost use Rattle.exports.specs.Codes.{coded, Tells};
+ghost use Rattle.exports.specs.Messages.{requestNumbers, replyNumbers, sendRequest, sendReply};
+
+// The request at the front of the input. Numbers told: count of bytes, id, version, operation, flags, intelligence, topology, lifespan, max idle, entry
+// version, and the start and length of name, key and value.
+#[no_mangle]
+pub extern "C" fn fq_read_request(input: &[u8], answer: &mut [u64]) -> u64
+    ensures { λ r. ⌜ Tells (asRequest (now (input .entry))) requestNumbers (request .dec (now (input .entry))) (now (answer .entry)) (now (answer .exit)) r ⌝ }
+{
+    let a = request::read_request(input);
+    match a {
+        RequestRead::Whole(q, n) => {
+            tell::request(answer, q, n);
+            256 + n as u64
+        }
+        RequestRead::More => 0,
+        RequestRead::Refused(k) => k as u64,
+    }
+}
+
+// The reply at the front of the input, to an operation that was asked with flag 0x0001 or without. Numbers told: count of bytes, id, operation, status,
+// entry version, and the start and length of value and text.
+#[no_mangle]
+pub extern "C" fn fq_read_reply(input: &[u8], op: u8, flag: bool, answer: &mut [u64]) -> u64
+    ensures { λ r. ⌜ Tells (asReply (now (input .entry))) replyNumbers (reply (asked op flag) .dec (now (input .entry))) (now (answer .entry)) (now (answer .exit)) r ⌝ }
+{
+    let a = reply::read_reply(input, op, flag);
+    match a {
+        ReplyRead::Whole(q, n) => {
+            tell::reply(answer, q, n);
+            256 + n as u64
+        }
+        ReplyRead::More => 0,
+        ReplyRead::Refused(k) => k as u64,
+    }
+}
+
+// Writes a request at the front of `out`. Its numbers: id, version, operation, flags, intelligence, topology, lifespan, max idle and entry version.
+#[no_mangle]
+pub extern "C" fn fq_write_request(
+    out: &mut [u8],
+    numbers: &[u64],
+    name: &[u8],
+    key: &[u8],
+    value: &[u8],
+) -> u64
+    ensures { λ r. ⌜ (r, now (out .exit)) ≡ coded (sendRequest (now (numbers .entry)) (now (name .entry)) (now (key .entry)) (now (value .entry)) (now (out .entry))) ⌝ }
+{
+    if !given::is_head(numbers) {
+        return 16;
+    }
+    let found = message::find(numbers[2] as u8);
+    let Found::Known(op) = found else {
+        return 16;
+    };
+    let h = given::head(numbers, op);
+    tell::sent(request::write_request(out, h, name, key, value))
+}
+
+// Writes a reply at the front of `out`. Its numbers: id, operation, status and entry version.
+#[no_mangle]
+pub extern "C" fn fq_write_reply(
+    out: &mut [u8],
+    op: u8,
+    flag: bool,
+    numbers: &[u64],
+    value: &[u8],
+    text: &[u8],
+) -> u64
+    ensures { λ r. ⌜ (r, now (out .exit)) ≡ coded (sendReply (asked op flag) (now (numbers .entry)) (now (value .entry)) (now (text .entry)) (now (out .entry))) ⌝ }
+{
+    if !given::is_answer(numbers) {
+        return 16;
+    }
+    let a = given::answer(numbers);
+    tell::sent(reply::write_reply(out, op, flag, a, value, text))
+}
+
+// Whether the memory is a sound table.
+#[no_mangle]
+pub extern "C" fn fq_is_table(table: &[u8]) -> bool
+    ensures { λ r. ⌜ Says r (Sound (now (table .entry))) ⌝ }
+{
+    table::is_table(table)
+}
+
+// Makes the memory a fresh table.
+#[no_mangle]
+pub extern "C" fn fq_make(table: &mut [u8]) -> bool
+    ensures { λ r. ⌜ (r ≡ isSome (made (now (table .entry)))) × Left (now (table .entry)) (made (now (table .entry))) (now (table .exit)) ⌝ }
+{
+    table::make(table)
+}
+
+// Serves the request at the front of the input: 256 is served. Numbers told: bytes taken, and bytes of the reply.
+#[no_mangle]
+pub extern "C" fn fq_serve(
+    input: &[u8],
+    table: &mut [u8],
+    second: u32,
+    reply: &mut [u8],
+    answer: &mut [u64],
+) -> u64
+    ensures { λ r. ⌜ TellsDone (now (input .entry)) (now (table .entry)) (callOf second (now (reply .entry))) (now (reply .exit)) (now (table .exit)) (now (answer .entry)) (now (answer .exit)) r ⌝ }
+{
+    let a = server::serve(input, table, second, reply);
+    tell::numbers(answer, &[a.taken as u64, a.size as u64]);
+    let v = a.verdict;
+    tell::verdict(v)
+}
+
+// Serves the requests of the input one after the other, and answers as the last call does. Numbers told: bytes taken, bytes of the replies, and how
+// many calls there were, the last one among them.
+#[no_mangle]
+pub extern "C" fn fq_serve_stream(
+    input: &[u8],
+    table: &mut [u8],
+    second: u32,
+    reply: &mut [u8],
+    answer: &mut [u64],
+) -> u64
+    ensures { λ r. ⌜ TellsTotal (contextOf second) (now (input .entry)) (now (table .entry)) (now (reply .entry)) (now (reply .exit)) (now (table .exit)) (now (answer .entry)) (now (answer .exit)) r ⌝ }
+{
+    let a = server::serve_stream(input, table, second, reply);
+    tell::numbers(answer, &[a.taken as u64, a.size as u64, a.calls as u64]);
+    let v = a.verdict;
+    tell::verdict(v)
+}

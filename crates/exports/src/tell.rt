@@ -1,0 +1,98 @@
+// Answers as numbers, and numbers told at the front of a list that the caller lends.
+use message::Reply;
+use message::Request;
+use message::Sent;
+use server::Verdict;
+ghost use mathlib.Core.Path.{_≡_};
+ghost use Prim.Native.Nat.{_<_, _^_};
+ghost use Rattle.message.specs.Answer.{asSent};
+ghost use Rattle.server.specs.Answer.{asVerdict};
+ghost use Rattle.exports.specs.Calls.{verdictCode};
+ghost use Rattle.exports.specs.Codes.{sentCode, tell};
+ghost use Rattle.exports.specs.Messages.{wholeRequest, wholeReply};
+
+// A list that is shorter than the numbers is left as it was.
+pub(crate) fn numbers(answer: &mut [u64], ns: &[u64])
+    ensures { λ _. ⌜ now (answer .exit) ≡ tell (now (ns .entry)) (now (answer .entry)) ⌝ }
+{
+    if answer.len() < ns.len() {
+        return;
+    }
+    let mut i = 0;
+    while i < ns.len() {
+        answer[i] = ns[i];
+        i += 1;
+    }
+}
+
+pub(crate) fn request(answer: &mut [u64], q: Request, n: usize)
+    ensures { λ _. ⌜ now (answer .exit) ≡ tell (wholeRequest q n) (now (answer .entry)) ⌝ }
+{
+    let h = q.head;
+    let op = h.op;
+    let entry = h.entry;
+    let name = q.name;
+    let key = q.key;
+    let value = q.value;
+    let ns = [
+        n as u64,
+        h.id,
+        h.version as u64,
+        message::code(op) as u64,
+        h.flags,
+        h.intelligence as u64,
+        h.topology,
+        h.lifespan,
+        h.idle,
+        entry.0,
+        name.start as u64,
+        name.len as u64,
+        key.start as u64,
+        key.len as u64,
+        value.start as u64,
+        value.len as u64,
+    ];
+    numbers(answer, &ns);
+}
+
+pub(crate) fn reply(answer: &mut [u64], q: Reply, n: usize)
+    ensures { λ _. ⌜ now (answer .exit) ≡ tell (wholeReply q n) (now (answer .entry)) ⌝ }
+{
+    let a = q.answer;
+    let entry = a.entry;
+    let value = q.value;
+    let text = q.text;
+    let ns = [
+        n as u64,
+        a.id,
+        a.op as u64,
+        a.status as u64,
+        entry.0,
+        value.start as u64,
+        value.len as u64,
+        text.start as u64,
+        text.len as u64,
+    ];
+    numbers(answer, &ns);
+}
+
+// The answer of a writer, and how a call ended.
+pub(crate) fn sent(s: Sent) -> u64
+    requires { ⌜ sentCode (asSent s) < 2 ^ 64 ⌝ }
+    ensures { λ r. ⌜ r ≡ sentCode (asSent s) ⌝ }
+{
+    match s {
+        Sent::Written(n) => 256 + n as u64,
+        Sent::Refused(k) => k as u64,
+    }
+}
+
+pub(crate) fn verdict(v: Verdict) -> u64
+    ensures { λ r. ⌜ r ≡ verdictCode (asVerdict v) ⌝ }
+{
+    match v {
+        Verdict::Served => 256,
+        Verdict::More => 0,
+        Verdict::Refused(k) => k as u64,
+    }
+}

@@ -49,3 +49,8 @@ tell-none old = rw (le-leb 0 (length old) (omega arith))
 -- a message that was read whole is in the input, and so its length is at most the input's
 pub whole-fits : {A : Type 0} (c : Codec A) → Laws c → (s : List ℕ) → length s < 2 ^ 63 → (a : A) (n : ℕ) → whole a n ≡ c .dec s → 256 + n < 2 ^ 64
 whole-fits c l s h a n e = omega (arith, l .spans s a n (sym e))
+
+-- what a reader tells, by the answer that it gives
+pub tells : {R A : Type 0} {means : R → Read A} {numbers : R → List ℕ} {found : Read A} {old new : List ℕ} {n : ℕ} (x y : R)
+    → means x ≡ found → x ≡ y → new ≡ tell (numbers y) old → n ≡ readCode (means y) → Tells means numbers found old new n
+tells x y p q t e = record { answer = x; read = p; told = rw q t; code = rw (← p, q) e }

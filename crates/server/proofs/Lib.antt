@@ -3,3 +3,5 @@ pub mod SendLaws
 pub mod StepLaws
 pub mod ManyLaws
 pub mod CallLaws
+pub mod LineLaws
+pub mod TurnLaws

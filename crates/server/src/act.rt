@@ -61,7 +61,7 @@ fn ended(w: Sent, taken: usize, v: Verdict) -> Answer
 }
 
 // The error reply of a refusal.
-fn refuse(out: &mut [u8], id: u64, k: u8, taken: usize) -> Answer
+pub(crate) fn refuse(out: &mut [u8], id: u64, k: u8, taken: usize) -> Answer
     requires { ⌜ stream.room ≤ length (now out) ⌝ }
     requires { ⌜ id < 0x8000_0000_0000_0000 ⌝ }
     requires { ⌜ 1 ≤ k ⌝ }
@@ -184,7 +184,7 @@ fn store(
 }
 
 // A request that was read, which took n bytes.
-fn perform(
+pub(crate) fn perform(
     input: &[u8],
     r: Request,
     n: usize,

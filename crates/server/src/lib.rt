@@ -1,5 +1,6 @@
-// The server: one call, and a stream of calls.
+// The server: one call, a stream of calls, and the lines of a file.
 mod act;
+mod lines;
 mod plan;
 
 use field::Second;
@@ -7,6 +8,7 @@ ghost use mathlib.Core.Path.{_≡_};
 ghost use Rattle.stream.specs.Stream.{Serves};
 ghost use Rattle.stream.specs.Many.{goesOn, Streams};
 ghost use Rattle.server.specs.Answer.{asVerdict, callOf, doneOf, contextOf, totalOf, Ready, CallsAt};
+ghost use Rattle.server.specs.Lines.{ServesLine, ServesLines};
 
 // How a call ended.
 pub enum Verdict {
@@ -114,4 +116,63 @@ pub fn serve_stream(input: &[u8], table: &mut [u8], second: u32, reply: &mut [u8
         }
     }
     all_calls(taken, size, calls + 1, Verdict::Refused(12))
+}
+
+// What serving a line answers: how many bytes it wrote, or the refusal for which it wrote none.
+pub enum Lined {
+    Written(usize),
+    Refused(u8),
+}
+
+// What serving the lines of a piece of a file answers: the bytes taken, the bytes of the output, whether the rest of a line is still to be
+// passed over, and the refusal for which nothing was done, or 0.
+pub struct Fed {
+    pub taken: usize,
+    pub size: usize,
+    pub passing: bool,
+    pub refused: u8,
+}
+
+impl Fed {
+    // The least room for the output of a line, and the longest line.
+    pub const ROOM: usize = 559;
+
+    pub const LONGEST: usize = 1024;
+}
+
+// Serves a line, without its line end, and writes the line that it gives, with its line end.
+pub fn serve_line(line: &[u8], table: &mut [u8], out: &mut [u8]) -> Lined
+    ensures { λ r. ⌜ ServesLine (now (line .entry)) (now (table .entry)) (now (out .entry)) r (now (out .exit)) (now (table .exit)) ⌝ }
+{
+    if out.len() < Fed::ROOM {
+        return Lined::Refused(12);
+    }
+    if !table::is_table(table) {
+        return Lined::Refused(13);
+    }
+    Lined::Written(lines::line_sound(line, table, out, 0))
+}
+
+// Serves the lines of a piece of a file, as long as there is room for a line. passing: the rest of the first line is passed over;
+// last: nothing comes behind the piece.
+pub fn serve_lines(input: &[u8], table: &mut [u8], out: &mut [u8], passing: bool, last: bool) -> Fed
+    ensures { λ r. ⌜ ServesLines last passing (now (input .entry)) (now (table .entry)) (now (out .entry)) r (now (out .exit)) (now (table .exit)) ⌝ }
+{
+    if out.len() < Fed::ROOM {
+        return Fed {
+            taken: 0,
+            size: 0,
+            passing: passing,
+            refused: 12,
+        };
+    }
+    if !table::is_table(table) {
+        return Fed {
+            taken: 0,
+            size: 0,
+            passing: passing,
+            refused: 13,
+        };
+    }
+    lines::feed(input, table, out, passing, last)
 }

@@ -41,14 +41,14 @@ unfolding entryAt
 no-row t i l = List·getD-eq-default (stateOf t .entries) (entry [] [] 0 0) {n = i} l
 
 -- what a writer answers
-abbrev Answers : List ℕ → Option State → Bool → List ℕ → Type 0
+abbrev pub Answers : List ℕ → Option State → Bool → List ℕ → Type 0
 Answers old o r new = (r ≡ isSome o) × Left old o new
 
-taken : (old new : List ℕ) (st : State) (b : Bool) → b ≡ true → Changed old new st → Answers old (cond b (some st) none) true new
+pub taken : (old new : List ℕ) (st : State) (b : Bool) → b ≡ true → Changed old new st → Answers old (cond b (some st) none) true new
 taken old new st true e h = (refl, h)
 taken old new st false e h = never (cc)
 
-left : (old : List ℕ) (st : State) (b : Bool) → b ≡ false → Answers old (cond b (some st) none) false old
+pub left : (old : List ℕ) (st : State) (b : Bool) → b ≡ false → Answers old (cond b (some st) none) false old
 left old st true e = never (cc)
 left old st false e = (refl, refl)
 

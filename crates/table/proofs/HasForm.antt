@@ -3,7 +3,7 @@
 use mathlib.Core.Path.{_≡_, refl, sym, ap, _∙_, subst}
 use mathlib.Core.List.{List, [], _∷_, _++_, append-nil}
 use mathlib.Core.Logic.{⊎-elim}
-use mathlib.Core.Option.{none, some}
+use mathlib.Core.Option.{Option, none, some}
 use mathlib.Core.Bool.{Bool, true, cond}
 use Prim.Native.Nat.{ℕ, _+_, _%_, _≤_, _<_, _^_, min}
 use native.Mathlib.Omega.{arith}
@@ -14,16 +14,17 @@ use borrow.Author.Tests.{eq-eqb, lt-ltb}
 use Rattle.wire.specs.Codec.{Bytes, isBytes}
 use Rattle.wire.proofs.Laws.{bytes-are}
 use Rattle.map.specs.State.{Entry, State, fresh}
-use Rattle.map.specs.Step.{mostKeys}
+use Rattle.map.specs.Step.{mostKeys, lastVersion}
 use Rattle.map.specs.Table.{Each, Sizes, IsTable, Ascending}
 use Rattle.table.specs.Bytes.{be8, upto}
 use Rattle.table.specs.Memory.{size, rowAt, entry, entryOf, countOf, entriesOf, stateOf, Form, Sound}
-use Rattle.table.specs.Change.{Changed, Left, made}
+use Rattle.table.specs.Change.{Changed, Left, made, started}
 use Rattle.table.specs.Write.{put, digits, Written}
 use Rattle.table.specs.Form.{zeros, rowOf, withRow, withRows, form}
 use Rattle.table.proofs.Lists.{length-upto, getD-upto, upto-ext, lt-or-ge}
 use Rattle.table.proofs.Order.{each-both}
 use Rattle.table.proofs.Parts.{length-put, bytes-put}
+use Rattle.table.proofs.Restores.{started-is}
 use Rattle.table.proofs.RowLaws.{SameRow, be8-same, length-digits, state-is, length-entries, count-most}
 use Rattle.table.proofs.Writes.{Patched, AllFit, fit, counts, row-before, written, entries-more, lengths-more, patched, patched-last}
 
@@ -125,9 +126,9 @@ module _ (t : List ℕ) (e : Entry) (g : Growing t) (k : Kept e) (room : countOf
         record {
           held = row-bytes;
           counted = omega (arith, p .count, p .few);
-          lengths = lengths-more t _ (rowOf e) _ _ _ n _ refl room w (row-written e k) p (g .lengths);
+          lengths = lengths-more t _ (rowOf e) _ _ _ n _ _ refl room w (row-written e k) p (g .lengths);
         },
-        entries-more t _ (rowOf e) _ _ _ n _ refl room w (row-written e k) p,
+        entries-more t _ (rowOf e) _ _ _ n _ _ refl room w (row-written e k) p,
         counts t _ _ _ _ _ p,
       )
 
@@ -207,13 +208,10 @@ has-form st h a =
       bytes = held-put8 8 (st .last) (r .0 .held) (omega arith) .bytes;
     }
 
--- memory that was made
-fresh-table : IsTable fresh
-fresh-table = record { few = omega arith; keys = tt; sizes = tt; versions = tt; issued = tt; last = omega arith }
-
-fresh-sound : (u : List ℕ) → length u ≡ size → stateOf u ≡ fresh → Sound u
+-- memory that was made, and memory that was started
+bare-sound : (u : List ℕ) (x : ℕ) → length u ≡ size → x ≤ lastVersion → stateOf u ≡ record { entries = []; last = x } → Sound u
 unfolding countOf
-fresh-sound u h e =
+bare-sound u x h l e =
     let n : min (be8 u 0) 128 ≡ 0 = sym (length-entries u h) ∙ ap (λ (st : State). length (st .entries)) e in
     record {
       form = record {
@@ -222,11 +220,17 @@ fresh-sound u h e =
         lengths = λ i l. absurd (omega arith);
         order = subst (λ (st : State). Ascending (st .entries)) (sym e) tt;
       };
-      table = subst IsTable (sym e) fresh-table;
+      table = subst IsTable (sym e) (record { few = omega arith; keys = tt; sizes = tt; versions = tt; issued = tt; last = l });
     }
 
 pub made-sound : (t u : List ℕ) → length t ≡ size → Left t (made t) u → Sound u
 unfolding made
 made-sound t u h l =
     let c : Changed t u fresh = subst (λ (b : Bool). Left t (cond b (some fresh) none) u) (eq-eqb (length t) size h) l in
-    fresh-sound u (c .long ∙ h) (c .state)
+    bare-sound u 0 (c .long ∙ h) (omega arith) (c .state)
+
+pub started-sound : (x : ℕ) (t u : List ℕ) → length t ≡ size → x ≤ lastVersion → Left t (started x t) u
+    → Sound u × (stateOf u ≡ record { entries = []; last = x })
+started-sound x t u h l d =
+    let c : Changed t u (record { entries = []; last = x }) = subst (λ (o : Option State). Left t o u) (started-is x t h l) d in
+    (bare-sound u x (c .long ∙ h) l (c .state), c .state)

@@ -7,5 +7,6 @@ pub mod Answers
 pub mod Keys
 pub mod SoundLaws
 pub mod Behind
+pub mod Restores
 pub mod HasForm
 pub mod Kept

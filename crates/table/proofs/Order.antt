@@ -1,12 +1,16 @@
 -- What is said of each entry, and of each with those behind it, by their places; and that it stays where an entry is removed or added.
 -- Assumes nothing.
+use mathlib.Core.Path.{_≡_, ap}
 use mathlib.Core.List.{List, [], _∷_, _++_}
-use Prim.Native.Nat.{ℕ, zero, suc, _<_}
+use mathlib.Core.Logic.{⊎-elim}
+use Prim.Native.Nat.{ℕ, zero, suc, _-_, _≤_, _<_}
 use native.Mathlib.Omega.{arith}
 use lib.ListN.{length, getD}
 use Rattle.map.specs.State.{Entry}
-use Rattle.map.specs.Table.{Each, Pairs}
-use Rattle.table.proofs.Lists.{removeAt}
+use Rattle.map.specs.Table.{Each, Pairs, Ascending}
+use Rattle.table.specs.Memory.{entry}
+use Rattle.table.specs.Change.{newest}
+use Rattle.table.proofs.Lists.{removeAt, lt-or-ge}
 
 pub each-map : {p q : Entry → Type 0} (es : List Entry) → ((e : Entry) → p e → q e) → Each p es → Each q es
 each-map [] f h = tt
@@ -59,3 +63,14 @@ module _ (p : Entry → Entry → Type 0) where
   pub pairs-more : (es : List Entry) (x : Entry) → Pairs p es → Each (λ e. p e x) es → Pairs p (es ++ (x ∷ []))
   pairs-more [] x h q = (tt, tt)
   pairs-more (e ∷ es) x h q = (each-more (p e) es x (h .0) (q .0), pairs-more es x (h .1) (q .1))
+
+-- where versions ascend, that of the last entry is the greatest
+pub to-newest : (es : List Entry) → Ascending es → Each (λ e. e .version ≤ newest es) es
+unfolding newest
+to-newest es a =
+    let z : Entry = entry [] [] 0 0 in
+    each-all (λ e. e .version ≤ newest es) es z
+    (λ i l. ⊎-elim
+    (λ q. let s : getD es i z .version < getD es (length es - 1) z .version = pairs-at (λ e f. e .version < f .version) es z i (length es - 1) a q (omega arith) in omega arith)
+    (λ q. let s : getD es i z .version ≡ getD es (length es - 1) z .version = ap (λ (j : ℕ). getD es j z .version) (omega arith) in omega arith)
+    (lt-or-ge i (length es - 1)))

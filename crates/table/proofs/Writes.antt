@@ -9,13 +9,13 @@ use lib.ListN.{length, getD}
 use Rattle.message.specs.Request.{keyLimit, valueLimit}
 use Rattle.map.specs.State.{State, withEntries, fresh}
 use Rattle.map.specs.Step.{mostKeys}
-use Rattle.map.specs.Table.{Ascending}
+use Rattle.map.specs.Table.{Each, Ascending}
 use Rattle.table.specs.Bytes.{be8, part, upto}
 use Rattle.table.specs.Memory.{size, rowAt, entry, entryOf, countOf, entriesOf, stateOf, Form, Sound}
-use Rattle.table.specs.Change.{Changed}
-use Rattle.table.specs.Write.{put, digits, Written, grown, shrunk}
+use Rattle.table.specs.Change.{Changed, newest}
+use Rattle.table.specs.Write.{put, digits, Written, grown, extended, shrunk}
 use Rattle.table.proofs.Lists.{removeAt, lt-or-ge, upto-more, upto-remove}
-use Rattle.table.proofs.Order.{each-map, pairs-less, pairs-more}
+use Rattle.table.proofs.Order.{each-map, pairs-less, pairs-more, to-newest}
 use Rattle.table.proofs.Parts.{put-none, part-before, part-put, length-part, getD-part, length-put, put-before, put-in}
 use Rattle.table.proofs.RowLaws.{length-digits, length-put8, be8-put, put8-after, be8-after, be8-before, SameRow, row-same, state-is, entries-are, last-is}
 
@@ -54,9 +54,9 @@ module _ (t u : List ℕ) (a : ℕ) (vs : List ℕ) (m x : ℕ) (p : Patched t u
   unfolding countOf
   counts = omega (arith, p .count, p .few)
 
--- a row more, of version x
-module _ (t u row k v : List ℕ) (d n x : ℕ) (count : n ≡ countOf t) (room : n < mostKeys) (width : length row ≡ 352) (w : Written row k v x d)
-    (p : Patched t u (rowAt n) row (n + 1) x) where
+-- a row more, of version x, with last version y
+module _ (t u row k v : List ℕ) (d n x y : ℕ) (count : n ≡ countOf t) (room : n < mostKeys) (width : length row ≡ 352) (w : Written row k v x d)
+    (p : Patched t u (rowAt n) row (n + 1) y) where
   new : SameRow u (rowAt n) row 0
   new = let z : rowAt n + 0 ≡ rowAt n = omega arith in rw z at (row-in t u (rowAt n) row (n + 1) _ p 0 (omega arith))
 
@@ -77,28 +77,44 @@ module _ (t u row k v : List ℕ) (d n x : ℕ) (count : n ≡ countOf t) (room 
       (λ q. let e : i ≡ n = omega (arith, counts t u (rowAt n) row (n + 1) _ p) in rw e (fit new (w .key, w .value)))
       (lt-or-ge i n)
 
--- a row more, of the next version
-module _ (t u row k v : List ℕ) (d n : ℕ) (count : n ≡ countOf t) (room : n < mostKeys) (width : length row ≡ 352) (w : Written row k v (be8 t 8 + 1) d)
-    (p : Patched t u (rowAt n) row (n + 1) (be8 t 8 + 1)) where
-  state-more : stateOf u ≡ grown k v d (stateOf t)
-  state-more =
-      let e : be8 t 8 + 1 ≡ suc (stateOf t .last) = add-one (be8 t 8) ∙ ap suc (sym (last-is t (p .old))) in
-      state-is u _ (p .long) (entries-more t u row k v d n _ count room width w p ∙ rw (entries-are t (p .old), e)) (p .last ∙ e)
+  state-more : stateOf u ≡ record { entries = stateOf t .entries ++ (entry k v x d ∷ []); last = y }
+  state-more = state-is u _ (p .long) (entries-more ∙ rw (entries-are t (p .old))) (p .last)
 
-  form-more : Sound t → Form u
+  -- a version above those of the rows that are held
+  pub more : (Sound t → Each (λ e. e .version < x) (stateOf t .entries))
+      → Changed t u (record { entries = stateOf t .entries ++ (entry k v x d ∷ []); last = y })
   unfolding entry
-  form-more s =
+  more above =
       record {
-        long = p .long;
-        counted = omega (arith, p .count, p .few);
-        lengths = lengths-more t u row k v d n _ count room width w p (s .form .lengths);
-        order = subst (λ (st : State). Ascending (st .entries)) (sym state-more)
-            (pairs-more _ (stateOf t .entries) _ (s .form .order)
-            (each-map (stateOf t .entries) (λ e h. omega (arith, h .1)) (s .table .issued)));
+        long = p .long ∙ sym (p .old);
+        state = state-more;
+        form = λ s.
+            record {
+              long = p .long;
+              counted = omega (arith, p .count, p .few);
+              lengths = lengths-more (s .form .lengths);
+              order = subst (λ (st : State). Ascending (st .entries)) (sym state-more) (pairs-more _ (stateOf t .entries) _ (s .form .order) (above s));
+            };
       }
 
-  pub appended : Changed t u (grown k v d (stateOf t))
-  appended = record { long = p .long ∙ sym (p .old); state = state-more; form = form-more }
+-- a row more, of the next version
+pub appended : (t u row k v : List ℕ) (d n : ℕ) → n ≡ countOf t → n < mostKeys → length row ≡ 352 → Written row k v (be8 t 8 + 1) d
+    → Patched t u (rowAt n) row (n + 1) (be8 t 8 + 1) → Changed t u (grown k v d (stateOf t))
+appended t u row k v d n count room width w p =
+    let l = last-is t (p .old) in
+    let e : be8 t 8 + 1 ≡ suc (stateOf t .last) = add-one (be8 t 8) ∙ ap suc (sym l) in
+    subst (λ (x : ℕ). Changed t u (record { entries = stateOf t .entries ++ (entry k v x d ∷ []); last = x })) e
+    (more t u row k v d n _ _ count room width w p
+    (λ s. each-map (stateOf t .entries) (λ e h. omega (arith, h .1)) (s .table .issued)))
+
+-- a row more, with the last version kept
+pub put-back : (t u row k v : List ℕ) (d n x : ℕ) → n ≡ countOf t → n < mostKeys → length row ≡ 352 → Written row k v x d
+    → Patched t u (rowAt n) row (n + 1) (be8 t 8) → newest (stateOf t .entries) < x
+    → Changed t u (extended k v x d (stateOf t))
+put-back t u row k v d n x count room width w p h =
+    subst (λ (y : ℕ). Changed t u (record { entries = stateOf t .entries ++ (entry k v x d ∷ []); last = y })) (sym (last-is t (p .old)))
+    (more t u row k v d n x _ count room width w p
+    (λ s. each-map (stateOf t .entries) (λ e l. omega arith) (to-newest (stateOf t .entries) (s .form .order))))
 
 -- a row less
 module _ (t u : List ℕ) (i n : ℕ) (count : n ≡ countOf t) (most : n ≤ mostKeys) (inside : i < n)
@@ -263,5 +279,8 @@ blank t h =
 pub clears : (t : List ℕ) → length t ≡ size → Changed t (put t 0 (digits 0)) (withEntries [] (stateOf t))
 clears t h = emptied t _ (stateOf t .last) (rw (last-is t h) (blank t h))
 
+pub starts : (t : List ℕ) (x : ℕ) → length t ≡ size → x < 2 ^ 64 → Changed t (put (put t 0 (digits 0)) 8 (digits x)) (record { entries = []; last = x })
+starts t x h l = emptied t _ x (patched-last t _ 16 [] 0 _ x (blank t h) l)
+
 pub makes : (t : List ℕ) → length t ≡ size → Changed t (put (put t 0 (digits 0)) 8 (digits 0)) fresh
-makes t h = emptied t _ 0 (patched-last t _ 16 [] 0 _ 0 (blank t h) (omega arith))
+makes t h = starts t 0 h (omega arith)

@@ -3,12 +3,12 @@ use mathlib.Core.Path.{_≡_}
 use mathlib.Core.List.{List, [], _∷_, _++_}
 use mathlib.Core.Bool.{Bool, true, false, cond, _&&_}
 use mathlib.Core.Option.{Option, none, some}
-use Prim.Native.Nat.{ℕ, suc}
-use lib.ListN.{length, take, drop}
+use Prim.Native.Nat.{ℕ, suc, _-_}
+use lib.ListN.{length, take, drop, getD}
 use lib.Dec.{eqb, leb, ltb}
 use Rattle.message.specs.Request.{keyLimit, valueLimit}
-use Rattle.map.specs.State.{Entry, State, withEntries, fresh}
-use Rattle.map.specs.Step.{mostKeys, lastVersion}
+use Rattle.map.specs.State.{Entry, State, withEntries, find, hasKey, fresh}
+use Rattle.map.specs.Step.{mostKeys, lastVersion, isNone}
 use Rattle.table.specs.Memory.{size, entry, stateOf, Form, Sound}
 
 -- memory that is changed keeps its length, and its form if it was sound, and stands for the state; memory that is not changed keeps its bytes
@@ -45,3 +45,26 @@ removed i t =
 -- all rows less
 unfoldable pub cleared : List ℕ → Option State
 cleared t = cond (eqb (length t) size) (some (withEntries [] (stateOf t))) none
+
+-- memory of the right length made a table with no entries and a last version
+unfoldable pub started : ℕ → List ℕ → Option State
+started x t = cond (eqb (length t) size && leb x lastVersion) (some (record { entries = []; last = x })) none
+
+-- the version of the last entry; 0 where there is none
+unfoldable pub newest : List Entry → ℕ
+newest es = getD es (length es - 1) (entry [] [] 0 0) .version
+
+-- an entry by itself is within its limits; and it can stand behind those held
+unfoldable pub fitting : List ℕ → List ℕ → ℕ → Bool
+fitting k v d = leb (length k) keyLimit && (leb (length v) valueLimit && leb d 8_589_934_590)
+
+unfoldable pub next : List ℕ → ℕ → List ℕ → Bool
+next k n t =
+    let st = stateOf t in
+    eqb (length t) size && (ltb (length (st .entries)) mostKeys && (ltb (newest (st .entries)) n && (leb n (st .last) && isNone (find (hasKey k) (st .entries)))))
+
+-- an entry more as it is, of a version already issued
+unfoldable pub restored : List ℕ → List ℕ → ℕ → ℕ → List ℕ → Option State
+restored k v n d t =
+    let st = stateOf t in
+    cond (fitting k v d && next k n t) (some (withEntries (st .entries ++ (entry k v n d ∷ [])) st)) none

@@ -23,9 +23,12 @@ pub record Written (row k v : List ℕ) (n d : ℕ) : Type 0 where
   pub key : be8 row 16 ≤ keyLimit
   pub value : be8 row 24 ≤ valueLimit
 
--- the state with an entry more, of the next version, and with entry i less
+-- the state with an entry more, of the next version; with one more as it is; and with entry i less
 abbrev pub grown : List ℕ → List ℕ → ℕ → State → State
 grown k v d st = record { entries = st .entries ++ (entry k v (suc (st .last)) d ∷ []); last = suc (st .last) }
+
+abbrev pub extended : List ℕ → List ℕ → ℕ → ℕ → State → State
+extended k v n d st = withEntries (st .entries ++ (entry k v n d ∷ [])) st
 
 abbrev pub shrunk : ℕ → State → State
 shrunk i st = withEntries (take i (st .entries) ++ drop (suc i) (st .entries)) st

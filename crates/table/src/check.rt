@@ -1,15 +1,18 @@
-// The parts of the check whether memory that has the length of a table is one.
+// The parts of the check whether memory that has the length of a table is one, and of the check whether an entry can be restored.
 use crate::Found;
 use crate::Row;
 use crate::Table;
+use crate::find;
+use crate::last;
 use crate::number;
 use crate::rows;
 ghost use mathlib.Core.Path.{_≡_};
 ghost use Prim.Native.Nat.{_+_, _≤_};
 ghost use lib.ListN.{length};
 ghost use Rattle.table.specs.Bytes.{be8};
-ghost use Rattle.table.specs.Memory.{size, countOf};
+ghost use Rattle.table.specs.Memory.{size, countOf, stateOf};
 ghost use Rattle.table.specs.Found.{Tells};
+ghost use Rattle.table.specs.Change.{newest, fitting, next};
 ghost use Rattle.table.specs.Check.{Within, AllWithin, Rising, Differ};
 
 // Whether the lengths and the deadline of the row at a are within their limits.
@@ -81,5 +84,53 @@ pub(crate) fn differ(t: &[u8]) -> bool
         };
         i += 1;
     }
+    true
+}
+
+// Whether the sizes and the deadline of an entry are within their limits.
+pub(crate) fn fits(key: &[u8], value: &[u8], deadline: u64) -> bool
+    ensures { λ r. ⌜ r ≡ fitting (now (key .entry)) (now (value .entry)) deadline ⌝ }
+{
+    if key.len() > Row::KEY {
+        return false;
+    }
+    if value.len() > Row::VALUE {
+        return false;
+    }
+    deadline <= Row::LAST_DEADLINE
+}
+
+// The version of the last row, 0 where none is held.
+fn newest_version(t: &[u8]) -> u64
+    requires { ⌜ length (now t) ≡ size ⌝ }
+    ensures { λ r. ⌜ r ≡ newest (stateOf (now (t .entry)) .entries) ⌝ }
+{
+    let n = rows::count(t);
+    if n == 0 {
+        return 0;
+    }
+    number::get64(t, rows::row_at(n - 1))
+}
+
+// Whether an entry of the key and the version can stand behind those held.
+pub(crate) fn follows(t: &[u8], key: &[u8], version: u64) -> bool
+    ensures { λ r. ⌜ r ≡ next (now (key .entry)) version (now (t .entry)) ⌝ }
+{
+    if t.len() != Table::SIZE {
+        return false;
+    }
+    if rows::count(t) >= Table::KEYS {
+        return false;
+    }
+    if version <= newest_version(t) {
+        return false;
+    }
+    if version > last(t).0 {
+        return false;
+    }
+    let found = find(t, key);
+    let Found::Absent = found else {
+        return false;
+    };
     true
 }

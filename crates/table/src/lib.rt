@@ -9,7 +9,7 @@ ghost use mathlib.Core.Path.{_≡_};
 ghost use lib.ListN.{length};
 ghost use Rattle.table.specs.Memory.{stateOf, Sound};
 ghost use Rattle.table.specs.Found.{entryAt, FoundIs, Tells};
-ghost use Rattle.table.specs.Change.{Left, isSome, made, added, removed, cleared};
+ghost use Rattle.table.specs.Change.{Left, isSome, made, started, added, restored, removed, cleared};
 
 // What a search for a key finds: its row, or that no row has it.
 pub enum Found {
@@ -94,6 +94,21 @@ pub fn make(t: &mut [u8]) -> bool
     }
     number::put64(t, Table::COUNT, 0);
     number::put64(t, Table::LAST, 0);
+    true
+}
+
+// Makes the memory a table with no entries, of a last version within its limit.
+pub fn start(t: &mut [u8], last: EntryVersion) -> bool
+    ensures { λ r. ⌜ (r ≡ isSome (started (last .0) (now (t .entry)))) × Left (now (t .entry)) (started (last .0) (now (t .entry))) (now (t .exit)) ⌝ }
+{
+    if t.len() != Table::SIZE {
+        return false;
+    }
+    if last.0 > Table::LAST_VERSION {
+        return false;
+    }
+    number::put64(t, Table::COUNT, 0);
+    number::put64(t, Table::LAST, last.0);
     true
 }
 
@@ -209,6 +224,26 @@ pub fn add(t: &mut [u8], key: &[u8], value: &[u8], deadline: Second) -> bool
         return false;
     }
     rows::append(t, key, value, deadline.0);
+    true
+}
+
+// Adds an entry as it is, where it can stand behind the last: of a version already issued and above those held, and of a key not held.
+pub fn restore(
+    t: &mut [u8],
+    key: &[u8],
+    value: &[u8],
+    version: EntryVersion,
+    deadline: Second,
+) -> bool
+    ensures { λ r. ⌜ (r ≡ isSome (restored (now (key .entry)) (now (value .entry)) (version .0) (deadline .0) (now (t .entry)))) × Left (now (t .entry)) (restored (now (key .entry)) (now (value .entry)) (version .0) (deadline .0) (now (t .entry))) (now (t .exit)) ⌝ }
+{
+    if !check::fits(key, value, deadline.0) {
+        return false;
+    }
+    if !check::follows(t, key, version.0) {
+        return false;
+    }
+    rows::restore(t, key, value, version.0, deadline.0);
     true
 }
 

@@ -12,9 +12,9 @@ ghost use Rattle.map.specs.State.{withEntries};
 ghost use Rattle.map.specs.Step.{lastVersion};
 ghost use Rattle.table.specs.Bytes.{be8, part};
 ghost use Rattle.table.specs.Memory.{size, rowAt, entryOf, countOf, stateOf};
-ghost use Rattle.table.specs.Write.{put, Written, grown, shrunk};
+ghost use Rattle.table.specs.Write.{put, Written, grown, extended, shrunk};
 ghost use Rattle.table.specs.Check.{FoundFrom};
-ghost use Rattle.table.specs.Change.{Changed};
+ghost use Rattle.table.specs.Change.{Changed, newest};
 
 // How many rows are held.
 pub(crate) fn count(t: &[u8]) -> usize
@@ -123,6 +123,19 @@ pub(crate) fn append(t: &mut [u8], k: &[u8], v: &[u8], deadline: u64)
     write(&mut t[a..e], k, v, version, deadline);
     number::put64(t, Table::COUNT, (n + 1) as u64);
     number::put64(t, Table::LAST, version);
+}
+
+// Adds a row behind the last, of a version above those held. The last version issued stays.
+pub(crate) fn restore(t: &mut [u8], k: &[u8], v: &[u8], version: u64, deadline: u64)
+    requires { ⌜ (length (now t) ≡ size) × (countOf (now t) < 128) × (newest (stateOf (now t) .entries) < version) ⌝ }
+    requires { ⌜ (length (now k) ≤ 64) × (length (now v) ≤ 256) ⌝ }
+    ensures { λ _. ⌜ Changed (now (t .entry)) (now (t .exit)) (extended (now (k .entry)) (now (v .entry)) version deadline (stateOf (now (t .entry)))) ⌝ }
+{
+    let n = count(t);
+    let a = row_at(n);
+    let e = a + Row::WIDTH;
+    write(&mut t[a..e], k, v, version, deadline);
+    number::put64(t, Table::COUNT, (n + 1) as u64);
 }
 
 // Removes row i: the rows behind it move down.

@@ -1,9 +1,9 @@
 -- `exports::fq_read_reply` meets its contract, by each answer of the reader. Assumes nothing.
-use mathlib.Core.Path.{sym, ap, _∙_}
+use mathlib.Core.Path.{refl, sym, ap, _∙_}
 use native.Mathlib.Omega.{arith}
 use Rattle.message.proofs.ReplyLaws.{reply-laws}
 use Rattle.reply.specs.Answer.{asReply}
-use Rattle.exports.proofs.CodeLaws.{whole-fits, tell-none}
+use Rattle.exports.proofs.CodeLaws.{whole-fits, tell-none, tells}
 use borrow.Author.Needs.{needs}
 use Rattle.exports.proofs.fq_read_reply.Statement.{statement}
 use Rattle.exports.proofs.fq_read_reply.Tie as tie
@@ -18,34 +18,15 @@ returns : tie.Need-returns
 returns c =
     let t = c .before .before in
     let a = t .before .before .before in
-    let r = a .before .before .read-reply in
-    record {
-      answer = r .result;
-      read = r .ensures;
-      told = rw (a .a .given .1) (t .reply .ensures);
-      code = rw (← (r .ensures), a .a .given .1);
-    }
+    tells _ _ (a .before .before .read-reply .ensures) (a .a .given .1) (t .reply .ensures) refl
 
 returns-2 : tie.Need-returns-2
-returns-2 c =
-    let r = c .before .before .read-reply in
-    record {
-      answer = r .result;
-      read = r .ensures;
-      told = rw (c .enum-told .given .1) (tell-none _);
-      code = rw (← (r .ensures), c .enum-told .given .1);
-    }
+returns-2 c = tells _ _ (c .before .before .read-reply .ensures) (c .enum-told .given .1) (tell-none _) refl
 
 returns-3 : tie.Need-returns-3
 returns-3 c =
     let a = c .before in
-    let r = a .before .before .read-reply in
-    record {
-      answer = r .result;
-      read = r .ensures;
-      told = rw (a .a2 .given .1) (tell-none _);
-      code = rw (← (r .ensures), a .a2 .given .1);
-    }
+    tells _ _ (a .before .before .read-reply .ensures) (a .a2 .given .1) (tell-none _) refl
 
 pub fq-read-reply-spec : {M : Type 1} → statement M
 fq-read-reply-spec =

@@ -1,0 +1,235 @@
+// Serving the lines of a file of requests on a table that is sound, with room for a line.
+use crate::Fed;
+use crate::act;
+use field::Second;
+use field::put;
+use hex::Decoded;
+use hex::NumberRead;
+use message::Request;
+use request::RequestRead;
+ghost use mathlib.Core.Path.{_≡_};
+ghost use mathlib.Core.Bool.{true};
+ghost use mathlib.Core.List.{[], _∷_, _++_};
+ghost use Prim.Native.Nat.{_+_, _*_, _≤_, _<_};
+ghost use lib.ListN.{length};
+ghost use Rattle.hex.specs.Hex.{toHex};
+ghost use Rattle.wire.specs.Codec.{Valid};
+ghost use Rattle.message.specs.Request.{request, requestIn};
+ghost use Rattle.message.specs.Reply.{errorReply};
+ghost use Rattle.message.specs.Refusal.{refusal};
+ghost use Rattle.request.specs.Answer.{idIn};
+ghost use Rattle.map.specs.Step.{step};
+ghost use Rattle.line.specs.Feed.{lineEnd, turnOf};
+ghost use Rattle.line.specs.Turns.{lineRoom};
+ghost use Rattle.table.specs.Memory.{stateOf};
+ghost use Rattle.stream.specs.Sound.{isSound};
+ghost use Rattle.server.specs.Lines.{asked, Formed, Puts, GivesReply, GivesFrame, GivesLine, Counts, TurnDone, TurnsDone};
+
+// What reading the form of a line finds: its second and so many bytes, or another form.
+enum Form {
+    Frame(Second, usize),
+    Bad,
+}
+
+// A turn: the bytes taken, the place behind its output, and whether the rest of the line is still to be passed over.
+struct Turned {
+    taken: usize,
+    size: usize,
+    passing: bool,
+}
+
+// "eight lowercase digits (the second), one space, an even number of lowercase digits": the bytes of the latter go to the front of `frame`.
+fn read_form(line: &[u8], frame: &mut [u8]) -> Form
+    requires { ⌜ 512 ≤ length (now frame) ⌝ }
+    ensures { λ r. ⌜ Formed (now (line .entry)) (now (frame .exit)) r ⌝ }
+{
+    if Fed::LONGEST < line.len() {
+        return Form::Bad;
+    }
+    if line.len() < 9 {
+        return Form::Bad;
+    }
+    if line[8] != 0x20 {
+        return Form::Bad;
+    }
+    let s = hex::number(&line[0..8]);
+    let NumberRead::Value(second) = s else {
+        return Form::Bad;
+    };
+    let d = hex::decode(&line[9..], frame);
+    let Decoded::Bytes(n) = d else {
+        return Form::Bad;
+    };
+    Form::Frame(Second(second as u64), n)
+}
+
+// Text at a place, and the place behind it.
+fn put_text(text: &[u8], out: &mut [u8], at: usize) -> usize
+    requires { ⌜ at + length (now text) ≤ length (now out) ⌝ }
+    ensures { λ r. ⌜ Puts (now (text .entry)) (now (out .entry)) (now (out .exit)) at r ⌝ }
+{
+    put::put_raw(out, at, text)
+}
+
+// The digits of a reply and the line end.
+fn put_reply(reply: &[u8], out: &mut [u8], at: usize) -> usize
+    requires { ⌜ at + 2 * length (now reply) + 1 ≤ length (now out) ⌝ }
+    ensures { λ r. ⌜ Puts (toHex (now (reply .entry)) ++ (0x0a ∷ [])) (now (out .entry)) (now (out .exit)) at r ⌝ }
+{
+    let end = hex::encode(reply, out, at);
+    out[end] = 0x0a;
+    end + 1
+}
+
+// The error reply of a refusal.
+fn send_error(frame: &[u8], k: u8, out: &mut [u8], at: usize) -> usize
+    requires { ⌜ at + lineRoom ≤ length (now out) ⌝ }
+    requires { ⌜ 1 ≤ k ⌝ }
+    requires { ⌜ k ≤ 11 ⌝ }
+    ensures { λ r. ⌜ Puts (toHex (errorReply .enc (refusal k (idIn (now (frame .entry))))) ++ (0x0a ∷ [])) (now (out .entry)) (now (out .exit)) at r ⌝ }
+{
+    let mut reply = [0; 512];
+    let a = act::refuse(&mut reply, request::read_id(frame), k, 0);
+    put_reply(&reply[..a.size], out, at)
+}
+
+// The reply to a request.
+fn send_reply(
+    frame: &[u8],
+    r: Request,
+    t: &mut [u8],
+    second: Second,
+    out: &mut [u8],
+    at: usize,
+) -> usize
+    requires { ⌜ isSound (now t) ≡ true ⌝ }
+    requires { ⌜ at + lineRoom ≤ length (now out) ⌝ }
+    requires { ⌜ second .0 < 0x1_0000_0000 ⌝ }
+    requires { ⌜ Valid request (requestIn (now frame) r) ⌝ }
+    ensures { λ n. ⌜ GivesReply (requestIn (now (frame .entry)) r) (step (asked (second .0) (now (frame .entry)) .context) (requestIn (now (frame .entry)) r) (stateOf (now (t .entry)))) (now (out .entry)) (now (out .exit)) at n (now (t .entry)) (now (t .exit)) ⌝ }
+{
+    let mut reply = [0; 512];
+    let a = act::perform(frame, r, 0, t, second, &mut reply);
+    put_reply(&reply[..a.size], out, at)
+}
+
+// The bytes of a line: a whole request with nothing behind it is served.
+fn serve_frame(frame: &[u8], t: &mut [u8], second: Second, out: &mut [u8], at: usize) -> usize
+    requires { ⌜ isSound (now t) ≡ true ⌝ }
+    requires { ⌜ at + lineRoom ≤ length (now out) ⌝ }
+    requires { ⌜ second .0 < 0x1_0000_0000 ⌝ }
+    ensures { λ r. ⌜ GivesFrame (asked (second .0) (now (frame .entry))) (now (out .entry)) (now (out .exit)) at r (now (t .entry)) (now (t .exit)) ⌝ }
+{
+    let q = request::read_request(frame);
+    match q {
+        RequestRead::Whole(r, n) => {
+            if n != frame.len() {
+                return put_text(b"refused 15\n", out, at);
+            }
+            send_reply(frame, r, t, second, out, at)
+        }
+        RequestRead::More => put_text(b"refused 15\n", out, at),
+        RequestRead::Refused(k) => send_error(frame, k, out, at),
+    }
+}
+
+// A line, without its line end.
+pub(crate) fn line_sound(line: &[u8], t: &mut [u8], out: &mut [u8], at: usize) -> usize
+    requires { ⌜ isSound (now t) ≡ true ⌝ }
+    requires { ⌜ at + lineRoom ≤ length (now out) ⌝ }
+    ensures { λ r. ⌜ GivesLine (now (line .entry)) (now (out .entry)) (now (out .exit)) at r (now (t .entry)) (now (t .exit)) ⌝ }
+{
+    let mut frame = [0; 512];
+    let f = read_form(line, &mut frame);
+    match f {
+        Form::Frame(second, n) => serve_frame(&frame[..n], t, second, out, at),
+        Form::Bad => put_text(b"refused 14\n", out, at),
+    }
+}
+
+// How many bytes stand before the first line end.
+fn line_end(s: &[u8]) -> usize
+    ensures { λ r. ⌜ r ≡ lineEnd (now (s .entry)) ⌝ }
+{
+    let mut i = 0;
+    while i < s.len() {
+        if s[i] == 0x0a {
+            return i;
+        }
+        i += 1;
+    }
+    i
+}
+
+// The answer of a turn.
+fn counts(taken: usize, size: usize, passing: bool) -> Turned
+    ensures { λ r. ⌜ Counts taken size passing r ⌝ }
+{
+    Turned {
+        taken: taken,
+        size: size,
+        passing: passing,
+    }
+}
+
+// One turn on what is left of a piece.
+fn turn(s: &[u8], t: &mut [u8], out: &mut [u8], at: usize, passing: bool, last: bool) -> Turned
+    requires { ⌜ isSound (now t) ≡ true ⌝ }
+    requires { ⌜ at + lineRoom ≤ length (now out) ⌝ }
+    ensures { λ r. ⌜ TurnDone (turnOf passing last (now (s .entry)) (stateOf (now (t .entry)))) (now (out .entry)) (now (out .exit)) at r (now (t .exit)) ⌝ }
+{
+    let end = line_end(s);
+    if passing {
+        if end < s.len() {
+            return counts(end + 1, at, false);
+        }
+        return counts(s.len(), at, true);
+    }
+    if end < s.len() {
+        let n = line_sound(&s[..end], t, out, at);
+        return counts(end + 1, n, false);
+    }
+    if Fed::LONGEST < s.len() {
+        let n = line_sound(s, t, out, at);
+        return counts(s.len(), n, true);
+    }
+    if !last {
+        return counts(0, at, false);
+    }
+    if s.len() == 0 {
+        return counts(0, at, false);
+    }
+    let n = line_sound(s, t, out, at);
+    counts(s.len(), n, false)
+}
+
+// Turns one after the other, as long as there is room for a line.
+pub(crate) fn feed(input: &[u8], t: &mut [u8], out: &mut [u8], passing: bool, last: bool) -> Fed
+    requires { ⌜ isSound (now t) ≡ true ⌝ }
+    requires { ⌜ lineRoom ≤ length (now out) ⌝ }
+    ensures { λ r. ⌜ TurnsDone last passing (now (input .entry)) (now (t .entry)) (now (out .entry)) r (now (out .exit)) (now (t .exit)) ⌝ }
+{
+    let mut taken = 0;
+    let mut size = 0;
+    let mut pass = passing;
+    while Fed::ROOM <= out.len() - size {
+        let r = turn(&input[taken..], t, out, size, pass, last);
+        if r.taken == 0 {
+            return Fed {
+                taken: taken,
+                size: size,
+                passing: pass,
+                refused: 0,
+            };
+        }
+        taken += r.taken;
+        size = r.size;
+        pass = r.passing;
+    }
+    Fed {
+        taken: taken,
+        size: size,
+        passing: pass,
+        refused: 0,
+    }
+}

@@ -1,0 +1,7 @@
+pub mod Spelt
+pub mod LineLaws
+pub mod StoreLaws
+pub mod FileLaws
+pub mod LoadLaws
+pub mod BuildLaws
+pub mod OneTable

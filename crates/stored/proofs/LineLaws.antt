@@ -1,0 +1,169 @@
+-- The lines of a stored file: their formats keep the laws, a line read is the line written, and lines can be told apart. Assumes nothing.
+use mathlib.Core.Path.{_≡_, refl, sym, ap, _∙_}
+use mathlib.Core.List.{List, [], _∷_, _++_, append-assoc, append-nil}
+use mathlib.Core.Bool.{Bool, true, false, cond}
+use mathlib.Core.Option.{Option, none, some}
+use Prim.Native.Nat.{ℕ, _+_, _/_, _%_, _≤_, _<_, _^_}
+use native.Mathlib.Omega.{arith}
+use native.Mathlib.Decide.{decLt}
+use lib.ListN.{length, take, drop}
+use lib.Seq.{take-length, take-append-seam, drop-append-add}
+use lib.Dec.{eqb}
+use borrow.Author.Tests.{eqb-true, eq-eqb, ne-eqb}
+use Rattle.bytes.specs.Bytes.{indexOf, indexAfter}
+use Rattle.wire.specs.Codec.{Read, whole, more, refused, Codec, Valid, Bytes, byte, guard, seq, as-type, all}
+use Rattle.wire.specs.Field.{bigEndian, limited}
+use Rattle.wire.proofs.Laws.{Laws, never, seq-laws, guard-laws, type-laws, byte-laws, guard-valid, seq-valid, type-good, seq-good, guard-good, bytes-are}
+use Rattle.wire.proofs.FieldLaws.{big-laws, big-good, limited-laws, limited-good}
+use Rattle.message.specs.Request.{keyLimit, valueLimit}
+use Rattle.message.proofs.Most.{Most, type-most, seq-most, guard-most, byte-most, big-most, limited-most}
+use Rattle.map.specs.State.{Entry, State}
+use Rattle.map.specs.Table.{Each, IsTable}
+use Rattle.table.proofs.Order.{each-both}
+use Rattle.hex.specs.Hex.{digitOf, toHex, fromHex}
+use Rattle.hex.proofs.HexLaws.{to-from, from-to}
+use Rattle.hex.proofs.Digits.{of-decimal, of-letter}
+use Rattle.stored.specs.File.{Form, form1, formByte, Fields, toEntry, fromEntry, entryLine, headLine, line}
+use Rattle.stored.specs.Answer.{head, exactly, readBytes, readLine}
+use Rattle.stored.proofs.Spelt.{Spelt, type-spelt, seq-spelt, guard-spelt, byte-spelt, big-spelt, limited-spelt}
+
+-- the formats
+abbrev pub fields : Codec Fields
+fields = seq (bigEndian 8) λ _. seq (bigEndian 8) λ _. seq (limited keyLimit) λ _. limited valueLimit
+
+fields-laws : Laws fields
+fields-laws = seq-laws _ _ (big-laws 8) (λ _. seq-laws _ _ (big-laws 8) (λ _. seq-laws _ _ (limited-laws keyLimit) (λ _. limited-laws valueLimit)))
+
+pub entry-laws : (f : Form) → Laws (entryLine f)
+unfolding entryLine
+entry-laws form1 = type-laws all toEntry fromEntry fields fields-laws (λ e v. refl) (λ p v. (refl, refl))
+
+pub entry-spelt : (f : Form) → Spelt (entryLine f)
+unfolding entryLine
+entry-spelt form1 =
+    type-spelt all toEntry fromEntry (seq-spelt (big-spelt 8) (λ _. seq-spelt (big-spelt 8) (λ _. seq-spelt (limited-spelt keyLimit) (λ _. limited-spelt valueLimit))))
+
+-- an entry's line is made of at most 339 bytes
+pub entry-most : (f : Form) → Most (entryLine f) 339
+unfolding entryLine
+entry-most form1 =
+    type-most all toEntry fromEntry
+    (seq-most (big-most 8) (λ _ _. seq-most (big-most 8) (λ _ _. seq-most (limited-most keyLimit 0 (omega arith)) (λ _ _. limited-most valueLimit 1 (omega arith)))))
+
+pub entry-good : (f : Form) (e : Entry) → e .version < 256 ^ 8 → e .deadline < 256 ^ 8 → length (e .key) ≤ keyLimit → Bytes (e .key) → length (e .value) ≤ valueLimit
+    → Bytes (e .value) → Valid (entryLine f) e
+unfolding entryLine
+entry-good form1 e hn hd hk bk hv bv =
+    type-good all toEntry fromEntry fields {b = e} refl
+    (seq-good (bigEndian 8) _ (big-good 8 (e .version) hn)
+    (seq-good (bigEndian 8) _ (big-good 8 (e .deadline) hd)
+    (seq-good (limited keyLimit) _ (limited-good keyLimit (e .key) (omega arith) hk bk) (limited-good valueLimit (e .value) (omega arith) hv bv))))
+
+-- each entry of a table has a written form
+pub table-good : (f : Form) (st : State) → IsTable st → Each (λ e. Valid (entryLine f) e) (st .entries)
+table-good f st t =
+    each-both (st .entries)
+    (λ e h i. entry-good f e (omega (arith, i .1, t .last)) (omega (arith, h .deadline)) (h .key) (bytes-are _ (h .keyBytes)) (h .value) (bytes-are _ (h .valueBytes)))
+    (t .sizes) (t .issued)
+
+pub head-laws : (f : Form) → Laws (head f)
+unfolding head
+head-laws f =
+    type-laws all (λ p. p .1) (λ n. (formByte f, n)) (seq (guard (λ b. eqb b (formByte f)) 17 byte) (λ _. bigEndian 8))
+    (seq-laws _ _ (guard-laws _ 17 byte byte-laws) (λ _. big-laws 8))
+    (λ n e. refl)
+    (λ p v.
+    let w = seq-valid (guard (λ b. eqb b (formByte f)) 17 byte) (λ _. bigEndian 8) p v in
+    (ap {B = ℕ × ℕ} (λ (b : ℕ). (b, p .1)) (sym (eqb-true (p .0) (formByte f) (guard-valid (λ b. eqb b (formByte f)) 17 byte (p .0) (w .0) .0))), refl))
+
+pub head-spelt : (f : Form) → Spelt (head f)
+unfolding head
+head-spelt f = type-spelt _ _ _ (seq-spelt (guard-spelt _ _ byte-spelt) (λ _. big-spelt 8))
+
+pub head-most : (f : Form) → Most (head f) 9
+unfolding head
+head-most f = type-most _ _ _ (seq-most (guard-most _ _ byte-most) (λ _ _. big-most 8))
+
+pub head-good : (f : Form) (n : ℕ) → n < 256 ^ 8 → Valid (head f) n
+unfolding head byte
+head-good form1 n h =
+    type-good all (λ p. p .1) (λ n. (0x01, n)) (seq (guard (λ b. eqb b 0x01) 17 byte) (λ _. bigEndian 8)) {b = n} refl
+    (seq-good (guard (λ b. eqb b 0x01) 17 byte) (λ _. bigEndian 8) (guard-good (λ b. eqb b 0x01) 17 byte {a = 0x01} refl refl) (big-good 8 n h))
+
+pub head-is : (f : Form) (n : ℕ) → head f .enc n ≡ headLine f n
+unfolding head headLine as-type seq guard byte
+head-is f n = refl
+
+-- what is read of a line is what is written so
+module _ {A : Type 0} (c : Codec A) (l : Laws c) where
+  pub record Reads (s : List ℕ) (a : A) : Type 0 where
+    pub good : Valid c a
+    pub same : s ≡ toHex (c .enc a)
+
+  taken : (bs : List ℕ) (r : Read A) (a : A) → exactly (length bs) r ≡ some a → r ≡ whole a (length bs)
+  taken bs (whole b n) a e = go (eqb n (length bs)) refl e
+    where
+      go : (t : Bool) → eqb n (length bs) ≡ t → cond t (some b) none ≡ some a → whole b n ≡ whole a (length bs)
+      go true p q = cc (eqb-true n (length bs) p)
+      go false p q = never (cc)
+  taken bs more a e = never (cc)
+  taken bs (refused k) a e = never (cc)
+
+  pub bytes-read : (bs : List ℕ) (a : A) → Bytes bs → exactly (length bs) (c .dec bs) ≡ some a → Valid c a × (bs ≡ c .enc a)
+  bytes-read bs a b e =
+      let x = l .exact bs a (length bs) b (taken bs (c .dec bs) a e) in
+      (x .good, sym (take-length bs) ∙ x .same)
+
+  pub line-read : (s : List ℕ) (a : A) → readLine c s ≡ some a → Reads s a
+  unfolding readLine
+  line-read s a e = go (fromHex s) refl e
+    where
+      go : (o : Option (List ℕ)) → fromHex s ≡ o → readBytes c o ≡ some a → Reads s a
+      go none p q = never (cc)
+      go (some bs) p q =
+          let h = to-from s bs p in
+          let x = bytes-read bs a (h .1) q in
+          record { good = x .0; same = h .0 ∙ ap toHex (x .1) }
+
+  pub line-back : Spelt c → (a : A) → Valid c a → readLine c (toHex (c .enc a)) ≡ some a
+  unfolding readLine
+  line-back b a v =
+      let e : c .dec (c .enc a) ≡ whole a (length (c .enc a)) = ap (c .dec) (sym (append-nil (c .enc a))) ∙ l .round a [] v in
+      rw (from-to (c .enc a) (b .bytes a v), e, eq-eqb (length (c .enc a)) (length (c .enc a)) refl)
+
+-- digits are no line end
+digit-no-end : (n : ℕ) → digitOf n ≡ 0x0a → ⊥
+digit-no-end n e = go (decLt n 10)
+  where
+    go : Dec (n < 10) → ⊥
+    go (yes h) = omega (arith, of-decimal n h)
+    go (no h) = omega (arith, of-letter n (omega arith))
+
+pub digits-end : (bs y : List ℕ) → indexOf 0x0a (toHex bs ++ (0x0a ∷ y)) ≡ length (toHex bs)
+unfolding indexOf indexAfter toHex
+digits-end [] y = refl
+digits-end (b ∷ bs) y =
+    rw (ne-eqb (digitOf (b / 16)) 0x0a (digit-no-end (b / 16)), ne-eqb (digitOf (b % 16)) 0x0a (digit-no-end (b % 16)), digits-end bs y)
+
+-- a line with its end, and what is behind it
+pub line-cons : (bs y : List ℕ) → line bs ++ y ≡ toHex bs ++ (0x0a ∷ y)
+unfolding line
+line-cons bs y = append-assoc (toHex bs) (0x0a ∷ []) y
+
+pub first-line : (bs y : List ℕ) → indexOf 0x0a (line bs ++ y) ≡ length (toHex bs)
+first-line bs y = ap (indexOf 0x0a) (line-cons bs y) ∙ digits-end bs y
+
+some-same : {a b : List ℕ} → some a ≡ some b → a ≡ b
+some-same e = cc
+
+pub line-split : (a b x y : List ℕ) → Bytes a → Bytes b → line a ++ x ≡ line b ++ y → (a ≡ b) × (x ≡ y)
+line-split a b x y ha hb e =
+    let n : length (toHex a) ≡ length (toHex b) = sym (first-line a x) ∙ ap (indexOf 0x0a) e ∙ first-line b y in
+    let s : toHex a ++ (0x0a ∷ x) ≡ toHex b ++ (0x0a ∷ y) = sym (line-cons a x) ∙ e ∙ line-cons b y in
+    let p : toHex a ≡ toHex b =
+    sym (take-append-seam (toHex a) (0x0a ∷ x)) ∙ ap (take (length (toHex a))) s ∙ ap (λ (m : ℕ). take m (toHex b ++ (0x0a ∷ y))) n ∙ take-append-seam (toHex b) (0x0a ∷ y) in
+    let q : a ≡ b = some-same (sym (from-to a ha) ∙ ap fromHex p ∙ from-to b hb) in (
+      q,
+      sym (drop-append-add (toHex a) (0x0a ∷ x) 1) ∙ ap (drop (length (toHex a) + 1)) s ∙ ap (λ (m : ℕ). drop (m + 1) (toHex b ++ (0x0a ∷ y))) n
+          ∙ drop-append-add (toHex b) (0x0a ∷ y) 1,
+    )

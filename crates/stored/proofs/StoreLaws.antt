@@ -1,0 +1,182 @@
+-- Writing lines: each answer of the functions that write one, and that lines written one after another are the file. Assumes nothing.
+use mathlib.Core.Path.{_≡_, refl, sym, ap, _∙_}
+use mathlib.Core.List.{List, [], _∷_, _++_}
+use mathlib.Core.Bool.{Bool, true, false, cond}
+use mathlib.Core.Logic.{⊎-elim}
+use Prim.Native.Nat.{ℕ, suc, _+_, _-_, _*_, _≤_, _<_, _^_, min}
+use native.Mathlib.Omega.{arith}
+use native.Mathlib.Nat.{add-zero}
+use lib.ListN.{length, take, drop, length-append, length-take}
+use lib.Seq.{sets, sets-eq, length-sets, take-at}
+use lib.Dec.{eqb}
+use borrow.Author.Tests.{le-leb, lt-leb, lt-ltb, le-ltb}
+use Rattle.wire.specs.Codec.{Codec, Valid, Bytes, byte, raw, guard, seq, as-type, all}
+use Rattle.wire.specs.Number.{vLong}
+use Rattle.wire.specs.Field.{bigEndian, limited}
+use Rattle.wire.specs.Write.{Wrote, putAt}
+use Rattle.wire.proofs.Laws.{type-valid, seq-valid}
+use Rattle.wire.proofs.FieldLaws.{big-length, big-good, limited-length, limited-valid}
+use Rattle.wire.proofs.WriteLaws.{wrote-seq, wrote-guard, wrote-type, put-wrote}
+use Rattle.message.specs.Request.{keyLimit, valueLimit}
+use Rattle.message.proofs.Most.{Most}
+use Rattle.map.specs.State.{Entry, State, fresh}
+use Rattle.hex.specs.Hex.{toHex}
+use Rattle.hex.specs.Answer.{encoded}
+use Rattle.hex.proofs.HexLaws.{hex-length}
+use Rattle.table.specs.Bytes.{be8, part}
+use Rattle.table.specs.Memory.{size, rowAt, entry, entryOf, entriesOf, stateOf}
+use Rattle.table.specs.Found.{entryAt}
+use Rattle.table.proofs.Lists.{lt-or-ge}
+use Rattle.table.proofs.Parts.{bytes-part}
+use Rattle.table.proofs.RowLaws.{entry-is}
+use Rattle.table.proofs.Answers.{held-row, no-row}
+use Rattle.stored.specs.File.{Form, form1, toEntry, fromEntry, entryLine, line}
+use Rattle.stored.specs.Answer.{lineAt, laid, head}
+use Rattle.stored.proofs.LineLaws.{fields, entry-good, entry-most, head-is}
+
+-- bytes laid at a place
+module _ (bs : List ℕ) (at : ℕ) (old : List ℕ) where
+  pub laid-short : length old < at + length bs → (at, old) ≡ laid bs at old
+  unfolding laid
+  laid-short h = rw (lt-leb (at + length bs) (length old) h)
+
+  pub laid-done : at + length bs ≤ length old → (at + length bs, sets old at bs) ≡ laid bs at old
+  unfolding laid
+  laid-done h = rw (le-leb (at + length bs) (length old) h)
+
+pub laid-none : (at : ℕ) (old : List ℕ) → (at, old) ≡ laid [] at old
+laid-none at old =
+    ⊎-elim
+    (λ l. laid-short [] at old (omega arith))
+    (λ l. ap {B = ℕ × List ℕ} (λ (n : ℕ). (n, old)) (sym (add-zero at)) ∙ laid-done [] at old (omega arith))
+    (lt-or-ge (length old) at)
+
+pub twice : (a b old : List ℕ) (at : ℕ) → sets (sets old at a) (at + length a) b ≡ sets old at (a ++ b)
+unfolding seq raw
+twice a b old at =
+    wrote-seq (raw 0) (λ _. raw 0) {a = a} {b = b}
+    (record { next = refl; list = refl; long = length-sets old at a })
+    (record { next = refl; list = refl; long = length-sets (sets old at a) (at + length a) b }) .list
+
+pub line-length : (s : List ℕ) → length (line s) ≡ 2 * length s + 1
+unfolding line
+line-length s = length-append (toHex s) (0x0a ∷ []) ∙ omega (arith, hex-length s)
+
+pub line-put : (s old new new₂ : List ℕ) (at r r₂ : ℕ) → at + (2 * length s + 1) ≤ length old → (r, new) ≡ encoded s at old → (r₂, new₂) ≡ putAt byte 0x0a r new
+    → (r₂, new₂) ≡ laid (line s) at old
+unfolding encoded line byte
+line-put s old new new₂ at r r₂ h e f =
+    let l = hex-length s in
+    let d : _≡_ {A = ℕ × List ℕ} (r, new) (at + length (toHex s), sets old at (toHex s)) = e ∙ rw (le-leb (at + length (toHex s)) (length old) (omega arith)) in
+    let p : r ≡ at + length (toHex s) = ap (λ (q : ℕ × List ℕ). q .0) d in
+    let q : new ≡ sets old at (toHex s) = ap (λ (q : ℕ × List ℕ). q .1) d in
+    let n : length new ≡ length old = ap length q ∙ length-sets old at (toHex s) in
+    let w = put-wrote byte 0x0a r new refl (omega arith) new₂ r₂ f in
+    let a : r₂ ≡ at + length (line s) = omega (arith, w .next, line-length s) in
+    let b : new₂ ≡ sets old at (line s) = w .list ∙ rw (q, p) (twice (toHex s) (0x0a ∷ []) old at) in
+    rw (a, b) (laid-done (line s) at old (omega (arith, line-length s)))
+
+-- what memory holds in a row has a written form
+dig : (x b n : ℕ) → x < n → b < 256 → x * 256 + b < n * 256
+dig x b n h g = omega arith
+
+be8-small : (t : List ℕ) (a : ℕ) → Bytes t → be8 t a < 256 ^ 8
+unfolding be8
+be8-small t a h =
+    let x = dig _ _ _ (dig _ _ _ (dig _ _ _ (dig _ _ _ (dig _ _ _ (dig _ _ _ (dig _ _ _ (h a) (h (a + 1))) (h (a + 2))) (h (a + 3))) (h (a + 4))) (h (a + 5))) (h (a + 6))) (h (a + 7)) in
+    omega (arith, x)
+
+row-good : (f : Form) (t : List ℕ) (a : ℕ) → Bytes t → Valid (entryLine f) (entryOf t a)
+unfolding entryOf entry part
+row-good f t a b =
+    entry-good f (entryOf t a) (be8-small t a b) (be8-small t (a + 8) b) (simp length-take (omega arith)) (bytes-part t (a + 32) (min (be8 t (a + 16)) keyLimit) b)
+    (simp length-take (omega arith)) (bytes-part t (a + 96) (min (be8 t (a + 24)) valueLimit) b)
+
+blank-good : (f : Form) → Valid (entryLine f) (entry [] [] 0 0)
+unfolding entry
+blank-good f = entry-good f (entry [] [] 0 0) (omega arith) (omega arith) (omega arith) (λ i. omega arith) (omega arith) (λ i. omega arith)
+
+pub held-good : (f : Form) (t : List ℕ) (i : ℕ) → Bytes t → Valid (entryLine f) (entryAt t i)
+held-good f t i b =
+    ⊎-elim
+    (λ l. let h = held-row t i l in rw (entry-is t (h .0) i (h .1)) (row-good f t (rowAt i) b))
+    (λ l. rw (no-row t i l) (blank-good f))
+    (lt-or-ge i (length (stateOf t .entries)))
+
+-- the fields of a line, written one after another
+pub head-wrote : (n : ℕ) {o₁ o₂ o₃ : List ℕ} {r₁ r₂ : ℕ} → n < 256 ^ 8 → length o₁ ≡ 339 → (r₁, o₂) ≡ putAt byte 0x01 0 o₁ → (r₂, o₃) ≡ putAt (bigEndian 8) n r₁ o₂
+    → Wrote (head form1) n o₁ o₃ 0 r₂
+unfolding head byte
+head-wrote n h l e f =
+    let x = put-wrote byte 0x01 0 _ refl (omega arith) _ _ e in
+    let y = put-wrote (bigEndian 8) n _ _ (big-good 8 n h) (omega (arith, big-length 8 n, x .next, x .long)) _ _ f in
+    wrote-type all (λ p. p .1) (λ n. (0x01, n)) (seq (guard (λ b. eqb b 0x01) 17 byte) (λ _. bigEndian 8))
+    (wrote-seq (guard (λ b. eqb b 0x01) 17 byte) (λ _. bigEndian 8) (wrote-guard (λ b. eqb b 0x01) 17 byte x) y)
+
+module _ (e : Entry) (v : Valid (entryLine form1) e) where
+  pub parts : Valid (bigEndian 8) (e .version) × (Valid (bigEndian 8) (e .deadline) × (Valid (limited keyLimit) (e .key) × Valid (limited valueLimit) (e .value)))
+  unfolding entryLine
+  parts =
+      let a = seq-valid (bigEndian 8) _ (fromEntry e) (type-valid all toEntry fromEntry fields e v .1) in
+      let b = seq-valid (bigEndian 8) _ (fromEntry e .1) (a .1) in
+      let c = seq-valid (limited keyLimit) _ (fromEntry e .1 .1) (b .1) in
+      (a .0, (b .0, (c .0, c .1)))
+
+  entry-size : length (entryLine form1 .enc e) ≡ 16 + length (limited keyLimit .enc (e .key)) + length (limited valueLimit .enc (e .value))
+  unfolding entryLine as-type seq
+  entry-size = simp (length-append, big-length) (omega arith)
+
+  pub entry-length : length (line (entryLine form1 .enc e))
+      ≡ 2 * (16 + length (vLong .enc (length (e .key))) + length (e .key) + length (vLong .enc (length (e .value))) + length (e .value)) + 1
+  entry-length =
+      let k = limited-valid keyLimit (e .key) (parts .1 .1 .0) .0 in
+      let w = limited-valid valueLimit (e .value) (parts .1 .1 .1) .0 in
+      omega (arith, line-length (entryLine form1 .enc e), entry-size, limited-length keyLimit (e .key) (omega arith), limited-length valueLimit (e .value) (omega arith))
+
+  pub entry-short : length (line (entryLine form1 .enc e)) ≤ 679
+  entry-short = omega (arith, line-length (entryLine form1 .enc e), entry-most form1 .most e v)
+
+  pub entry-wrote : {n d : ℕ} {k w o₁ o₂ o₃ o₄ o₅ : List ℕ} {r₁ r₂ r₃ r₄ : ℕ} → length o₁ ≡ 339
+      → n ≡ e .version → (r₁, o₂) ≡ putAt (bigEndian 8) n 0 o₁ → d ≡ e .deadline → (r₂, o₃) ≡ putAt (bigEndian 8) d r₁ o₂
+      → k ≡ e .key → (r₃, o₄) ≡ putAt (limited keyLimit) k r₂ o₃ → w ≡ e .value → (r₄, o₅) ≡ putAt (limited valueLimit) w r₃ o₄
+      → Wrote (entryLine form1) e o₁ o₅ 0 r₄
+  unfolding entryLine
+  entry-wrote {r₂ = at} l q₁ e₁ q₂ e₂ q₃ e₃ q₄ e₄ =
+      let p = parts in
+      let m : 16 + length (limited keyLimit .enc (e .key)) + length (limited valueLimit .enc (e .value)) ≤ 339 = omega (arith, entry-size, entry-most form1 .most e v) in
+      let a = put-wrote (bigEndian 8) (e .version) _ _ (p .0) (omega (arith, big-length 8 (e .version))) _ _ (rw q₁ at e₁) in
+      let b = put-wrote (bigEndian 8) (e .deadline) _ _ (p .1 .0) (omega (arith, big-length 8 (e .version), big-length 8 (e .deadline), a .next, a .long)) _ _ (rw q₂ at e₂) in
+      let r : at ≡ 16 = omega (arith, big-length 8 (e .version), big-length 8 (e .deadline), a .next, b .next) in
+      let c = put-wrote (limited keyLimit) (e .key) _ _ (p .1 .1 .0) (omega (arith, a .long, b .long)) _ _ (rw q₃ at e₃) in
+      let d = put-wrote (limited valueLimit) (e .value) _ _ (p .1 .1 .1) (omega (arith, a .long, b .long, c .long, c .next)) _ _ (rw q₄ at e₄) in
+      wrote-type all toEntry fromEntry fields {b = e} (wrote-seq (bigEndian 8) _ a (wrote-seq (bigEndian 8) _ b (wrote-seq (limited keyLimit) _ c d)))
+
+-- the bytes that were written to the front, as a part
+pub wrote-front : {A : Type 0} (c : Codec A) (m : ℕ) → Most c m → {a : A} {old new : List ℕ} {r : ℕ} → Valid c a → m ≤ length old → Wrote c a old new 0 r
+    → (take (r - 0) (drop 0 new) ≡ c .enc a) × (r ≤ m)
+wrote-front c m k {a = a} {old = old} {new = new} {r = r} v h w =
+    let l = k .most a v in
+    let z : r - 0 ≡ 0 + length (c .enc a) = omega (arith, w .next) in
+    (rw (z, w .list, sets-eq (c .enc a) old 0 (omega arith)) (take-at (c .enc a) (drop (0 + length (c .enc a)) old) (0 + length (c .enc a)) (omega arith)), omega (arith, w .next))
+
+-- the lines of a file
+pub line-head : (f : Form) (st : State) → lineAt f st 0 ≡ line (head f .enc (st .last))
+unfolding lineAt
+line-head f st = ap line (sym (head-is f (st .last)))
+
+pub line-entry : (f : Form) (t : List ℕ) (k : ℕ) → k < length (stateOf t .entries) → lineAt f (stateOf t) (suc k) ≡ line (entryLine f .enc (entryAt t k))
+unfolding lineAt entryAt
+line-entry f t k h = rw (lt-ltb k (length (stateOf t .entries)) h)
+
+pub line-none : (f : Form) (st : State) (k : ℕ) → length (st .entries) ≤ k → lineAt f st (suc k) ≡ []
+unfolding lineAt
+line-none f st k h = rw (le-ltb k (length (st .entries)) h)
+
+-- a row's last version fits its eight bytes
+pub last-small : (t : List ℕ) → Bytes t → stateOf t .last < 256 ^ 8
+unfolding stateOf
+last-small t b = go (eqb (length t) size) refl
+  where
+    go : (x : Bool) → eqb (length t) size ≡ x → cond x (record { entries = entriesOf t; last = be8 t 8 }) fresh .last < 256 ^ 8
+    go true e = be8-small t 8 b
+    go false e = omega arith

@@ -1,0 +1,126 @@
+-- `stored::store_line` meets its contract. Assumes nothing.
+use mathlib.Core.Path.{_≡_, sym, _∙_, ap}
+use mathlib.Core.List.{[]}
+use Prim.Native.Nat.{_-_, _≤_}
+use native.Mathlib.Omega.{arith}
+use lib.ListN.{take, drop}
+use Rattle.wire.specs.Codec.{Bytes}
+use Rattle.table.specs.Memory.{stateOf}
+use Rattle.table.specs.Found.{entryAt}
+use Rattle.stored.specs.File.{form1, entryLine, line}
+use Rattle.stored.specs.Answer.{lineAt, head}
+use Rattle.stored.proofs.LineLaws.{head-most, head-good, entry-most}
+use Rattle.stored.proofs.StoreLaws.{line-head, line-entry, line-none, laid-none, held-good, last-small, wrote-front}
+use borrow.Author.Needs.{needs}
+use Rattle.stored.proofs.store_line.Statement.{statement}
+use Rattle.stored.proofs.store_line.Tie as tie
+
+bytes : (c : tie.After-shared-slice-known) → Bytes (c .before .args .t .now)
+bytes c i = omega (arith, c .shared-slice-known .given i)
+
+head-front : (c : tie.After-write-head) → (take (c .write-head .result - 0) (drop 0 (c .write-head .last .1 .0))
+    ≡ head form1 .enc (stateOf (c .before .before .before .before .before .before .args .t .now) .last)) × (c .write-head .result ≤ 9)
+head-front c = let k = c .before .before .before .before .before in
+    wrote-front (head form1) 9 (head-most form1) (head-good form1 _ (last-small (k .before .args .t .now) (bytes k))) (omega arith) (c .write-head .ensures)
+
+entry-front : (c : tie.After-write-entry) → let s = c .before .before .before .before .before .before .before .before .args in
+    (take (c .write-entry .result - 0) (drop 0 (c .write-entry .last .1 .1 .0)) ≡ entryLine form1 .enc (entryAt (s .t .now) (s .i - 1)))
+    × (c .write-entry .result ≤ 339)
+entry-front c = let k = c .before .before .before .before .before .before .before in
+    wrote-front (entryLine form1) 339 (entry-most form1) (held-good form1 (k .before .args .t .now) _ (bytes k)) (omega arith) (c .write-entry .ensures)
+
+room-requires : tie.Need-room-requires
+room-requires c κs = search needs
+
+slice-aggregate-write-head : tie.Need-slice-aggregate-write-head
+slice-aggregate-write-head c = search needs
+
+write-head-requires : tie.Need-write-head-requires
+write-head-requires c κs = search needs
+
+sub-put-line : tie.Need-sub-put-line
+sub-put-line c = search needs
+
+part-put-line-start : tie.Need-part-put-line-start
+part-put-line-start c = search needs
+
+part-put-line-end : tie.Need-part-put-line-end
+part-put-line-end c = let f = head-front (c .before .before) in omega (arith, f .1)
+
+put-line-requires : tie.Need-put-line-requires
+put-line-requires c κs = search needs
+
+same-length : tie.Need-same-length
+same-length c = search needs
+
+returns : tie.Need-returns
+returns c = let s = c .before .before .before .before .before .before .before .before .before .before .before .before .before .args in
+    let w = c .before .before .before .before .before .before .before in
+    let e : lineAt form1 (stateOf (s .t .now)) (s .i) ≡ line (take (w .write-head .result - 0) (drop 0 (w .write-head .last .1 .0))) =
+    ap (lineAt form1 (stateOf (s .t .now))) (omega arith) ∙ line-head form1 (stateOf (s .t .now)) ∙ ap line (sym (head-front w .0)) in
+    rw e (c .before .before .put-line .ensures)
+
+count-requires : tie.Need-count-requires
+count-requires c κs = search needs
+
+returns-2 : tie.Need-returns-2
+returns-2 c = let s = c .before .before .before .before .before .before .args in
+    let e : lineAt form1 (stateOf (s .t .now)) (s .i) ≡ [] =
+    ap (lineAt form1 (stateOf (s .t .now))) (omega arith) ∙ line-none form1 (stateOf (s .t .now)) (s .i - 1) (omega arith) in
+    rw e (laid-none (s .at) (s .out .now))
+
+sub-write-entry : tie.Need-sub-write-entry
+sub-write-entry c = search needs
+
+slice-aggregate-write-entry : tie.Need-slice-aggregate-write-entry
+slice-aggregate-write-entry c = search needs
+
+write-entry-requires : tie.Need-write-entry-requires
+write-entry-requires c κs = search needs
+
+sub-put-line-2 : tie.Need-sub-put-line-2
+sub-put-line-2 c = search needs
+
+part-put-line-start-2 : tie.Need-part-put-line-start-2
+part-put-line-start-2 c = search needs
+
+part-put-line-end-2 : tie.Need-part-put-line-end-2
+part-put-line-end-2 c = let f = entry-front (c .before .before) in omega (arith, f .1)
+
+put-line-requires-2 : tie.Need-put-line-requires-2
+put-line-requires-2 c κs = search needs
+
+same-length-2 : tie.Need-same-length-2
+same-length-2 c = search needs
+
+returns-3 : tie.Need-returns-3
+returns-3 c = let s = c .before .before .before .before .before .before .before .before .before .before .before .before .before .before .before .args in
+    let w = c .before .before .before .before .before .before .before in
+    let e : lineAt form1 (stateOf (s .t .now)) (s .i) ≡ line (take (w .write-entry .result - 0) (drop 0 (w .write-entry .last .1 .1 .0))) =
+    ap (lineAt form1 (stateOf (s .t .now))) (omega arith) ∙ line-entry form1 (s .t .now) (s .i - 1) (omega arith) ∙ ap line (sym (entry-front w .0)) in
+    rw e (c .before .before .put-line2 .ensures)
+
+pub store-line-spec : {M : Type 1} → statement M
+store-line-spec =
+    tie.close
+    (tie.spec
+    room-requires
+    slice-aggregate-write-head
+    write-head-requires
+    sub-put-line
+    part-put-line-start
+    part-put-line-end
+    put-line-requires
+    same-length
+    returns
+    count-requires
+    returns-2
+    sub-write-entry
+    slice-aggregate-write-entry
+    write-entry-requires
+    sub-put-line-2
+    part-put-line-start-2
+    part-put-line-end-2
+    put-line-requires-2
+    same-length-2
+    returns-3)

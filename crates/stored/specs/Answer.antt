@@ -1,0 +1,83 @@
+-- What the functions of a stored file answer, and what they leave of the memory that they were lent.
+use mathlib.Core.Path.{_≡_}
+use mathlib.Core.List.{List, [], _++_}
+use mathlib.Core.Bool.{Bool, true, false, cond}
+use mathlib.Core.Option.{Option, none, some}
+use Prim.Native.Nat.{ℕ, zero, suc, _+_}
+use lib.ListN.{length, drop, getD}
+use lib.Seq.{sets}
+use lib.Dec.{eqb, leb, ltb}
+use Rattle.wire.specs.Codec.{Read, whole, more, refused, Codec, byte, guard, seq, as-type, all}
+use Rattle.wire.specs.Field.{bigEndian}
+use Rattle.wire.specs.Write.{Sent, written, kept}
+use Rattle.map.specs.State.{Entry, State}
+use Rattle.table.specs.Memory.{size, entry, stateOf, Sound}
+use Rattle.table.specs.Change.{started, restored}
+use Rattle.hex.specs.Hex.{fromHex}
+use Rattle.stored.specs.File.{Form, formByte, entryLine, headLine, line, file, Stores}
+
+-- line i of a stored file with its line end: the first line, then those of the entries; behind the last there is none
+unfoldable pub lineAt : Form → State → ℕ → List ℕ
+lineAt f st zero = line (headLine f (st .last))
+lineAt f st (suc k) = cond (ltb k (length (st .entries))) (line (entryLine f .enc (getD (st .entries) k (entry [] [] 0 0)))) []
+
+-- bytes written at a place, and the place behind them; where there is no room for them, the same place and the same list
+unfoldable pub laid : List ℕ → ℕ → List ℕ → ℕ × List ℕ
+laid bs at old = cond (leb (at + length bs) (length old)) (at + length bs, sets old at bs) (at, old)
+
+-- bytes at the front of a list, which else is kept; room under their length is 12
+unfoldable pub sent : List ℕ → List ℕ → Sent × List ℕ
+sent bs old = cond (leb (length bs) (length old)) (written (length bs), bs ++ drop (length bs) old) (kept 12, old)
+
+-- "Storing gives 13, then 12"
+pub record Storing (f : Form) (t old : List ℕ) (r : Sent) (new : List ℕ) : Type 0 where
+  pub sound : Sound t → (r, new) ≡ sent (file f (stateOf t)) old
+  pub unsound : (Sound t → ⊥) → _≡_ {A = Sent × List ℕ} (r, new) (kept 13, old)
+
+-- the first line as a format
+unfoldable pub head : Form → Codec ℕ
+head f = as-type all (λ p. p .1) (λ n. (formByte f, n)) (seq (guard (λ b. eqb b (formByte f)) 17 byte) (λ _. bigEndian 8))
+
+-- a value that takes all the bytes
+abbrev pub exactly : {A : Type 0} → ℕ → Read A → Option A
+exactly n (whole a m) = cond (eqb m n) (some a) none
+exactly n more = none
+exactly n (refused k) = none
+
+abbrev pub readBytes : {A : Type 0} → Codec A → Option (List ℕ) → Option A
+readBytes c none = none
+readBytes c (some bs) = exactly (length bs) (c .dec bs)
+
+-- what a line without its line end says
+unfoldable pub readLine : {A : Type 0} → Codec A → List ℕ → Option A
+readLine c s = readBytes c (fromHex s)
+
+-- the table that the first line starts, and the one that an entry's line leaves
+abbrev pub startWith : List ℕ → Option ℕ → Option State
+startWith t none = none
+startWith t (some n) = started n t
+
+abbrev pub restoreTo : List ℕ → Option Entry → Option State
+restoreTo t none = none
+restoreTo t (some e) = restored (e .key) (e .value) (e .version) (e .deadline) t
+
+unfoldable pub headLoaded : Form → List ℕ → List ℕ → Option State
+headLoaded f s t = startWith t (readLine (head f) s)
+
+unfoldable pub lineLoaded : Form → List ℕ → List ℕ → Option State
+lineLoaded f s t = restoreTo t (readLine (entryLine f) s)
+
+-- a table built of a file, in memory of the right length: it can be built of each file that stores a table, and of no other
+pub record Built (f : Form) (bytes old : List ℕ) (r : Bool) (new : List ℕ) : Type 0 where
+  pub good : r ≡ true → Sound new × Stores f bytes (stateOf new)
+  pub every : (st : State) → Stores f bytes st → length old ≡ size → r ≡ true
+  pub long : length new ≡ length old
+
+-- "loading only 17": it is refused unless the file stores a table and both memories have the right length. "Else 17 and the old table stays":
+-- the table is built in spare memory, of which only its length is known after a refusal.
+pub record Loaded (f : Form) (bytes spare t : List ℕ) (r : Bool) (spare′ t′ : List ℕ) : Type 0 where
+  pub good : r ≡ true → Sound t′ × Stores f bytes (stateOf t′) × (spare′ ≡ t′)
+  pub every : (st : State) → Stores f bytes st → length spare ≡ size → length t ≡ size → r ≡ true
+  pub bad : r ≡ false → t′ ≡ t
+  pub long : length t′ ≡ length t
+  pub longSpare : length spare′ ≡ length spare

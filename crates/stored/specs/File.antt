@@ -1,0 +1,52 @@
+-- The stored form of a table (document 01, 'Files'): "a line with 01 and the last version issued; then a line an entry, ascending by version:
+-- version, deadline (8 bytes each), key length, key, value length, value".
+use mathlib.Core.Path.{_≡_}
+use mathlib.Core.List.{List, [], _∷_, _++_}
+use Prim.Native.Nat.{ℕ}
+use Rattle.wire.specs.Codec.{Codec, seq, as-type, all}
+use Rattle.wire.specs.Field.{bigEndian, limited}
+use Rattle.message.specs.Request.{keyLimit, valueLimit}
+use Rattle.map.specs.State.{Entry, State}
+use Rattle.map.specs.Table.{IsTable, Ascending}
+use Rattle.hex.specs.Hex.{toHex}
+
+-- the forms of a file; more may come
+pub data Form : Type 0 where
+  form1 : Form
+
+-- the byte that the first line begins with
+abbrev pub formByte : Form → ℕ
+formByte form1 = 0x01
+
+abbrev pub Fields : Type 0
+Fields = ℕ × (ℕ × (List ℕ × List ℕ))
+
+abbrev pub toEntry : Fields → Entry
+toEntry p = record { key = p .1 .1 .0; value = p .1 .1 .1; version = p .0; deadline = p .1 .0 }
+
+abbrev pub fromEntry : Entry → Fields
+fromEntry e = (e .version, (e .deadline, (e .key, e .value)))
+
+-- the bytes of an entry's line
+unfoldable pub entryLine : Form → Codec Entry
+entryLine form1 = as-type all toEntry fromEntry (seq (bigEndian 8) λ _. seq (bigEndian 8) λ _. seq (limited keyLimit) λ _. limited valueLimit)
+
+unfoldable pub headLine : Form → ℕ → List ℕ
+headLine f last = formByte f ∷ bigEndian 8 .enc last
+
+-- a line of digits with its line end: "In all files a line end is the one byte 0A. Every line of a stored file has one."
+unfoldable pub line : List ℕ → List ℕ
+line bs = toHex bs ++ (0x0a ∷ [])
+
+unfoldable pub entryLines : Form → List Entry → List ℕ
+entryLines f [] = []
+entryLines f (e ∷ es) = line (entryLine f .enc e) ++ entryLines f es
+
+unfoldable pub file : Form → State → List ℕ
+file f st = line (headLine f (st .last)) ++ entryLines f (st .entries)
+
+-- "Reading accepts exactly what writing a table can give."
+pub record Stores (f : Form) (bytes : List ℕ) (st : State) : Type 0 where
+  pub table : IsTable st
+  pub order : Ascending (st .entries)
+  pub same : bytes ≡ file f st

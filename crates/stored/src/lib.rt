@@ -1,0 +1,147 @@
+// The stored form of a table: a line at a time, and the whole file.
+mod lines;
+
+use hex::Decoded;
+use message::Sent;
+use table::Table;
+ghost use mathlib.Core.Path.{_≡_};
+ghost use Prim.Native.Nat.{_≤_};
+ghost use lib.ListN.{length};
+ghost use lib.Seq.{sets};
+ghost use Rattle.message.specs.Answer.{asSent};
+ghost use Rattle.table.specs.Memory.{stateOf};
+ghost use Rattle.table.specs.Change.{Left, isSome};
+ghost use Rattle.stored.specs.File.{form1, file};
+ghost use Rattle.stored.specs.Answer.{lineAt, laid, Storing, headLoaded, lineLoaded, Built, Loaded};
+
+// What a line is made of.
+pub struct Line {}
+
+impl Line {
+    pub const FORM: u8 = 0x01;
+
+    pub const END: u8 = 0x0a;
+
+    // The characters of the first line, with its line end.
+    pub const HEAD: usize = 19;
+}
+
+// Writes line i of the stored file at a place, with its line end, and answers the place behind it: the first line, or that of row i - 1.
+// Where there is no such line, or no room for it, nothing is written and the same place is answered.
+pub fn store_line(t: &[u8], i: usize, out: &mut [u8], at: usize) -> usize
+    ensures { λ r. ⌜ (r, now (out .exit)) ≡ laid (lineAt form1 (stateOf (now (t .entry))) i) at (now (out .entry)) ⌝ }
+{
+    let mut room = lines::room();
+    if i == 0 {
+        let n = lines::write_head(t, &mut room);
+        return lines::put_line(&room[0..n], out, at);
+    }
+    if table::count(t) < i {
+        return at;
+    }
+    let n = lines::write_entry(t, i - 1, &mut room);
+    lines::put_line(&room[0..n], out, at)
+}
+
+// How long the stored file is.
+fn file_len(t: &[u8]) -> usize
+    ensures { λ r. ⌜ r ≡ length (file form1 (stateOf (now (t .entry)))) ⌝ }
+{
+    let n = table::count(t);
+    let mut sum = Line::HEAD;
+    let mut i = 0;
+    while i < n {
+        sum += lines::entry_len(t, i);
+        i += 1;
+    }
+    sum
+}
+
+// Writes the lines of the file, for which there is room.
+fn write_file(t: &[u8], out: &mut [u8]) -> usize
+    requires { ⌜ length (file form1 (stateOf (now t))) ≤ length (now out) ⌝ }
+    ensures { λ r. ⌜ (r ≡ length (file form1 (stateOf (now (t .entry))))) × (now (out .exit) ≡ sets (now (out .entry)) 0 (file form1 (stateOf (now (t .entry))))) ⌝ }
+{
+    let n = table::count(t);
+    let mut at = store_line(t, 0, out, 0);
+    let mut i = 0;
+    while i < n {
+        i += 1;
+        at = store_line(t, i, out, at);
+    }
+    at
+}
+
+// Writes the stored file of a table. A table that is not sound is 13, then room under the file's length is 12.
+pub fn store(t: &[u8], out: &mut [u8]) -> Sent
+    ensures { λ r. ⌜ Storing form1 (now (t .entry)) (now (out .entry)) (asSent r) (now (out .exit)) ⌝ }
+{
+    if !table::is_table(t) {
+        return Sent::Refused(13);
+    }
+    if out.len() < file_len(t) {
+        return Sent::Refused(12);
+    }
+    Sent::Written(write_file(t, out))
+}
+
+// Starts the table in t with the first line of a stored file, without its line end. Any other line leaves t as it was.
+pub fn load_head(line: &[u8], t: &mut [u8]) -> bool
+    ensures { λ r. ⌜ (r ≡ isSome (headLoaded form1 (now (line .entry)) (now (t .entry)))) × Left (now (t .entry)) (headLoaded form1 (now (line .entry)) (now (t .entry))) (now (t .exit)) ⌝ }
+{
+    let mut room = lines::room();
+    let Decoded::Bytes(n) = hex::decode(line, &mut room) else {
+        return false;
+    };
+    lines::start(&room[0..n], t)
+}
+
+// Adds the entry of a line, without its line end, to the table in t. A line of none, or of one that can't stand there, leaves t as it was.
+pub fn load_line(line: &[u8], t: &mut [u8]) -> bool
+    ensures { λ r. ⌜ (r ≡ isSome (lineLoaded form1 (now (line .entry)) (now (t .entry)))) × Left (now (t .entry)) (lineLoaded form1 (now (line .entry)) (now (t .entry))) (now (t .exit)) ⌝ }
+{
+    let mut room = lines::room();
+    let Decoded::Bytes(n) = hex::decode(line, &mut room) else {
+        return false;
+    };
+    lines::restore(&room[0..n], t)
+}
+
+// Builds the table of a stored file in t.
+fn build(file: &[u8], t: &mut [u8]) -> bool
+    ensures { λ r. ⌜ Built form1 (now (file .entry)) (now (t .entry)) r (now (t .exit)) ⌝ }
+{
+    let end = bytes::scan::find(file, 0, file.len(), Line::END);
+    if end == file.len() {
+        return false;
+    }
+    if !load_head(&file[0..end], t) {
+        return false;
+    }
+    let mut at = end + 1;
+    while at < file.len() {
+        let next = bytes::scan::find(file, at, file.len(), Line::END);
+        if next == file.len() {
+            return false;
+        }
+        if !load_line(&file[at..next], t) {
+            return false;
+        }
+        at = next + 1;
+    }
+    true
+}
+
+// Loads a stored file: the table is built in spare memory, and takes the place of t only when the last line is good.
+pub fn load(file: &[u8], spare: &mut [u8], t: &mut [u8]) -> bool
+    ensures { λ r. ⌜ Loaded form1 (now (file .entry)) (now (spare .entry)) (now (t .entry)) r (now (spare .exit)) (now (t .exit)) ⌝ }
+{
+    if t.len() != Table::SIZE {
+        return false;
+    }
+    if !build(file, spare) {
+        return false;
+    }
+    bytes::copy(spare, t);
+    true
+}

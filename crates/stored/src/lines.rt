@@ -1,0 +1,124 @@
+// The bytes that a line is made of, in room for the longest line.
+use crate::Line;
+use field::ByteRead;
+use field::Cursor;
+use field::EntryVersion;
+use field::Second;
+use field::SpanRead;
+use field::VersionRead;
+use field::put;
+use message::Request;
+ghost use mathlib.Core.Path.{_≡_};
+ghost use Prim.Native.Nat.{_≤_};
+ghost use lib.ListN.{length};
+ghost use Rattle.wire.specs.Write.{Wrote};
+ghost use Rattle.table.specs.Memory.{stateOf};
+ghost use Rattle.table.specs.Found.{entryAt};
+ghost use Rattle.table.specs.Change.{Left, isSome};
+ghost use Rattle.stored.specs.File.{form1, entryLine, line};
+ghost use Rattle.stored.specs.Answer.{laid, head, exactly, startWith, restoreTo};
+
+// Room for the bytes of a line.
+pub(crate) fn room() -> [u8; 339]
+    ensures { λ r. ⌜ 339 ≡ length r ⌝ }
+{
+    [0; 339]
+}
+
+// Writes the bytes of the first line.
+pub(crate) fn write_head(t: &[u8], out: &mut [u8]) -> usize
+    requires { ⌜ length (now out) ≡ 339 ⌝ }
+    ensures { λ r. ⌜ Wrote (head form1) (stateOf (now (t .entry)) .last) (now (out .entry)) (now (out .exit)) 0 r ⌝ }
+{
+    let a = put::put_byte(out, 0, Line::FORM);
+    put::put_version(out, a, table::last(t))
+}
+
+// Writes the bytes of the line of row i.
+pub(crate) fn write_entry(t: &[u8], i: usize, out: &mut [u8]) -> usize
+    requires { ⌜ length (now out) ≡ 339 ⌝ }
+    ensures { λ r. ⌜ Wrote (entryLine form1) (entryAt (now (t .entry)) i) (now (out .entry)) (now (out .exit)) 0 r ⌝ }
+{
+    let deadline = table::deadline_at(t, i).0;
+    let a = put::put_version(out, 0, table::version_at(t, i));
+    let b = put::put_version(out, a, EntryVersion(deadline));
+    let c = put::put_limited(out, b, table::key_at(t, i), Request::KEY);
+    put::put_limited(out, c, table::value_at(t, i), Request::VALUE)
+}
+
+// How many characters the line of row i has, its line end counted.
+pub(crate) fn entry_len(t: &[u8], i: usize) -> usize
+    ensures { λ r. ⌜ (r ≡ length (line (entryLine form1 .enc (entryAt (now (t .entry)) i)))) × (r ≤ 679) ⌝ }
+{
+    let k = table::key_at(t, i).len();
+    let v = table::value_at(t, i).len();
+    let n = 16 + put::number_len(k as u64) + k + put::number_len(v as u64) + v;
+    2 * n + 1
+}
+
+// Writes the digits of bytes and a line end at a place, and answers the place behind them.
+pub(crate) fn put_line(s: &[u8], out: &mut [u8], at: usize) -> usize
+    ensures { λ r. ⌜ (r, now (out .exit)) ≡ laid (line (now (s .entry))) at (now (out .entry)) ⌝ }
+{
+    if out.len() <= at {
+        return at;
+    }
+    if (out.len() - at - 1) / 2 < s.len() {
+        return at;
+    }
+    let end = hex::encode(s, out, at);
+    put::put_byte(out, end, Line::END)
+}
+
+// Starts the table with the last version that the bytes of a first line say.
+pub(crate) fn start(s: &[u8], t: &mut [u8]) -> bool
+    ensures { λ r. ⌜ (r ≡ isSome (startWith (now (t .entry)) (exactly (length (now (s .entry))) (head form1 .dec (now (s .entry)))))) × Left (now (t .entry)) (startWith (now (t .entry)) (exactly (length (now (s .entry))) (head form1 .dec (now (s .entry))))) (now (t .exit)) ⌝ }
+{
+    let a = field::read_byte(s, Cursor { at: 0 });
+    let ByteRead::Whole(form, at1) = a else {
+        return false;
+    };
+    if form != Line::FORM {
+        return false;
+    }
+    let b = field::read_version(s, at1);
+    let VersionRead::Whole(last, at2) = b else {
+        return false;
+    };
+    if at2.at != s.len() {
+        return false;
+    }
+    table::start(t, last)
+}
+
+// Restores the entry that the bytes of a line say.
+pub(crate) fn restore(s: &[u8], t: &mut [u8]) -> bool
+    ensures { λ r. ⌜ (r ≡ isSome (restoreTo (now (t .entry)) (exactly (length (now (s .entry))) (entryLine form1 .dec (now (s .entry)))))) × Left (now (t .entry)) (restoreTo (now (t .entry)) (exactly (length (now (s .entry))) (entryLine form1 .dec (now (s .entry))))) (now (t .exit)) ⌝ }
+{
+    let a = field::read_version(s, Cursor { at: 0 });
+    let VersionRead::Whole(version, at1) = a else {
+        return false;
+    };
+    let b = field::read_version(s, at1);
+    let VersionRead::Whole(deadline, at2) = b else {
+        return false;
+    };
+    let c = field::read_limited(s, at2, Request::KEY);
+    let SpanRead::Whole(key, at3) = c else {
+        return false;
+    };
+    let d = field::read_limited(s, at3, Request::VALUE);
+    let SpanRead::Whole(value, at4) = d else {
+        return false;
+    };
+    if at4.at != s.len() {
+        return false;
+    }
+    table::restore(
+        t,
+        field::part(s, key),
+        field::part(s, value),
+        version,
+        Second(deadline.0),
+    )
+}

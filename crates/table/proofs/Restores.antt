@@ -1,0 +1,272 @@
+-- A table with no entries, and an entry put back as it is: each answer, that what is left is a table, and that each entry of a table can be put
+-- back behind those before it. Assumes nothing.
+use mathlib.Core.Path.{_≡_, refl, sym, ap, _∙_, subst}
+use mathlib.Core.List.{List, [], _∷_, _++_}
+use mathlib.Core.Bool.{Bool, true, false, cond, _&&_}
+use mathlib.Core.Option.{Option, none, some}
+use Prim.Native.Nat.{ℕ, _-_, _≤_, _<_}
+use native.Mathlib.Omega.{arith}
+use lib.ListN.{length, length-append, List·getD-eq-default}
+use lib.Dec.{eqb, leb, ltb}
+use borrow.Author.Tests.{eqb-true, eq-eqb, ne-eqb, leb-true, le-leb, lt-leb, ltb-true, lt-ltb, le-ltb}
+use Rattle.wire.specs.Codec.{Bytes}
+use Rattle.wire.proofs.Laws.{never, both, and, and-false, is-bytes}
+use Rattle.message.specs.Request.{keyLimit, valueLimit}
+use Rattle.map.specs.State.{Entry, State, sameList, find, hasKey}
+use Rattle.map.specs.Step.{mostKeys, lastVersion, isNone}
+use Rattle.map.specs.Table.{Each, Pairs, Sizes, OtherKey, OtherVersion, Issued, IsTable, Ascending}
+use Rattle.map.proofs.Laws.{same-sym}
+use Rattle.table.specs.Memory.{size, rowAt, entry, countOf, stateOf, Sound}
+use Rattle.table.specs.Bytes.{be8}
+use Rattle.table.specs.Found.{entryAt}
+use Rattle.table.specs.Change.{Changed, Left, started, newest, fitting, next, restored}
+use Rattle.table.specs.Write.{extended}
+use Rattle.table.proofs.Order.{each-map, each-at, each-more, pairs-more, to-newest}
+use Rattle.table.proofs.RowLaws.{length-entries}
+use Rattle.table.proofs.SoundLaws.{version-is}
+use Rattle.table.proofs.Answers.{Answers, taken, left}
+
+passed : (new : State) (b : Bool) (s : State) → cond b (some new) none ≡ some s → (b ≡ true) × (s ≡ new)
+passed new true s e = (refl, cc)
+passed new false s e = never (cc)
+
+-- the answers of `start`
+module _ (x : ℕ) (t : List ℕ) where
+  abbrev bare : State
+  bare = record { entries = []; last = x }
+
+  abbrev may-start : Bool
+  may-start = eqb (length t) size && leb x lastVersion
+
+  pub started-is : length t ≡ size → x ≤ lastVersion → started x t ≡ some bare
+  unfolding started
+  started-is h l = rw (and (eq-eqb _ _ h) (le-leb _ _ l))
+
+  pub started-says : (s : State) → started x t ≡ some s → (length t ≡ size) × (x ≤ lastVersion)
+  unfolding started
+  started-says s e =
+      let a = passed bare may-start s e in
+      let b = both (eqb (length t) size) (leb x lastVersion) (a .0) in
+      (eqb-true _ _ (b .0), leb-true _ _ (b .1))
+
+  pub started-yes : (u : List ℕ) → length t ≡ size → x ≤ lastVersion → Changed t u bare → Answers t (started x t) true u
+  unfolding started
+  started-yes u h l c = taken t u bare may-start (and (eq-eqb _ _ h) (le-leb _ _ l)) c
+
+  pub started-sized : (length t ≡ size → ⊥) → Answers t (started x t) false t
+  unfolding started
+  started-sized h = left t bare may-start (rw (ne-eqb (length t) size h))
+
+  pub started-large : lastVersion < x → Answers t (started x t) false t
+  unfolding started
+  started-large l = left t bare may-start (rw (lt-leb x lastVersion l, and-false))
+
+-- the version of the last row
+module _ (t : List ℕ) (h : length t ≡ size) where
+  pub newest-none : countOf t ≡ 0 → 0 ≡ newest (stateOf t .entries)
+  unfolding newest entry
+  newest-none e =
+      sym
+      (ap (λ (x : Entry). x .version)
+      (List·getD-eq-default (stateOf t .entries) (entry [] [] 0 0) {n = length (stateOf t .entries) - 1} (omega (arith, length-entries t h))))
+
+  pub newest-row : (n : ℕ) → n ≡ countOf t → 0 < n → be8 t (rowAt (n - 1)) ≡ newest (stateOf t .entries)
+  unfolding newest entryAt
+  newest-row n e l =
+      sym (version-is t h (n - 1) (omega arith))
+      ∙ ap (λ (i : ℕ). entryAt t i .version) (omega (arith, length-entries t h))
+
+-- the tests of `restore`
+module _ (k v : List ℕ) (d : ℕ) where
+  pub fit-key : keyLimit < length k → false ≡ fitting k v d
+  unfolding fitting
+  fit-key h = rw (lt-leb (length k) keyLimit h)
+
+  pub fit-value : length k ≤ keyLimit → valueLimit < length v → false ≡ fitting k v d
+  unfolding fitting
+  fit-value h g = rw (le-leb (length k) keyLimit h, lt-leb (length v) valueLimit g)
+
+  pub fit-rest : length k ≤ keyLimit → length v ≤ valueLimit → leb d 8_589_934_590 ≡ fitting k v d
+  unfolding fitting
+  fit-rest h g = rw (le-leb (length k) keyLimit h, le-leb (length v) valueLimit g)
+
+  pub record Fits : Type 0 where
+    pub key : length k ≤ keyLimit
+    pub value : length v ≤ valueLimit
+    pub deadline : d ≤ 8_589_934_590
+
+  pub fits : fitting k v d ≡ true → Fits
+  unfolding fitting
+  fits e =
+      let x = both (leb (length k) keyLimit) _ e in
+      let y = both (leb (length v) valueLimit) _ (x .1) in
+      record { key = leb-true _ _ (x .0); value = leb-true _ _ (y .0); deadline = leb-true _ _ (y .1) }
+
+module _ (k : List ℕ) (n : ℕ) (t : List ℕ) where
+  abbrev st : State
+  st = stateOf t
+
+  pub next-sized : (length t ≡ size → ⊥) → false ≡ next k n t
+  unfolding next
+  next-sized h = rw (ne-eqb (length t) size h)
+
+  pub next-full : mostKeys ≤ length (st .entries) → false ≡ next k n t
+  unfolding next
+  next-full h = rw (le-ltb (length (st .entries)) mostKeys h, and-false)
+
+  pub next-old : n ≤ newest (st .entries) → false ≡ next k n t
+  unfolding next
+  next-old h = rw (le-ltb (newest (st .entries)) n h) (simp and-false)
+
+  pub next-late : st .last < n → false ≡ next k n t
+  unfolding next
+  next-late h = rw (lt-leb n (st .last) h) (simp and-false)
+
+  pub next-held : {e : Entry} → find (hasKey k) (st .entries) ≡ some e → false ≡ next k n t
+  unfolding next
+  next-held e = rw e (simp and-false)
+
+  pub record Follows : Type 0 where
+    pub long : length t ≡ size
+    pub room : length (st .entries) < mostKeys
+    pub above : newest (st .entries) < n
+    pub most : n ≤ st .last
+    pub absent : find (hasKey k) (st .entries) ≡ none
+
+  pub next-yes : Follows → true ≡ next k n t
+  unfolding next
+  next-yes f =
+      sym (and (eq-eqb _ _ (f .long)) (and (lt-ltb _ _ (f .room)) (and (lt-ltb _ _ (f .above)) (and (le-leb _ _ (f .most)) (ap isNone (f .absent))))))
+
+  no-entry : (o : Option Entry) → isNone o ≡ true → o ≡ none
+  no-entry none e = refl
+  no-entry (some x) e = never (cc)
+
+  pub follows : next k n t ≡ true → Follows
+  unfolding next
+  follows e =
+      let a = both (eqb (length t) size) _ e in
+      let b = both (ltb (length (st .entries)) mostKeys) _ (a .1) in
+      let c = both (ltb (newest (st .entries)) n) _ (b .1) in
+      let d = both (leb n (st .last)) _ (c .1) in
+      record {
+        long = eqb-true _ _ (a .0);
+        room = ltb-true _ _ (b .0);
+        above = ltb-true _ _ (c .0);
+        most = leb-true _ _ (d .0);
+        absent = no-entry _ (d .1);
+      }
+
+-- the answers of `restore`
+module _ (k v : List ℕ) (n d : ℕ) (t : List ℕ) where
+  abbrev new : State
+  new = extended k v n d (stateOf t)
+
+  abbrev may-restore : Bool
+  may-restore = fitting k v d && next k n t
+
+  pub restored-unfit : fitting k v d ≡ false → Answers t (restored k v n d t) false t
+  unfolding restored
+  restored-unfit e = left t new may-restore (rw e)
+
+  pub restored-no : next k n t ≡ false → Answers t (restored k v n d t) false t
+  unfolding restored
+  restored-no e = left t new may-restore (rw (e, and-false))
+
+  pub restored-yes : (u : List ℕ) → fitting k v d ≡ true → next k n t ≡ true → Changed t u new → Answers t (restored k v n d t) true u
+  unfolding restored
+  restored-yes u p q c = taken t u new may-restore (and p q) c
+
+  pub restored-is : fitting k v d ≡ true → next k n t ≡ true → restored k v n d t ≡ some new
+  unfolding restored
+  restored-is p q = rw (p, q)
+
+  pub record Restored (s : State) : Type 0 where
+    pub fits : Fits k v d
+    pub follows : Follows k n t
+    pub same : s ≡ new
+
+  pub restored-says : (s : State) → restored k v n d t ≡ some s → Restored s
+  unfolding restored
+  restored-says s e =
+      let a = passed new may-restore s e in
+      let b = both (fitting k v d) (next k n t) (a .0) in
+      record { fits = fits k v d (b .0); follows = follows k n t (b .1); same = a .1 }
+
+-- entries that lack a key
+lacks : (k : List ℕ) (es : List Entry) → find (hasKey k) es ≡ none → Each (λ e. sameList k (e .key) ≡ false) es
+unfolding find
+lacks k [] h = tt
+lacks k (e ∷ es) h = go (hasKey k e) refl h (lacks k es)
+  where
+    go : (b : Bool) → hasKey k e ≡ b → cond b (some e) (find (hasKey k) es) ≡ none
+        → (find (hasKey k) es ≡ none → Each (λ e. sameList k (e .key) ≡ false) es) → Each (λ e. sameList k (e .key) ≡ false) (e ∷ es)
+    go true p q f = never (cc)
+    go false p q f = (same-sym (e .key) k p, f q)
+
+lacking : (k : List ℕ) (es : List Entry) → Each (λ e. sameList k (e .key) ≡ false) es → find (hasKey k) es ≡ none
+unfolding find
+lacking k [] h = refl
+lacking k (e ∷ es) h = rw (same-sym k (e .key) (h .0)) (lacking k es (h .1))
+
+-- what `restore` leaves is a table
+pub restored-table : (k v : List ℕ) (n d : ℕ) (t : List ℕ) (s : State) → Sound t → Bytes k → Bytes v → restored k v n d t ≡ some s
+    → IsTable s × Ascending (s .entries)
+unfolding entry
+restored-table k v n d t s h bk bv e =
+    let r = restored-says k v n d t s e in
+    let es : List Entry = stateOf t .entries in
+    let old = h .table in
+    let low : Each (λ e. e .version < n) es = each-map es (λ e l. omega (arith, r .follows .above)) (to-newest es (h .form .order)) in
+    subst (λ (x : State). IsTable x × Ascending (x .entries)) (sym (r .same)) (
+      record {
+        few = omega (arith, length-append es (entry k v n d ∷ []), r .follows .room);
+        keys = pairs-more OtherKey es _ (old .keys) (lacks k es (r .follows .absent));
+        sizes = each-more Sizes es _ (old .sizes)
+            (record { key = r .fits .key; value = r .fits .value; keyBytes = is-bytes k bk; valueBytes = is-bytes v bv; deadline = r .fits .deadline });
+        versions = pairs-more OtherVersion es _ (old .versions) (each-map es (λ e l q. omega arith) low);
+        issued = each-more (Issued (stateOf t .last)) es _ (old .issued) (omega (arith, r .follows .above), r .follows .most);
+        last = old .last;
+      },
+      pairs-more _ es _ (h .form .order) low,
+    )
+
+pub restored-sound : (k v : List ℕ) (n d : ℕ) (t u : List ℕ) (s : State) → Sound t → Bytes k → Bytes v → restored k v n d t ≡ some s
+    → Left t (restored k v n d t) u → Sound u × (stateOf u ≡ s)
+restored-sound k v n d t u s h bk bv e l =
+    let c : Changed t u s = subst (λ (o : Option State). Left t o u) e l in
+    (record { form = c .form h; table = subst IsTable (sym (c .state)) (restored-table k v n d t s h bk bv e .0) }, c .state)
+
+-- each entry of a table follows those before it
+pub each-mid : (p : Entry → Type 0) (es : List Entry) (e : Entry) (fs : List Entry) → Each p (es ++ (e ∷ fs)) → p e
+each-mid p [] e fs h = h .0
+each-mid p (x ∷ es) e fs h = each-mid p es e fs (h .1)
+
+pairs-mid : (p : Entry → Entry → Type 0) (es : List Entry) (e : Entry) (fs : List Entry) → Pairs p (es ++ (e ∷ fs)) → Each (λ x. p x e) es
+pairs-mid p [] e fs h = tt
+pairs-mid p (x ∷ es) e fs h = (each-mid (p x) es e fs (h .0), pairs-mid p es e fs (h .1))
+
+newest-below : (n : ℕ) (es : List Entry) → 1 ≤ n → Each (λ e. e .version < n) es → newest es < n
+unfolding newest entry
+newest-below n [] h l = omega arith
+newest-below n (e ∷ es) h l = each-at (λ e. e .version < n) (e ∷ es) (entry [] [] 0 0) (length (e ∷ es) - 1) l (omega arith)
+
+pub each-restored : (st : State) (e : Entry) (fs : List Entry) (t : List ℕ) → IsTable st → Ascending (st .entries) → length t ≡ size
+    → st .entries ≡ stateOf t .entries ++ (e ∷ fs) → st .last ≡ stateOf t .last
+    → restored (e .key) (e .value) (e .version) (e .deadline) t ≡ some (extended (e .key) (e .value) (e .version) (e .deadline) (stateOf t))
+unfolding fitting
+each-restored st e fs t h a l p q =
+    let es : List Entry = stateOf t .entries in
+    let s : Sizes e = each-mid Sizes es e fs (subst (Each Sizes) p (h .sizes)) in
+    let i : Issued (st .last) e = each-mid (Issued (st .last)) es e fs (subst (Each (Issued (st .last))) p (h .issued)) in
+    restored-is (e .key) (e .value) (e .version) (e .deadline) t
+    (and (le-leb _ _ (s .key)) (and (le-leb _ _ (s .value)) (le-leb _ _ (s .deadline))))
+    (sym
+    (next-yes (e .key) (e .version) t
+    (record {
+      long = l;
+      room = omega (arith, ap length p, length-append es (e ∷ fs), h .few);
+      above = newest-below (e .version) es (i .0) (pairs-mid _ es e fs (subst Ascending p a));
+      most = omega (arith, i .1);
+      absent = lacking (e .key) es (pairs-mid OtherKey es e fs (subst (Pairs OtherKey) p (h .keys)));
+    })))

@@ -1,6 +1,6 @@
 -- What the tests of given numbers say, that a code fits, and what a reader tells by each of its answers. Assumes nothing.
 use mathlib.Core.Path.{_≡_, refl, sym, ap, _∙_}
-use mathlib.Core.List.{List, []}
+use mathlib.Core.List.{List, [], _∷_}
 use mathlib.Core.Bool.{Bool, true, false, cond, _&&_}
 use Prim.Native.Nat.{ℕ, _+_, _≤_, _<_, _^_}
 use native.Mathlib.Omega.{arith}
@@ -54,3 +54,7 @@ whole-fits c l s h a n e = omega (arith, l .spans s a n (sym e))
 pub tells : {R A : Type 0} {means : R → Read A} {numbers : R → List ℕ} {found : Read A} {old new : List ℕ} {n : ℕ} (x y : R)
     → means x ≡ found → x ≡ y → new ≡ tell (numbers y) old → n ≡ readCode (means y) → Tells means numbers found old new n
 tells x y p q t e = record { answer = x; read = p; told = rw q t; code = rw (← p, q) e }
+
+-- the third number told is another name of it
+pub told-third : (a b : ℕ) {p q : ℕ} (old : List ℕ) {new : List ℕ} → p ≡ q → new ≡ tell (a ∷ b ∷ p ∷ []) old → new ≡ tell (a ∷ b ∷ q ∷ []) old
+told-third a b old e h = h ∙ ap (λ x. tell (a ∷ b ∷ x ∷ []) old) e

@@ -1,11 +1,17 @@
 -- What the exported serving functions tell of a call.
 use mathlib.Core.Path.{_≡_}
 use mathlib.Core.List.{List, [], _∷_}
+use mathlib.Core.Bool.{Bool, true, false}
 use Prim.Native.Nat.{ℕ}
+use Rattle.wire.specs.Write.{Sent, written, kept}
 use Rattle.map.specs.Step.{Context}
 use Rattle.stream.specs.Serve.{Verdict, served, more, refused}
 use Rattle.stream.specs.Stream.{Call, Done, Serves}
 use Rattle.stream.specs.Many.{Total, Streams}
+use Rattle.server.specs.declared.Fed.{Fed}
+use Rattle.server.specs.Lines.{ServesLines}
+use Rattle.stored.specs.File.{form1}
+use Rattle.stored.specs.Answer.{Storing}
 use Rattle.exports.specs.Codes.{tell}
 
 abbrev pub verdictCode : Verdict → ℕ
@@ -30,3 +36,25 @@ pub record TellsTotal (c : Context) (input t lent out t' old new : List ℕ) (n 
   pub table : t' ≡ total .table
   pub told : new ≡ tell (total .taken ∷ total .size ∷ total .calls ∷ []) old
   pub code : n ≡ verdictCode (total .verdict)
+
+abbrev pub bit : Bool → ℕ
+bit true = 1
+bit false = 0
+
+-- the same of a piece of a file of lines: 1 is told where the rest of a line is still to be passed over, and the code is the refusal or 0
+pub record TellsFed (last pass : Bool) (input t lent out t' old new : List ℕ) (n : ℕ) : Type 0 where
+  pub fed : Fed
+  pub serves : ServesLines last pass input t lent fed out t'
+  pub told : new ≡ tell (fed .taken ∷ fed .size ∷ bit (fed .passing) ∷ []) old
+  pub code : n ≡ fed .refused
+
+-- the length of a stored file, which is at least 19, or the refusal
+abbrev pub storedCode : Sent → ℕ
+storedCode (written n) = n
+storedCode (kept k) = k
+
+-- the stored file in a list lent, and its code
+pub record TellsStored (t old new : List ℕ) (n : ℕ) : Type 0 where
+  pub sent : Sent
+  pub storing : Storing form1 t old sent new
+  pub code : n ≡ storedCode sent

@@ -15,7 +15,9 @@ ghost use Rattle.table.specs.Memory.{Sound};
 ghost use Rattle.table.specs.Found.{Tells as Says};
 ghost use Rattle.table.specs.Change.{Left, isSome, made};
 ghost use Rattle.server.specs.Answer.{callOf, contextOf};
-ghost use Rattle.exports.specs.Calls.{TellsDone, TellsTotal};
+ghost use Rattle.stored.specs.File.{form1};
+ghost use Rattle.stored.specs.Answer.{Loaded};
+ghost use Rattle.exports.specs.Calls.{TellsDone, TellsTotal, TellsFed, TellsStored};
 ghost use Rattle.exports.specs.Codes.{coded, Tells};
 ghost use Rattle.exports.specs.Messages.{requestNumbers, replyNumbers, sendRequest, sendReply};
 
@@ -143,4 +145,38 @@ pub extern "C" fn fq_serve_stream(
     tell::numbers(answer, &[a.taken as u64, a.size as u64, a.calls as u64]);
     let v = a.verdict;
     tell::verdict(v)
+}
+
+// Serves the lines of a piece of a file.
+#[no_mangle]
+pub extern "C" fn fq_serve_lines(
+    input: &[u8],
+    table: &mut [u8],
+    out: &mut [u8],
+    passing: bool,
+    last: bool,
+    answer: &mut [u64],
+) -> u64
+    ensures { λ r. ⌜ TellsFed last passing (now (input .entry)) (now (table .entry)) (now (out .entry)) (now (out .exit)) (now (table .exit)) (now (answer .entry)) (now (answer .exit)) r ⌝ }
+{
+    let a = server::serve_lines(input, table, out, passing, last);
+    let p = tell::bit(a.passing);
+    tell::numbers(answer, &[a.taken as u64, a.size as u64, p]);
+    a.refused as u64
+}
+
+// Writes the stored file of a table.
+#[no_mangle]
+pub extern "C" fn fq_store(table: &[u8], out: &mut [u8]) -> u64
+    ensures { λ r. ⌜ TellsStored (now (table .entry)) (now (out .entry)) (now (out .exit)) r ⌝ }
+{
+    tell::stored(stored::store(table, out))
+}
+
+// Loads a stored file; the table is built in the spare memory.
+#[no_mangle]
+pub extern "C" fn fq_load(file: &[u8], spare: &mut [u8], table: &mut [u8]) -> bool
+    ensures { λ r. ⌜ Loaded form1 (now (file .entry)) (now (spare .entry)) (now (table .entry)) r (now (spare .exit)) (now (table .exit)) ⌝ }
+{
+    stored::load(file, spare, table)
 }

@@ -7,7 +7,7 @@ ghost use mathlib.Core.Path.{_≡_};
 ghost use Prim.Native.Nat.{_<_, _^_};
 ghost use Rattle.message.specs.Answer.{asSent};
 ghost use Rattle.server.specs.Answer.{asVerdict};
-ghost use Rattle.exports.specs.Calls.{verdictCode};
+ghost use Rattle.exports.specs.Calls.{verdictCode, bit as bitOf, storedCode};
 ghost use Rattle.exports.specs.Codes.{sentCode, tell};
 ghost use Rattle.exports.specs.Messages.{wholeRequest, wholeReply};
 
@@ -94,5 +94,23 @@ pub(crate) fn verdict(v: Verdict) -> u64
         Verdict::Served => 256,
         Verdict::More => 0,
         Verdict::Refused(k) => k as u64,
+    }
+}
+
+pub(crate) fn bit(b: bool) -> u64
+    ensures { λ r. ⌜ r ≡ bitOf b ⌝ }
+{
+    if b {
+        return 1;
+    }
+    0
+}
+
+pub(crate) fn stored(s: Sent) -> u64
+    ensures { λ r. ⌜ r ≡ storedCode (asSent s) ⌝ }
+{
+    match s {
+        Sent::Written(n) => n as u64,
+        Sent::Refused(k) => k as u64,
     }
 }

@@ -28,6 +28,8 @@ const REQUESTS: usize = 1000;
 const CALLS: usize = 10_000;
 /// The calls that check the table in a round.
 const CHECKS: usize = 128;
+/// The calls that serve one request in a round.
+const CALLED: usize = 120;
 const SECOND: u32 = 5;
 const REPLY_ROOM: usize = 512;
 
@@ -188,7 +190,9 @@ pub fn rows<S: Subject>(subject: &mut S) -> Vec<Row> {
             "serve_stream, nine gets to one put",
             &mixed,
         ),
-        one_get(subject, &mut setup),
+        calls(subject, &mut setup, "serve, get", 0),
+        calls(subject, &mut setup, "serve, put over a held key", 10),
+        calls(subject, &mut setup, "serve, nine gets to one put", 1),
         check(subject, &setup),
     ]
 }
@@ -379,20 +383,21 @@ fn stream<S: Subject>(subject: &mut S, setup: &Setup, name: &'static str, row: &
     measured(task, library, reference)
 }
 
-/// One get a call, each for another key in turn.
-fn one_get<S: Subject>(subject: &mut S, setup: &mut Setup) -> Row {
-    let requests: Vec<Vec<u8>> = (0..CHECKS)
-        .map(|_| join(&of_request(&setup.request(GET))))
+/// One request a call, so many in ten of them puts.
+fn calls<S: Subject>(subject: &mut S, setup: &mut Setup, name: &'static str, puts: usize) -> Row {
+    let requests: Vec<Vec<u8>> = setup.requests(puts)[..CALLED]
+        .iter()
+        .map(|request| join(&of_request(request)))
         .collect();
-    let copied = with_replies(setup, &requests[0]);
+    let copied = with_replies(setup, &requests.concat());
     let mut memory = setup.memory.clone();
     let mut reply = [0; REPLY_ROOM];
     let mut other = [0; REPLY_ROOM];
     let task = Task {
-        name: "serve, one get",
-        units: CHECKS,
+        name,
+        units: CALLED,
         copied: &copied,
-        copies: 1,
+        copies: CALLED,
     };
     let library = || {
         memory.copy_from_slice(&setup.memory);
@@ -404,7 +409,7 @@ fn one_get<S: Subject>(subject: &mut S, setup: &mut Setup) -> Row {
                 codes += subject.serve(request, &mut memory, SECOND, &mut reply, &mut answer);
             }
         });
-        assert_eq!(codes, GOOD * CHECKS as u64, "a get is not served");
+        assert_eq!(codes, GOOD * CALLED as u64, "a request is not served");
         time
     };
     let reference = || {

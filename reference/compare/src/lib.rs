@@ -7,7 +7,7 @@
 //! can be put into it.
 //!
 //! The parts: `messages` (a), `serving` (b), `streams` (c), `tables` (d),
-//! `values` (e), `lines` and `stored` (f).
+//! `values` (e), `lines` (f), `stored` (g), `edges` (h).
 //!
 //! `cargo test --offline` tests the harness without the library. With it:
 //! `cargo run --release --offline --features library,lines,stored -- quick`;
@@ -21,6 +21,7 @@ pub mod chance;
 pub mod damage;
 pub mod difference;
 pub mod echo;
+pub mod edges;
 #[cfg(feature = "library")]
 pub mod ffi;
 pub mod fields;

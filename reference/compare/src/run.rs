@@ -7,7 +7,7 @@ use crate::chance::Chance;
 use crate::difference::{Difference, Outcome};
 use crate::subject::{ServesLines, Stores, Subject};
 use crate::trial::{Counts, Trial};
-use crate::{lines, messages, serving, stored, streams, tables, values};
+use crate::{edges, lines, messages, serving, stored, streams, tables, values};
 
 /// One part, and how much of the time it gets.
 pub struct Part<S> {
@@ -32,7 +32,7 @@ fn part<S>(
     }
 }
 
-/// Parts a to e.
+/// Parts a to e, and h.
 pub fn parts<S: Subject>() -> Vec<Part<S>> {
     vec![
         part(0, "messages", 20, messages::round),
@@ -40,6 +40,7 @@ pub fn parts<S: Subject>() -> Vec<Part<S>> {
         part(2, "streams", 20, streams::round),
         part(3, "tables", 10, tables::round),
         part(4, "values", 10, values::round),
+        part(7, "edges", 1, edges::round),
     ]
 }
 
@@ -48,7 +49,7 @@ pub fn lines_part<S: ServesLines>() -> Part<S> {
     part(5, "lines", 8, lines::round)
 }
 
-/// Part f, stored tables.
+/// Part g, stored tables.
 pub fn stored_part<S: Stores>() -> Part<S> {
     part(6, "stored", 7, stored::round)
 }

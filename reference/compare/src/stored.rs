@@ -1,4 +1,4 @@
-//! Part f, stored tables: `fq_store` and `fq_load` against the reference.
+//! Part g, stored tables: `fq_store` and `fq_load` against the reference.
 
 use reference::hex::to_digits;
 use reference::lines::LINE_END;

@@ -79,6 +79,12 @@ fn tables_give_13_and_others() {
 }
 
 #[test]
+fn edges_give_what_the_paper_says() {
+    let counts = sound_rounds("edges", 1);
+    all_given(&counts, &[GOOD, 0, 6, 7, 9, 10, 11]);
+}
+
+#[test]
 fn values_give_most_codes() {
     let counts = sound_rounds("values", 200);
     all_given(&counts, &[GOOD, 0, 1, 9, 10, 11, 12]);

@@ -2,11 +2,11 @@
 //! compared like any call, and the code with the paper's.
 
 use reference::map::{LARGEST_VERSION, MOST_KEYS};
-use reference::operation::{GET, PUT, PUT_IF_ABSENT, REMOVE, REPLACE};
-use reference::{Entry, Request, Table};
+use reference::operation::{GET, GET_WITH_VERSION, PUT, PUT_IF_ABSENT, REMOVE, REPLACE};
+use reference::{Answer, Entry, Request, Table};
 
 use crate::calls::{compared, Call, World};
-use crate::difference::{hold, Outcome};
+use crate::difference::{hold, Difference, Outcome};
 use crate::fields::{join, of_request};
 use crate::subject::{verdict_code, Subject, GOOD};
 use crate::trial::Trial;
@@ -104,7 +104,8 @@ fn edges() -> Vec<Edge> {
     sizes.chain(filled).collect()
 }
 
-/// All edges, and every beginning of each request that is served.
+/// All edges, every beginning of each request that is served, and the longest
+/// reply.
 pub fn round<S: Subject>(trial: &mut Trial<S>) -> Outcome {
     for edge in edges() {
         let input = join(&of_request(&edge.request));
@@ -113,10 +114,31 @@ pub fn round<S: Subject>(trial: &mut Trial<S>) -> Outcome {
             one(trial, &edge, &input[..end], 0)?;
         }
     }
-    Ok(())
+    let edge = longest();
+    let input = join(&of_request(&edge.request));
+    let answer = one(trial, &edge, &input, edge.code)?;
+    hold(answer.reply_len == 279, edge.name)
 }
 
-fn one<S: Subject>(trial: &mut Trial<S>, edge: &Edge, input: &[u8], code: u64) -> Outcome {
+/// The reply to this has a value of 256 bytes and a message id of 9.
+fn longest() -> Edge {
+    Edge {
+        name: "longest reply",
+        table: table(2, 2),
+        request: Request {
+            id: LARGEST_VERSION,
+            ..request(GET_WITH_VERSION, key(0), 0)
+        },
+        code: GOOD,
+    }
+}
+
+fn one<S: Subject>(
+    trial: &mut Trial<S>,
+    edge: &Edge,
+    input: &[u8],
+    code: u64,
+) -> Result<Answer, Difference> {
     let mut world = World::of(&mut trial.chance, edge.table.clone(), Vec::new());
     let call = Call {
         input,
@@ -124,5 +146,6 @@ fn one<S: Subject>(trial: &mut Trial<S>, edge: &Edge, input: &[u8], code: u64) -
         room: 512,
     };
     let answer = compared(trial, &mut world, call)?;
-    hold(verdict_code(answer.verdict) == code, edge.name)
+    hold(verdict_code(answer.verdict) == code, edge.name)?;
+    Ok(answer)
 }

@@ -116,12 +116,12 @@ pub(crate) fn append(t: &mut [u8], k: &[u8], v: &[u8], deadline: u64)
     requires { ⌜ (length (now k) ≤ 64) × (length (now v) ≤ 256) ⌝ }
     ensures { λ _. ⌜ Changed (now (t .entry)) (now (t .exit)) (grown (now (k .entry)) (now (v .entry)) deadline (stateOf (now (t .entry)))) ⌝ }
 {
-    let n = count(t);
+    let held = count(t);
     let version = number::get64(t, Table::LAST) + 1;
-    let a = row_at(n);
+    let a = row_at(held);
     let e = a + Row::WIDTH;
     write(&mut t[a..e], k, v, version, deadline);
-    number::put64(t, Table::COUNT, (n + 1) as u64);
+    number::put64(t, Table::COUNT, (held + 1) as u64);
     number::put64(t, Table::LAST, version);
 }
 

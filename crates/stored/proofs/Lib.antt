@@ -3,5 +3,5 @@ pub mod LineLaws
 pub mod StoreLaws
 pub mod FileLaws
 pub mod LoadLaws
-pub mod BuildLaws
 pub mod OneTable
+pub mod WholeLaws

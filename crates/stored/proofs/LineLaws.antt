@@ -3,11 +3,11 @@ use mathlib.Core.Path.{_≡_, refl, sym, ap, _∙_}
 use mathlib.Core.List.{List, [], _∷_, _++_, append-assoc, append-nil}
 use mathlib.Core.Bool.{Bool, true, false, cond}
 use mathlib.Core.Option.{Option, none, some}
-use Prim.Native.Nat.{ℕ, _+_, _/_, _%_, _≤_, _<_, _^_}
+use Prim.Native.Nat.{ℕ, suc, _+_, _/_, _%_, _≤_, _<_, _^_}
 use native.Mathlib.Omega.{arith}
 use native.Mathlib.Decide.{decLt}
 use lib.ListN.{length, take, drop}
-use lib.Seq.{take-length, take-append-seam, drop-append-add}
+use lib.Seq.{take-length, take-at, take-append-seam, drop-append-add}
 use lib.Dec.{eqb}
 use borrow.Author.Tests.{eqb-true, eq-eqb, ne-eqb}
 use Rattle.bytes.specs.Bytes.{indexOf, indexAfter}
@@ -24,7 +24,7 @@ use Rattle.hex.specs.Hex.{digitOf, toHex, fromHex}
 use Rattle.hex.proofs.HexLaws.{to-from, from-to}
 use Rattle.hex.proofs.Digits.{of-decimal, of-letter}
 use Rattle.stored.specs.File.{Form, form1, formByte, Fields, toEntry, fromEntry, entryLine, headLine, line}
-use Rattle.stored.specs.Answer.{head, exactly, readBytes, readLine}
+use Rattle.stored.specs.Answer.{head, exactly, readBytes, readLine, NoEnd}
 use Rattle.stored.proofs.Spelt.{Spelt, type-spelt, seq-spelt, guard-spelt, byte-spelt, big-spelt, limited-spelt}
 
 -- the formats
@@ -139,31 +139,39 @@ digit-no-end n e = go (decLt n 10)
     go (yes h) = omega (arith, of-decimal n h)
     go (no h) = omega (arith, of-letter n (omega arith))
 
-pub digits-end : (bs y : List ℕ) → indexOf 0x0a (toHex bs ++ (0x0a ∷ y)) ≡ length (toHex bs)
+pub no-end : (bs : List ℕ) → NoEnd (toHex bs)
 unfolding indexOf indexAfter toHex
-digits-end [] y = refl
-digits-end (b ∷ bs) y =
-    rw (ne-eqb (digitOf (b / 16)) 0x0a (digit-no-end (b / 16)), ne-eqb (digitOf (b % 16)) 0x0a (digit-no-end (b % 16)), digits-end bs y)
+no-end [] = refl
+no-end (b ∷ bs) =
+    rw (ne-eqb (digitOf (b / 16)) 0x0a (digit-no-end (b / 16)), ne-eqb (digitOf (b % 16)) 0x0a (digit-no-end (b % 16)), no-end bs)
+
+-- the first line end stands behind bytes that have none
+pub first-end : (l y : List ℕ) → NoEnd l → indexOf 0x0a (l ++ (0x0a ∷ y)) ≡ length l
+unfolding indexOf indexAfter
+first-end [] y h = refl
+first-end (x ∷ l) y h = go (eqb x 0x0a) h (first-end l y)
+  where
+    go : (b : Bool) → indexAfter b (indexOf 0x0a l) ≡ suc (length l) → (NoEnd l → indexOf 0x0a (l ++ (0x0a ∷ y)) ≡ length l)
+        → indexAfter b (indexOf 0x0a (l ++ (0x0a ∷ y))) ≡ suc (length l)
+    go true e f = absurd (omega arith)
+    go false e f = ap suc (f (omega arith))
+
+pub ends-split : (a b x y : List ℕ) → NoEnd a → NoEnd b → a ++ (0x0a ∷ x) ≡ b ++ (0x0a ∷ y) → (a ≡ b) × (x ≡ y)
+ends-split a b x y ha hb e =
+    let n : length a ≡ length b = sym (first-end a x ha) ∙ ap (indexOf 0x0a) e ∙ first-end b y hb in (
+      sym (take-append-seam a (0x0a ∷ x)) ∙ ap (take (length a)) e ∙ take-at b (0x0a ∷ y) (length a) (sym n),
+      sym (drop-append-add a (0x0a ∷ x) 1) ∙ ap (drop (length a + 1)) e ∙ ap (λ (m : ℕ). drop (m + 1) (b ++ (0x0a ∷ y))) n ∙ drop-append-add b (0x0a ∷ y) 1,
+    )
 
 -- a line with its end, and what is behind it
 pub line-cons : (bs y : List ℕ) → line bs ++ y ≡ toHex bs ++ (0x0a ∷ y)
 unfolding line
 line-cons bs y = append-assoc (toHex bs) (0x0a ∷ []) y
 
-pub first-line : (bs y : List ℕ) → indexOf 0x0a (line bs ++ y) ≡ length (toHex bs)
-first-line bs y = ap (indexOf 0x0a) (line-cons bs y) ∙ digits-end bs y
-
 some-same : {a b : List ℕ} → some a ≡ some b → a ≡ b
 some-same e = cc
 
 pub line-split : (a b x y : List ℕ) → Bytes a → Bytes b → line a ++ x ≡ line b ++ y → (a ≡ b) × (x ≡ y)
 line-split a b x y ha hb e =
-    let n : length (toHex a) ≡ length (toHex b) = sym (first-line a x) ∙ ap (indexOf 0x0a) e ∙ first-line b y in
-    let s : toHex a ++ (0x0a ∷ x) ≡ toHex b ++ (0x0a ∷ y) = sym (line-cons a x) ∙ e ∙ line-cons b y in
-    let p : toHex a ≡ toHex b =
-    sym (take-append-seam (toHex a) (0x0a ∷ x)) ∙ ap (take (length (toHex a))) s ∙ ap (λ (m : ℕ). take m (toHex b ++ (0x0a ∷ y))) n ∙ take-append-seam (toHex b) (0x0a ∷ y) in
-    let q : a ≡ b = some-same (sym (from-to a ha) ∙ ap fromHex p ∙ from-to b hb) in (
-      q,
-      sym (drop-append-add (toHex a) (0x0a ∷ x) 1) ∙ ap (drop (length (toHex a) + 1)) s ∙ ap (λ (m : ℕ). drop (m + 1) (toHex b ++ (0x0a ∷ y))) n
-          ∙ drop-append-add (toHex b) (0x0a ∷ y) 1,
-    )
+    let p = ends-split (toHex a) (toHex b) x y (no-end a) (no-end b) (sym (line-cons a x) ∙ e ∙ line-cons b y) in
+    (some-same (sym (from-to a ha) ∙ ap fromHex (p .0) ∙ from-to b hb), p .1)

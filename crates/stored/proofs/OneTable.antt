@@ -1,15 +1,15 @@
 -- A file stores at most one table, and the file of a sound table stores it. Assumes nothing.
 use mathlib.Core.Path.{_≡_, refl, sym, ap, _∙_}
-use mathlib.Core.List.{List, [], _∷_, _++_}
+use mathlib.Core.List.{List, [], _∷_, _++_, append-assoc, append-nil}
 use Prim.Native.Nat.{ℕ}
 use native.Mathlib.Omega.{arith}
 use lib.ListN.{length, length-append}
 use Rattle.wire.specs.Codec.{Codec, Valid, whole}
 use Rattle.wire.proofs.Laws.{Laws}
 use Rattle.map.specs.State.{Entry, State}
-use Rattle.map.specs.Table.{Each}
+use Rattle.map.specs.Table.{Each, IsTable}
 use Rattle.table.specs.Memory.{stateOf, Sound}
-use Rattle.stored.specs.File.{Form, entryLine, line, entryLines, file, Stores}
+use Rattle.stored.specs.File.{Form, entryLine, headLine, line, entryLines, file, Stores}
 use Rattle.stored.specs.Answer.{head}
 use Rattle.stored.proofs.LineLaws.{entry-laws, entry-spelt, table-good, head-laws, head-spelt, head-good, head-is, line-split}
 use Rattle.stored.proofs.Spelt.{Spelt}
@@ -30,24 +30,45 @@ module _ (f : Form) where
   some-line : (e : Entry) (x : List ℕ) → line (entryLine f .enc e) ++ x ≡ [] → ⊥
   some-line e x p = omega (arith, ap length p, length-append (line (entryLine f .enc e)) x, line-length (entryLine f .enc e))
 
-  same-entries : (es fs : List Entry) → Each (λ e. Valid (entryLine f) e) es → Each (λ e. Valid (entryLine f) e) fs → entryLines f es ≡ entryLines f fs → es ≡ fs
+  -- entries whose lines begin the lines of others begin those others
+  same-front : (es fs : List Entry) (y : List ℕ) → Each (λ e. Valid (entryLine f) e) es → Each (λ e. Valid (entryLine f) e) fs → entryLines f es ++ y ≡ entryLines f fs
+      → (gs : List Entry) × (fs ≡ es ++ gs) × (y ≡ entryLines f gs)
   unfolding entryLines
-  same-entries [] [] v w p = refl
-  same-entries [] (b ∷ fs) v w p = absurd (some-line b (entryLines f fs) (sym p))
-  same-entries (a ∷ es) [] v w p = absurd (some-line a (entryLines f es) p)
-  same-entries (a ∷ es) (b ∷ fs) v w p =
-      let q = same-line (entryLine f) (entry-laws f) (entry-spelt f) a b (entryLines f es) (entryLines f fs) (v .0) (w .0) p in
-      cc (q .0, same-entries es fs (v .1) (w .1) (q .1))
+  same-front [] fs y v w p = (fs, refl, p)
+  same-front (a ∷ es) [] y v w p = absurd (some-line a (entryLines f es ++ y) (sym (append-assoc (line (entryLine f .enc a)) (entryLines f es) y) ∙ p))
+  same-front (a ∷ es) (b ∷ fs) y v w p =
+      let q = same-line (entryLine f) (entry-laws f) (entry-spelt f) a b (entryLines f es ++ y) (entryLines f fs) (v .0) (w .0)
+      (sym (append-assoc (line (entryLine f .enc a)) (entryLines f es) y) ∙ p) in
+      let r = same-front es fs y (v .1) (w .1) (q .1) in
+      (r .0, cc (q .0, r .1), r .2)
+
+  -- a table whose file begins the file of another has the same last version and its first entries
+  pub record Front (s t : State) (y : List ℕ) : Type 0 where
+    pub entries : List Entry
+    pub all : t .entries ≡ s .entries ++ entries
+    pub last : t .last ≡ s .last
+    pub behind : y ≡ entryLines f entries
+
+  pub file-front : (s t : State) (y : List ℕ) → IsTable s → IsTable t → file f s ++ y ≡ file f t → Front s t y
+  unfolding file
+  file-front s t y hs ht p =
+      let e : line (head f .enc (s .last)) ++ (entryLines f (s .entries) ++ y) ≡ line (head f .enc (t .last)) ++ entryLines f (t .entries) =
+      rw (head-is f (s .last), head-is f (t .last)) (sym (append-assoc (line (headLine f (s .last))) (entryLines f (s .entries)) y) ∙ p) in
+      let q = same-line (head f) (head-laws f) (head-spelt f) (s .last) (t .last) (entryLines f (s .entries) ++ y) (entryLines f (t .entries))
+      (head-good f (s .last) (omega (arith, hs .last))) (head-good f (t .last) (omega (arith, ht .last))) e in
+      let r = same-front (s .entries) (t .entries) y (table-good f s hs) (table-good f t ht) (q .1) in
+      record { entries = r .0; all = r .1; last = sym (q .0); behind = r .2 }
+
+  no-lines : (es : List Entry) → [] ≡ entryLines f es → es ≡ []
+  unfolding entryLines
+  no-lines [] p = refl
+  no-lines (e ∷ es) p = absurd (some-line e (entryLines f es) (sym p))
 
   pub one-table : (bytes : List ℕ) (s t : State) → Stores f bytes s → Stores f bytes t → s ≡ t
-  unfolding file
   one-table bytes s t x y =
-      let e : line (head f .enc (s .last)) ++ entryLines f (s .entries) ≡ line (head f .enc (t .last)) ++ entryLines f (t .entries) =
-      rw (head-is f (s .last), head-is f (t .last)) (sym (x .same) ∙ y .same) in
-      let q = same-line (head f) (head-laws f) (head-spelt f) (s .last) (t .last) (entryLines f (s .entries)) (entryLines f (t .entries))
-      (head-good f (s .last) (omega (arith, x .table .last))) (head-good f (t .last) (omega (arith, y .table .last))) e in
-      let n : s .entries ≡ t .entries = same-entries (s .entries) (t .entries) (table-good f s (x .table)) (table-good f t (y .table)) (q .1) in
-      ap {B = State} (λ (m : ℕ). record { entries = s .entries; last = m }) (q .0) ∙ ap {B = State} (λ (es : List Entry). record { entries = es; last = t .last }) n
+      let r = file-front s t [] (x .table) (y .table) (append-nil (file f s) ∙ sym (x .same) ∙ y .same) in
+      let n : t .entries ≡ s .entries = r .all ∙ rw (no-lines (r .entries) (r .behind), append-nil) in
+      ap {B = State} (λ (m : ℕ). record { entries = s .entries; last = m }) (sym (r .last)) ∙ ap {B = State} (λ (es : List Entry). record { entries = es; last = t .last }) (sym n)
 
   -- what `store` writes of a sound table can be loaded
   pub stores-own : (t : List ℕ) → Sound t → Stores f (file f (stateOf t)) (stateOf t)

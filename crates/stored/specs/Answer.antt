@@ -1,20 +1,22 @@
 -- What the functions of a stored file answer, and what they leave of the memory that they were lent.
 use mathlib.Core.Path.{_≡_}
-use mathlib.Core.List.{List, [], _++_}
+use mathlib.Core.List.{List, [], _∷_, _++_}
 use mathlib.Core.Bool.{Bool, true, false, cond}
 use mathlib.Core.Option.{Option, none, some}
-use Prim.Native.Nat.{ℕ, zero, suc, _+_}
-use lib.ListN.{length, drop, getD}
+use Prim.Native.Nat.{ℕ, zero, suc, _+_, _≤_}
+use lib.ListN.{length, take, drop, getD}
 use lib.Seq.{sets}
 use lib.Dec.{eqb, leb, ltb}
+use Rattle.bytes.specs.Bytes.{indexOf}
 use Rattle.wire.specs.Codec.{Read, whole, more, refused, Codec, byte, guard, seq, as-type, all}
 use Rattle.wire.specs.Field.{bigEndian}
 use Rattle.wire.specs.Write.{Sent, written, kept}
 use Rattle.map.specs.State.{Entry, State}
 use Rattle.table.specs.Memory.{size, entry, stateOf, Sound}
-use Rattle.table.specs.Change.{started, restored}
+use Rattle.table.specs.Change.{Changed, started, restored}
 use Rattle.hex.specs.Hex.{fromHex}
 use Rattle.stored.specs.File.{Form, formByte, entryLine, headLine, line, file, Stores}
+use Rattle.stored.specs.declared.Loading.{Loading}
 
 -- line i of a stored file with its line end: the first line, then those of the entries; behind the last there is none
 unfoldable pub lineAt : Form → State → ℕ → List ℕ
@@ -67,17 +69,39 @@ headLoaded f s t = startWith t (readLine (head f) s)
 unfoldable pub lineLoaded : Form → List ℕ → List ℕ → Option State
 lineLoaded f s t = restoreTo t (readLine (entryLine f) s)
 
--- a table built of a file, in memory of the right length: it can be built of each file that stores a table, and of no other
-pub record Built (f : Form) (bytes old : List ℕ) (r : Bool) (new : List ℕ) : Type 0 where
-  pub good : r ≡ true → Sound new × Stores f bytes (stateOf new)
-  pub every : (st : State) → Stores f bytes st → length old ≡ size → r ≡ true
-  pub long : length new ≡ length old
+-- the table that a line leaves: the first line of a file where none is loaded yet, else an entry's line
+abbrev pub loaded : Form → Bool → List ℕ → List ℕ → Option State
+loaded f false l t = headLoaded f l t
+loaded f true l t = lineLoaded f l t
+
+-- no line end stands in the bytes
+abbrev pub NoEnd : List ℕ → Type 0
+NoEnd s = indexOf 0x0a s ≡ length s
+
+-- Bytes that are whole lines, each with its line end, loaded one after the other. The flags: the first line of the file is loaded before them,
+-- and after them. The lists behind the bytes: the memory before, and after.
+pub data Loads (f : Form) : Bool → List ℕ → List ℕ → Bool → List ℕ → Type 0 where
+  no-line : {b : Bool} {t : List ℕ} → Loads f b [] t b t
+  a-line : {b c : Bool} {s t u v : List ℕ} {st : State} (l : List ℕ) → NoEnd l → loaded f b l t ≡ some st → Changed t u st → Loads f true s u c v
+      → Loads f b (l ++ (0x0a ∷ s)) t c v
+
+-- Why loading ends before these bytes. Good: no line end stands in them. Not good: their first line can't be loaded into the memory.
+abbrev pub Ends : Form → Bool → List ℕ → List ℕ → Bool → Type 0
+Ends f b s t true = NoEnd s
+Ends f b s t false = (l y : List ℕ) × (s ≡ l ++ (0x0a ∷ y)) × NoEnd l × (loaded f b l t ≡ none)
+
+-- the whole lines of a piece are loaded, up to the first that is not good
+pub record LoadsLines (f : Form) (begun : Bool) (piece t : List ℕ) (r : Loading) (t′ : List ℕ) : Type 0 where
+  pub within : r .taken ≤ length piece
+  pub loads : Loads f begun (take (r .taken) piece) t (r .begun) t′
+  pub ends : Ends f (r .begun) (drop (r .taken) piece) t′ (r .good)
 
 -- "loading only 17": it is refused unless the file stores a table and both memories have the right length. "Else 17 and the old table stays":
--- the table is built in spare memory, of which only its length is known after a refusal.
+-- the table is built in spare memory, which has what loading the lines of the file leaves, or its own bytes where t has another length.
 pub record Loaded (f : Form) (bytes spare t : List ℕ) (r : Bool) (spare′ t′ : List ℕ) : Type 0 where
   pub good : r ≡ true → Sound t′ × Stores f bytes (stateOf t′) × (spare′ ≡ t′)
   pub every : (st : State) → Stores f bytes st → length spare ≡ size → length t ≡ size → r ≡ true
   pub bad : r ≡ false → t′ ≡ t
   pub long : length t′ ≡ length t
-  pub longSpare : length spare′ ≡ length spare
+  pub used : length t ≡ size → (p : Loading) × LoadsLines f false bytes spare p spare′
+  pub unused : (length t ≡ size → ⊥) → spare′ ≡ spare

@@ -12,7 +12,7 @@ ghost use Rattle.message.specs.Answer.{asSent};
 ghost use Rattle.table.specs.Memory.{stateOf};
 ghost use Rattle.table.specs.Change.{Left, isSome};
 ghost use Rattle.stored.specs.File.{form1, file};
-ghost use Rattle.stored.specs.Answer.{lineAt, laid, Storing, headLoaded, lineLoaded, Built, Loaded};
+ghost use Rattle.stored.specs.Answer.{lineAt, laid, Storing, headLoaded, lineLoaded, loaded, LoadsLines, Loaded};
 
 // What a line is made of.
 pub struct Line {}
@@ -24,6 +24,14 @@ impl Line {
 
     // The characters of the first line, with its line end.
     pub const HEAD: usize = 19;
+}
+
+// What loading the lines of a piece of a stored file answers: the bytes taken, whether the first line has been loaded, and whether each whole
+// line was good.
+pub struct Loading {
+    pub taken: usize,
+    pub begun: bool,
+    pub good: bool,
 }
 
 // Writes line i of the stored file at a place, with its line end, and answers the place behind it: the first line, or that of row i - 1.
@@ -107,29 +115,42 @@ pub fn load_line(line: &[u8], t: &mut [u8]) -> bool
     lines::restore(&room[0..n], t)
 }
 
-// Builds the table of a stored file in t.
-fn build(file: &[u8], t: &mut [u8]) -> bool
-    ensures { λ r. ⌜ Built form1 (now (file .entry)) (now (t .entry)) r (now (t .exit)) ⌝ }
+// Loads a line, without its line end: the first line of a file where none is loaded yet, else an entry's line.
+fn load_next(line: &[u8], t: &mut [u8], begun: bool) -> bool
+    ensures { λ r. ⌜ (r ≡ isSome (loaded form1 begun (now (line .entry)) (now (t .entry)))) × Left (now (t .entry)) (loaded form1 begun (now (line .entry)) (now (t .entry))) (now (t .exit)) ⌝ }
 {
-    let end = bytes::scan::find(file, 0, file.len(), Line::END);
-    if end == file.len() {
-        return false;
+    if begun {
+        return load_line(line, t);
     }
-    if !load_head(&file[0..end], t) {
-        return false;
-    }
-    let mut at = end + 1;
-    while at < file.len() {
-        let next = bytes::scan::find(file, at, file.len(), Line::END);
-        if next == file.len() {
-            return false;
+    load_head(line, t)
+}
+
+// Loads the whole lines of a piece of a stored file into the table in t, up to the first that is not good. begun: the first line of the file
+// has been loaded.
+pub fn load_lines(piece: &[u8], t: &mut [u8], begun: bool) -> Loading
+    ensures { λ r. ⌜ LoadsLines form1 begun (now (piece .entry)) (now (t .entry)) r (now (t .exit)) ⌝ }
+{
+    let mut at = 0;
+    let mut headed = begun;
+    loop {
+        let next = bytes::scan::find(piece, at, piece.len(), Line::END);
+        if next == piece.len() {
+            return Loading {
+                taken: at,
+                begun: headed,
+                good: true,
+            };
         }
-        if !load_line(&file[at..next], t) {
-            return false;
+        if !load_next(&piece[at..next], t, headed) {
+            return Loading {
+                taken: at,
+                begun: headed,
+                good: false,
+            };
         }
+        headed = true;
         at = next + 1;
     }
-    true
 }
 
 // Loads a stored file: the table is built in spare memory, and takes the place of t only when the last line is good.
@@ -139,7 +160,8 @@ pub fn load(file: &[u8], spare: &mut [u8], t: &mut [u8]) -> bool
     if t.len() != Table::SIZE {
         return false;
     }
-    if !build(file, spare) {
+    let p = load_lines(file, spare, false);
+    if !p.good || !p.begun || p.taken != file.len() {
         return false;
     }
     bytes::copy(spare, t);

@@ -1,36 +1,40 @@
 -- `stored::load` meets its contract. Assumes nothing.
-use mathlib.Core.Path.{_≡_, refl}
+use mathlib.Core.Path.{_≡_, refl, sym, _∙_}
+use mathlib.Core.Logic.{⊎-elim}
 use native.Mathlib.Omega.{arith}
-use borrow.Author.Tests.{not-true, not-false}
+use borrow.Author.Tests.{not-true, not-false, eqb-true, eqb-false}
 use mathlib.Core.Bool.{true, false}
 use Rattle.wire.proofs.Laws.{never}
-use Rattle.stored.proofs.BuildLaws.{loaded-no, loaded-yes}
+use Rattle.stored.proofs.WholeLaws.{loaded-no, loaded-yes, whole-stores}
 use borrow.Author.Needs.{needs}
 use Rattle.stored.proofs.load.Statement.{statement}
 use Rattle.stored.proofs.load.Tie as tie
 
 returns : tie.Need-returns
-returns c = let s = c .before .before .before .before .args in
-    loaded-no (s .file .now) (s .spare .now) (s .t .now) _ refl (λ st q p l. c .if1 .taken l)
+returns c =
+    record { good = λ e. never (cc); every = λ st q p l. absurd (c .if1 .taken l); bad = λ _. refl; long = refl; used = λ l. absurd (c .if1 .taken l); unused = λ _. refl }
 
-build-requires : tie.Need-build-requires
-build-requires c κs = search needs
+load-lines-requires : tie.Need-load-lines-requires
+load-lines-requires c κs = search needs
 
 same-length : tie.Need-same-length
 same-length c = search needs
 
 returns-2 : tie.Need-returns-2
-returns-2 c = let b = c .before .before .before in
-    let s = b .before .before .before .before .before .before .args in
-    loaded-no (s .file .now) (s .spare .now) (s .t .now) _ (b .build .ensures .long)
-    (λ st q p l. let e : b .build .result ≡ true = b .build .ensures .every st q p in
-    let f : b .build .result ≡ false = not-true _ (c .if2 .taken) in
-    never (cc))
+returns-2 c =
+    let p = c .before .before .before .before in
+    loaded-no _ (p .before .before .if1 .left) (p .load-lines .ensures)
+    (λ g b n.
+    ⊎-elim (λ x. let z = sym g ∙ not-true _ (x .taken) in never (cc))
+    (⊎-elim (λ x. let z = sym b ∙ not-true _ (x .2 .taken) in never (cc)) (λ x. eqb-false _ _ (not-true _ (x .4 .taken)) n))
+    (c .if2 .came))
 
 copy-requires : tie.Need-copy-requires
-copy-requires c κs = let b = c .before .before .before .before .before in
-    let g = b .build .ensures .good (not-false _ (c .before .before .if2 .left)) in
-    omega (arith, g .0 .form .long)
+copy-requires c κs =
+    let e = c .before .before in
+    let p = e .before .before .before .before .before .before .before .before in
+    let x = whole-stores (p .load-lines .ensures) (not-false _ (e .before .before .if3 .left)) (eqb-true _ _ (not-false _ (e .if4 .left))) in
+    omega (arith, x .0 .form .long)
 
 same-length-2 : tie.Need-same-length-2
 same-length-2 c = search needs
@@ -39,17 +43,19 @@ same-length-3 : tie.Need-same-length-3
 same-length-3 c = search needs
 
 returns-3 : tie.Need-returns-3
-returns-3 c = let k = c .before .before in
-    let b = k .before .before .before .before .before .before in
-    let s = b .before .before .before .before .before .before .args in
-    loaded-yes (s .file .now) (s .spare .now) (s .t .now) _ _ (b .before .before .if1 .left) (b .build .ensures .good (not-false _ (k .before .before .before .if2 .left))) (b .build .ensures .long) (k .copy .ensures .1)
+returns-3 c =
+    let k = c .before .before in
+    let e = k .before .before .before in
+    let p = e .before .before .before .before .before .before .before .before in
+    loaded-yes _ (p .before .before .if1 .left) (p .load-lines .ensures) _
+    (not-false _ (e .before .before .if3 .left)) (eqb-true _ _ (not-false _ (e .if4 .left))) (k .copy .ensures .1)
 
 pub load-spec : {M : Type 1} → statement M
 load-spec =
     tie.close
     (tie.spec
     returns
-    build-requires
+    load-lines-requires
     same-length
     returns-2
     copy-requires

@@ -1,0 +1,235 @@
+-- Whole lines loaded one after the other: how they are cut off a piece, that the cuts do not matter, that a file of them stores the table that
+-- they leave, and that of a file that stores a table all lines are loaded. Assumes nothing.
+use mathlib.Core.Path.{_≡_, refl, sym, ap, _∙_, subst}
+use mathlib.Core.List.{List, [], _∷_, _++_, append-assoc, append-nil}
+use mathlib.Core.Bool.{Bool, true, false}
+use mathlib.Core.Option.{Option, none, some}
+use Prim.Native.Nat.{ℕ, suc, _+_, _-_, _≤_, _<_}
+use native.Mathlib.Omega.{arith}
+use lib.ListN.{length, take, drop, length-append, length-drop, take-append-drop, drop-of-length-le}
+use lib.Seq.{take-length, take-add, drop-drop}
+use lib.Dec.{eqb}
+use borrow.Author.Tests.{eqb-true}
+use Rattle.bytes.specs.Bytes.{slice, indexOf, indexAfter}
+use Rattle.wire.specs.Codec.{Valid, Bytes}
+use Rattle.wire.proofs.Laws.{never, bytes-are}
+use Rattle.wire.proofs.FieldLaws.{limited-valid}
+use Rattle.message.specs.Request.{keyLimit, valueLimit}
+use Rattle.map.specs.State.{Entry, State}
+use Rattle.map.specs.Table.{Each, IsTable}
+use Rattle.hex.specs.Hex.{toHex}
+use Rattle.table.specs.Memory.{size, entry, stateOf, Sound}
+use Rattle.table.specs.Change.{Changed, Left, isSome, started, restored}
+use Rattle.table.specs.Write.{extended}
+use Rattle.table.proofs.Restores.{started-is, started-says, restored-says, restored-sound, each-restored, each-mid}
+use Rattle.table.proofs.HasForm.{started-sound}
+use Rattle.stored.specs.File.{Form, form1, entryLine, headLine, line, entryLines, file, Stores}
+use Rattle.stored.specs.Answer.{head, readLine, startWith, restoreTo, headLoaded, lineLoaded, loaded, NoEnd, Loads, no-line, a-line, Ends, LoadsLines, Loaded}
+use Rattle.stored.specs.declared.Loading.{Loading}
+use Rattle.stored.proofs.LineLaws.{entry-laws, entry-spelt, table-good, head-laws, head-spelt, head-good, head-is, line-read, line-back, no-end, first-end, ends-split, line-cons}
+use Rattle.stored.proofs.StoreLaws.{parts}
+use Rattle.stored.proofs.FileLaws.{lines-append}
+use Rattle.stored.proofs.OneTable.{file-front}
+
+-- a list up to its first line end
+to-end : (xs : List ℕ) → indexOf 0x0a xs < length xs
+    → (take (indexOf 0x0a xs + 1) xs ≡ take (indexOf 0x0a xs) xs ++ (0x0a ∷ [])) × NoEnd (take (indexOf 0x0a xs) xs)
+unfolding indexOf indexAfter
+to-end [] h = absurd (omega arith)
+to-end (x ∷ xs) h = go (eqb x 0x0a) refl (to-end xs) h
+  where
+    go : (b : Bool) → eqb x 0x0a ≡ b
+        → (indexOf 0x0a xs < length xs → (take (indexOf 0x0a xs + 1) xs ≡ take (indexOf 0x0a xs) xs ++ (0x0a ∷ [])) × NoEnd (take (indexOf 0x0a xs) xs))
+        → indexAfter b (indexOf 0x0a xs) < suc (length xs)
+        → (take (indexAfter b (indexOf 0x0a xs) + 1) (x ∷ xs) ≡ take (indexAfter b (indexOf 0x0a xs)) (x ∷ xs) ++ (0x0a ∷ []))
+        × NoEnd (take (indexAfter b (indexOf 0x0a xs)) (x ∷ xs))
+    go true e f l = (ap (λ (y : ℕ). y ∷ []) (eqb-true x 0x0a e), refl)
+    go false e f l =
+        let s : suc (indexOf 0x0a xs) + 1 ≡ suc (indexOf 0x0a xs + 1) = omega arith in
+        let i = f (omega arith) in
+        (rw s (ap (λ (ys : List ℕ). x ∷ ys) (i .0)), rw e (ap suc (i .1)))
+
+-- what a loader left
+left-none : {t u : List ℕ} (o : Option State) → isSome o ≡ false → Left t o u → (o ≡ none) × (t ≡ u)
+left-none none e l = (refl, sym l)
+left-none (some st) e l = never (cc)
+
+left-some : {t u : List ℕ} (o : Option State) → isSome o ≡ true → Left t o u → (st : State) × (o ≡ some st) × Changed t u st
+left-some none e l = never (cc)
+left-some (some st) e l = (st, refl, l)
+
+-- lines behind lines: the cuts do not matter
+pub loads-both : {f : Form} {b c d : Bool} {x y t u v : List ℕ} → Loads f b x t c u → Loads f c y u d v → Loads f b (x ++ y) t d v
+loads-both no-line q = q
+loads-both {y = y} (a-line {s = s} l o e c r) q = rw append-assoc (a-line l o e c (loads-both r q))
+
+pub loads-long : {f : Form} {b c : Bool} {s t u : List ℕ} → Loads f b s t c u → length u ≡ length t
+loads-long no-line = refl
+loads-long (a-line l o e c r) = loads-long r ∙ c .long
+
+-- the line end that was found from `at` on, or the end of the list
+module _ (s : List ℕ) (at r : ℕ) (found : r ≡ at + indexOf 0x0a (slice at (length s) s)) where
+  abbrev next : List ℕ
+  next = take (r - at) (drop at s)
+
+  index : r ≡ at + indexOf 0x0a (drop at s)
+  unfolding slice
+  index = found ∙ ap (λ (xs : List ℕ). at + indexOf 0x0a (drop at xs)) (take-length s)
+
+  pub none-left : at ≤ length s → r ≡ length s → NoEnd (drop at s)
+  none-left h e = omega (arith, index, length-drop at s)
+
+  next-line : r < length s → (take (r + 1) s ≡ take at s ++ (next ++ (0x0a ∷ []))) × NoEnd next × (drop at s ≡ next ++ (0x0a ∷ drop (r + 1) s))
+  next-line h =
+      let i : r - at ≡ indexOf 0x0a (drop at s) = omega (arith, index) in
+      let e : r + 1 ≡ at + (indexOf 0x0a (drop at s) + 1) = omega (arith, index) in
+      let x = to-end (drop at s) (omega (arith, index, length-drop at s)) in (
+        rw (e, i, take-add) (ap (λ (xs : List ℕ). take at s ++ xs) (x .0)),
+        rw i (x .1),
+        rw (i, e, ← drop-drop) (sym (take-append-drop (indexOf 0x0a (drop at s) + 1) (drop at s)) ∙ rw (x .0, append-assoc)),
+      )
+
+  module _ {f : Form} {b c : Bool} {t₀ t u : List ℕ} (h : r < length s) (g : Loads f b (take at s) t₀ c t) where
+    pub bad-next : isSome (loaded f c next t) ≡ false → Left t (loaded f c next t) u → Loads f b (take at s) t₀ c u × Ends f c (drop at s) u false
+    bad-next e l =
+        let x = left-none (loaded f c next t) e l in
+        let y = next-line h in
+        rw (← (x .1)) (g, (next, drop (r + 1) s, y .2, y .1, x .0))
+
+    pub good-next : isSome (loaded f c next t) ≡ true → Left t (loaded f c next t) u → Loads f b (take (r + 1) s) t₀ true u
+    good-next e l =
+        let x = left-some (loaded f c next t) e l in
+        let y = next-line h in
+        rw (y .0) (loads-both g (a-line next (y .1) (x .1) (x .2) no-line))
+
+-- a first line that is loaded is the file of the table that it leaves
+head-sound : (l t u : List ℕ) (st : State) → headLoaded form1 l t ≡ some st → Changed t u st → Sound u × (file form1 (stateOf u) ≡ l ++ (0x0a ∷ []))
+unfolding headLoaded file entryLines line
+head-sound l t u st e c = go (readLine (head form1) l) refl e
+  where
+    go : (o : Option ℕ) → readLine (head form1) l ≡ o → startWith t o ≡ some st → Sound u × (file form1 (stateOf u) ≡ l ++ (0x0a ∷ []))
+    go none p q = never (cc)
+    go (some n) p q =
+        let s = started-says n t st q in
+        let d = started-sound n t u (s .0) (s .1) (rw q c) in
+        let x = line-read (head form1) (head-laws form1) l n p in
+        (d .0, ap (file form1) (d .1) ∙ append-nil (line (headLine form1 n)) ∙ ap (λ (y : List ℕ). y ++ (0x0a ∷ [])) (sym (x .same ∙ ap toHex (head-is form1 n))))
+
+-- an entry's line that is loaded is behind the file of the table before it
+line-sound : (l t u : List ℕ) (st : State) → Sound t → lineLoaded form1 l t ≡ some st → Changed t u st
+    → Sound u × (file form1 (stateOf u) ≡ file form1 (stateOf t) ++ (l ++ (0x0a ∷ [])))
+unfolding lineLoaded file entryLines entry line
+line-sound l t u st h e c = go (readLine (entryLine form1) l) refl e
+  where
+    go : (o : Option Entry) → readLine (entryLine form1) l ≡ o → restoreTo t o ≡ some st
+        → Sound u × (file form1 (stateOf u) ≡ file form1 (stateOf t) ++ (l ++ (0x0a ∷ [])))
+    go none p q = never (cc)
+    go (some x) p q =
+        let y = line-read (entryLine form1) (entry-laws form1) l x p in
+        let k = parts x (y .good) .1 .1 in
+        let d = restored-sound (x .key) (x .value) (x .version) (x .deadline) t u st h
+        (bytes-are _ (limited-valid keyLimit (x .key) (k .0) .1)) (bytes-are _ (limited-valid valueLimit (x .value) (k .1) .1)) q (rw q c) in
+        let r = restored-says (x .key) (x .value) (x .version) (x .deadline) t st q in
+        (d .0, ap (file form1) (d .1 ∙ r .same) ∙ rw (lines-append, append-nil, y .same) (sym (append-assoc (line (headLine form1 (stateOf t .last))) (entryLines form1 (stateOf t .entries)) (line (entryLine form1 .enc x)))))
+
+-- lines behind a file
+pub loads-true : {f : Form} {c : Bool} {s t u : List ℕ} → Loads f true s t c u → c ≡ true
+loads-true no-line = refl
+loads-true (a-line l o e c r) = loads-true r
+
+loads-sound : {c : Bool} {s t u : List ℕ} → Loads form1 true s t c u → Sound t → Sound u × (file form1 (stateOf u) ≡ file form1 (stateOf t) ++ s)
+loads-sound {t = t} no-line h = (h, sym (append-nil (file form1 (stateOf t))))
+loads-sound {t = t} (a-line {u = u} {st = st} l o e c r) h =
+    let a = line-sound l t u st h e c in
+    let d = loads-sound r (a .0) in
+    (d .0, d .1 ∙ rw (a .1, append-assoc, append-assoc))
+
+-- a file of lines that are all loaded stores the table that they leave
+pub loads-stores : {c : Bool} {s t u : List ℕ} → Loads form1 false s t c u → c ≡ true → Sound u × Stores form1 s (stateOf u)
+loads-stores no-line p = never (cc)
+loads-stores {t = t} (a-line {u = u} {st = st} l o e c r) p =
+    let a = head-sound l t u st e c in
+    let d = loads-sound r (a .0) in
+    (d .0, record { table = d .0 .table; order = d .0 .form .order; same = sym (d .1 ∙ rw (a .1, append-assoc)) })
+
+-- a line that can be loaded does not end the loading
+stuck : (b : Bool) (bs z u : List ℕ) (g : Bool) → isSome (loaded form1 b (toHex bs) u) ≡ true → Ends form1 b (line bs ++ z) u g → ⊥
+stuck b bs z u true h e =
+    let n : NoEnd (toHex bs ++ (0x0a ∷ z)) = rw line-cons at e in
+    omega (arith, first-end (toHex bs) z (no-end bs), length-append (toHex bs) (0x0a ∷ z))
+stuck b bs z u false h e =
+    let p = ends-split (toHex bs) (e .0) z (e .1) (no-end bs) (e .3) (sym (line-cons bs z) ∙ e .2) in
+    let n : isSome (loaded form1 b (toHex bs) u) ≡ false = rw (p .0) (ap isSome (e .4)) in
+    never (cc)
+
+-- of a file that stores a table all lines are loaded, into memory of the right length
+head-loads : (st : State) (t : List ℕ) → IsTable st → length t ≡ size → isSome (headLoaded form1 (toHex (headLine form1 (st .last))) t) ≡ true
+unfolding headLoaded
+head-loads st t h l =
+    rw (← head-is form1 (st .last), line-back (head form1) (head-laws form1) (head-spelt form1) (st .last) (head-good form1 (st .last) (omega (arith, h .last))))
+    (ap isSome (started-is (st .last) t l (h .last)))
+
+line-loads : (bytes : List ℕ) (st : State) (u : List ℕ) (e : Entry) (es : List Entry) → Stores form1 bytes st → length u ≡ size → st .entries ≡ stateOf u .entries ++ (e ∷ es)
+    → st .last ≡ stateOf u .last → isSome (lineLoaded form1 (toHex (entryLine form1 .enc e)) u) ≡ true
+unfolding lineLoaded
+line-loads bytes st u e es q h p l =
+    let v : Valid (entryLine form1) e =
+    each-mid (λ e. Valid (entryLine form1) e) (stateOf u .entries) e es (subst (Each (λ e. Valid (entryLine form1) e)) p (table-good form1 st (q .table))) in
+    rw (line-back (entryLine form1) (entry-laws form1) (entry-spelt form1) e v) (ap isSome (each-restored st e es u (q .table) (q .order) h p l))
+
+rest-loads : (bytes : List ℕ) (st : State) (u y : List ℕ) (g : Bool) (es : List Entry) → Stores form1 bytes st → length u ≡ size → st .entries ≡ stateOf u .entries ++ es
+    → st .last ≡ stateOf u .last → y ≡ entryLines form1 es → Ends form1 true y u g → (g ≡ true) × (y ≡ [])
+unfolding entryLines
+rest-loads bytes st u y true [] q h p l e n = (refl, e)
+rest-loads bytes st u y false [] q h p l e n = absurd (omega (arith, ap length e, ap length (n .2), length-append (n .0) (0x0a ∷ n .1)))
+rest-loads bytes st u y g (x ∷ es) q h p l e n =
+    absurd (stuck true (entryLine form1 .enc x) (entryLines form1 es) u g (line-loads bytes st u x es q h p l) (rw e at n))
+
+pub all-loaded : {c : Bool} {x t u : List ℕ} (g : Bool) (y : List ℕ) (st : State) → Loads form1 false x t c u → Ends form1 c y u g → Stores form1 (x ++ y) st → length t ≡ size
+    → (c ≡ true) × (g ≡ true) × (y ≡ [])
+unfolding file
+all-loaded {t = t} g y st no-line n q h =
+    absurd (stuck false (headLine form1 (st .last)) (entryLines form1 (st .entries)) t g (head-loads st t (q .table) h) (rw (q .same) at n))
+all-loaded {u = u} g y st (a-line l o e c r) n q h =
+    let i = loads-true r in
+    let w = loads-stores (a-line l o e c r) i in
+    let p = file-front form1 (stateOf u) st y (w .0 .table) (q .table) (ap (λ (z : List ℕ). z ++ y) (sym (w .1 .same)) ∙ q .same) in
+    let z = rest-loads _ st u y g (p .entries) q (w .0 .form .long) (p .all) (p .last) (p .behind) (rw i at n) in
+    (i, z .0, z .1)
+
+-- the lines of a whole file
+pub whole-stores : {B t u : List ℕ} {p : Loading} → LoadsLines form1 false B t p u → p .begun ≡ true → p .taken ≡ length B → Sound u × Stores form1 B (stateOf u)
+whole-stores g b n = let x = loads-stores (g .loads) b in (x .0, rw (n, take-length) at (x .1))
+
+pub whole-loaded : {B t u : List ℕ} {p : Loading} (st : State) → LoadsLines form1 false B t p u → Stores form1 B st → length t ≡ size
+    → (p .begun ≡ true) × (p .good ≡ true) × (p .taken ≡ length B)
+whole-loaded {B = B} {p = p} st g s l =
+    let a = all-loaded (p .good) _ st (g .loads) (g .ends) (subst (λ (b : List ℕ). Stores form1 b st) (sym (take-append-drop (p .taken) B)) s) l in
+    (a .0, a .1, omega (arith, ap length (a .2), length-drop (p .taken) B, g .within))
+
+-- what `load` answers
+module _ {B spare spare′ : List ℕ} {p : Loading} (t : List ℕ) (h : length t ≡ size) (g : LoadsLines form1 false B spare p spare′) where
+  pub loaded-no : (p .good ≡ true → p .begun ≡ true → p .taken ≡ length B → ⊥) → Loaded form1 B spare t false spare′ t
+  loaded-no n =
+      record {
+        good = λ e. never (cc);
+        every = λ st s l _. let a = whole-loaded st g s l in absurd (n (a .1) (a .0) (a .2));
+        bad = λ _. refl;
+        long = refl;
+        used = λ _. (p, g);
+        unused = λ n. absurd (n h);
+      }
+
+  pub loaded-yes : (t′ : List ℕ) → p .begun ≡ true → p .taken ≡ length B → t′ ≡ take (length spare′) spare′ ++ drop (length spare′) t → Loaded form1 B spare t true spare′ t′
+  loaded-yes t′ b n e =
+      let x = whole-stores g b n in
+      let d : drop (length spare′) t ≡ [] = drop-of-length-le t {i = length spare′} (omega (arith, x .0 .form .long)) in
+      let q : t′ ≡ spare′ = e ∙ rw (take-length, d, append-nil) in
+      record {
+        good = λ _. rw q (x .0, x .1, refl);
+        every = λ st s l m. refl;
+        bad = λ e. never (cc);
+        long = ap length q ∙ x .0 .form .long ∙ sym h;
+        used = λ _. (p, g);
+        unused = λ n. absurd (n h);
+      }

@@ -3,7 +3,6 @@ use crate::memory;
 use crate::say;
 use crate::window;
 use crate::window::Window;
-use crate::window::least;
 use crate::window::part;
 use field::put;
 ghost use lib.ListN.{length};
@@ -26,42 +25,22 @@ fn course_of(window: Window, begun: bool, on: bool, good: bool) -> Course {
     }
 }
 
-// Where no line is whole: reads on. At the end of the file the first line has to be there, and nothing to be left.
-fn read_on(fd: i32, name: &[u8], input: &mut [u8], w: Window, begun: bool) -> Course {
-    if w.ended {
-        let good = begun && w.from == w.held;
-        if !good {
-            say::broken(name);
-        }
-        return course_of(w, begun, false, good);
-    }
-    let next = window::fill(fd, input, w);
-    if next.failed {
-        say::no_table(name);
-        return course_of(next, begun, false, false);
-    }
-    course_of(next, begun, true, true)
-}
-
-// Loads the lines in the window.
+// Loads the lines in the window, and goes on in the file. At its end the first line has to be there, and nothing to be left.
 fn turn(fd: i32, name: &[u8], input: &mut [u8], t: &mut [u8], c: Course) -> Course {
     let w = c.window;
-    let held = least(w.held, input.len());
-    let from = least(w.from, held);
-    let p = stored::load_lines(part(input, from, held), t, c.begun);
-    if !p.good {
+    let p = stored::load_lines(window::bytes(input, w), t, c.begun);
+    if p.taken == 0 && w.ended && p.begun && w.from == w.held {
+        return course_of(w, true, false, true);
+    }
+    if !p.good || p.taken == 0 && w.ended {
         say::broken(name);
         return course_of(w, p.begun, false, false);
     }
-    if p.taken == 0 {
-        return read_on(fd, name, input, w, p.begun);
+    let next = window::go_on(fd, input, w, p.taken);
+    if next.failed {
+        say::no_table(name);
+        return course_of(next, p.begun, false, false);
     }
-    let next = Window {
-        from: from + least(p.taken, held - from),
-        held: held,
-        ended: w.ended,
-        failed: false,
-    };
     course_of(next, p.begun, true, true)
 }
 

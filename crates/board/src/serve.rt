@@ -2,8 +2,6 @@
 use crate::say;
 use crate::window;
 use crate::window::Window;
-use crate::window::least;
-use crate::window::part;
 use libc::STDOUT_FILENO;
 
 // How far the file is served: the window on it, whether the rest of a line is to be passed over, whether to go on, and whether all went well.
@@ -23,38 +21,22 @@ fn course_of(window: Window, passing: bool, on: bool, good: bool) -> Course {
     }
 }
 
-// Where no line is whole: reads on, or ends with the file.
-fn read_on(fd: i32, name: &[u8], input: &mut [u8], w: Window, passing: bool) -> Course {
-    if w.ended {
-        return course_of(w, passing, false, true);
-    }
-    let next = window::fill(fd, input, w);
-    if next.failed {
-        say::unread(name);
-        return course_of(next, passing, false, false);
-    }
-    course_of(next, passing, true, true)
-}
-
-// Serves the lines in the window and writes what they give.
+// Serves the lines in the window, writes what they give, and goes on in the file.
 fn turn(fd: i32, name: &[u8], input: &mut [u8], t: &mut [u8], out: &mut [u8], c: Course) -> Course {
     let w = c.window;
-    let held = least(w.held, input.len());
-    let from = least(w.from, held);
-    let r = server::serve_lines(part(input, from, held), t, out, c.passing, w.ended);
-    if !io::write_all(STDOUT_FILENO, part(out, 0, r.size)) {
+    let r = server::serve_lines(window::bytes(input, w), t, out, c.passing, w.ended);
+    if !io::write_all(STDOUT_FILENO, window::part(out, 0, r.size)) {
         say::unwritten();
-        return course_of(w, c.passing, false, false);
+        return course_of(w, r.passing, false, false);
     }
-    if r.taken == 0 {
-        return read_on(fd, name, input, w, r.passing);
+    if r.taken == 0 && w.ended {
+        return course_of(w, r.passing, false, true);
     }
-    let next = Window {
-        from: from + least(r.taken, held - from),
-        held: held,
-        ended: w.ended,
-        failed: false,
-    };
+    let next = window::go_on(fd, input, w, r.taken);
+    if next.failed {
+        say::unread(name);
+        return course_of(next, r.passing, false, false);
+    }
     course_of(next, r.passing, true, true)
 }
 

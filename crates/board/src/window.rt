@@ -10,18 +10,20 @@ pub(crate) struct Window {
     pub failed: bool,
 }
 
-// The lesser of two numbers.
-pub(crate) fn least(a: usize, b: usize) -> usize
-    ensures { λ r. ⌜ r ≤ a ⌝ }
-    ensures { λ r. ⌜ r ≤ b ⌝ }
-{
-    if a < b { a } else { b }
+// An empty window on a file that is not yet read.
+pub(crate) fn start() -> Window {
+    Window {
+        from: 0,
+        held: 0,
+        ended: false,
+        failed: false,
+    }
 }
 
 // The bytes from `from` up to, not including, `to`, as far as they are there.
 pub(crate) fn part(s: &[u8], from: usize, to: usize) -> &[u8] {
     if to < from {
-        return field::part(s, Span { start: 0, len: 0 });
+        return &s[0..0];
     }
     field::part(
         s,
@@ -32,14 +34,17 @@ pub(crate) fn part(s: &[u8], from: usize, to: usize) -> &[u8] {
     )
 }
 
-// An empty window on a file that is not yet read.
-pub(crate) fn start() -> Window {
-    Window {
-        from: 0,
-        held: 0,
-        ended: false,
-        failed: false,
-    }
+// The bytes in a window.
+pub(crate) fn bytes(buf: &[u8], w: Window) -> &[u8] {
+    part(buf, w.from, w.held)
+}
+
+// The lesser of two numbers.
+fn least(a: usize, b: usize) -> usize
+    ensures { λ r. ⌜ r ≤ a ⌝ }
+    ensures { λ r. ⌜ r ≤ b ⌝ }
+{
+    if a < b { a } else { b }
 }
 
 // Moves the bytes from `from` up to `held` to the front, and answers how many they are.
@@ -58,7 +63,7 @@ fn move_down(buf: &mut [u8], from: usize, held: usize) -> usize
 }
 
 // Moves what is left to the front, and reads on behind it.
-pub(crate) fn fill(fd: i32, buf: &mut [u8], w: Window) -> Window {
+fn fill(fd: i32, buf: &mut [u8], w: Window) -> Window {
     let n = move_down(buf, w.from, w.held);
     let got = libc::read(fd, &mut buf[n..]);
     let more = io::count(got, &buf[n..]);
@@ -67,5 +72,19 @@ pub(crate) fn fill(fd: i32, buf: &mut [u8], w: Window) -> Window {
         held: n + more,
         ended: got == 0,
         failed: got < 0,
+    }
+}
+
+// The window behind the bytes taken. Where none was taken, more is read.
+pub(crate) fn go_on(fd: i32, buf: &mut [u8], w: Window, taken: usize) -> Window {
+    if taken == 0 {
+        return fill(fd, buf, w);
+    }
+    let from = least(w.from, w.held);
+    Window {
+        from: from + least(taken, w.held - from),
+        held: w.held,
+        ended: w.ended,
+        failed: false,
     }
 }

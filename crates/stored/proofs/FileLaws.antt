@@ -11,7 +11,7 @@ use lib.ListN.{length, take, drop, length-append, take-append-drop}
 use lib.Seq.{sets, sets-eq, length-sets, take-suc, take-length}
 use lib.Dec.{eqb}
 use borrow.Author.Tests.{eqb-true, eqb-false, le-leb, lt-leb}
-use Rattle.wire.specs.Codec.{Valid}
+use Rattle.wire.specs.Codec.{Valid, byte, guard, seq, as-type}
 use Rattle.wire.specs.Write.{written, kept}
 use Rattle.wire.proofs.FieldLaws.{big-length}
 use Rattle.map.specs.State.{Entry, State}
@@ -31,6 +31,10 @@ unfolding entryLines
 lines-append f [] b = refl
 lines-append f (e ∷ a) b = rw (lines-append f a b, append-assoc)
 
+head-length : (f : Form) (n : ℕ) → length (headLine f .enc n) ≡ 9
+unfolding headLine as-type seq guard byte
+head-length f n = omega (arith, big-length 8 n)
+
 -- a stored file has at most 86,931 bytes
 lines-most : (es : List Entry) → Each (λ e. Valid (entryLine form1) e) es → length (entryLines form1 es) ≤ 679 * length es
 unfolding entryLines
@@ -38,10 +42,10 @@ lines-most [] v = omega arith
 lines-most (e ∷ es) v = omega (arith, length-append (line (entryLine form1 .enc e)) (entryLines form1 es), entry-short e (v .0), lines-most es (v .1))
 
 pub file-most : (st : State) → IsTable st → length (file form1 st) ≤ 86_931
-unfolding file headLine
+unfolding file
 file-most st h =
     omega
-    (arith, length-append (line (headLine form1 (st .last))) (entryLines form1 (st .entries)), line-length (headLine form1 (st .last)), big-length 8 (st .last), lines-most (st .entries) (table-good form1 st h), h .few)
+    (arith, length-append (line (headLine form1 .enc (st .last))) (entryLines form1 (st .entries)), line-length (headLine form1 .enc (st .last)), head-length form1 (st .last), lines-most (st .entries) (table-good form1 st h), h .few)
 
 -- any memory holds at most 128 rows
 pub few : (t : List ℕ) → length (stateOf t .entries) ≤ mostKeys
@@ -56,7 +60,7 @@ module _ (f : Form) (t : List ℕ) where
   es = stateOf t .entries
 
   abbrev top : List ℕ
-  top = line (headLine f (stateOf t .last))
+  top = line (headLine f .enc (stateOf t .last))
 
   -- the lines of the first n entries
   unfoldable pub some : ℕ → List ℕ
@@ -82,8 +86,7 @@ module _ (f : Form) (t : List ℕ) where
       omega (arith, ap length e, length-append (entryLines f (take i es)) (entryLines f (drop i es)))
 
   top-length : length top ≡ 19
-  unfolding headLine
-  top-length = omega (arith, line-length (headLine f (stateOf t .last)), big-length 8 (stateOf t .last))
+  top-length = omega (arith, line-length (headLine f .enc (stateOf t .last)), head-length f (stateOf t .last))
 
   pub file-length : length (file f (stateOf t)) ≡ 19 + length (entryLines f es)
   unfolding file

@@ -2,8 +2,8 @@
 use mathlib.Core.Path.{refl}
 use native.Mathlib.Omega.{arith}
 use Rattle.wire.specs.Codec.{Codec}
-use Rattle.stored.specs.File.{form1, entryLine}
-use Rattle.stored.specs.Answer.{head, headLoaded, lineLoaded}
+use Rattle.stored.specs.File.{form1, entryLine, headLine}
+use Rattle.stored.specs.Answer.{headLoaded, lineLoaded}
 use Rattle.stored.proofs.LoadLaws.{Digits, digits-read, loaded-none}
 use borrow.Author.Needs.{needs}
 use Rattle.stored.proofs.load_next.Statement.{statement}
@@ -58,7 +58,7 @@ part-start-start : tie.Need-part-start-start
 part-start-start c = search needs
 
 part-start-end : tie.Need-part-start-end
-part-start-end c = omega (arith, digits (head form1) (c .before .before) .within)
+part-start-end c = omega (arith, digits (headLine form1) (c .before .before) .within)
 
 start-requires : tie.Need-start-requires
 start-requires c κs = search needs
@@ -69,7 +69,7 @@ same-length-2 c = search needs
 returns-3 : tie.Need-returns-3
 unfolding headLoaded
 returns-3 c = let x = c .before .before .before .before .before .before in
-    rw (x .if1 .left, digits (head form1) (x .before) .read) (c .before .before .start .ensures)
+    rw (x .if1 .left, digits (headLine form1) (x .before) .read) (c .before .before .start .ensures)
 
 pub load-next-spec : {M : Type 1} → statement M
 load-next-spec =

@@ -71,11 +71,11 @@ fn write_file(t: &[u8], out: &mut [u8]) -> usize
     ensures { λ r. ⌜ (r ≡ length (file form1 (stateOf (now (t .entry))))) × (now (out .exit) ≡ sets (now (out .entry)) 0 (file form1 (stateOf (now (t .entry))))) ⌝ }
 {
     let n = table::count(t);
-    let mut at = store_line(t, 0, out, 0);
+    let mut at = 0;
     let mut i = 0;
-    while i < n {
-        i += 1;
+    while i <= n {
         at = store_line(t, i, out, at);
+        i += 1;
     }
     at
 }

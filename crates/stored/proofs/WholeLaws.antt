@@ -7,7 +7,7 @@ use mathlib.Core.Option.{Option, none, some}
 use Prim.Native.Nat.{ℕ, suc, _+_, _-_, _≤_, _<_}
 use native.Mathlib.Omega.{arith}
 use lib.ListN.{length, take, drop, length-append, length-drop, take-append-drop, drop-of-length-le}
-use lib.Seq.{take-length, take-add, drop-drop}
+use lib.Seq.{take-length, take-append-le, drop-append-le, take-add, drop-drop}
 use lib.Dec.{eqb}
 use borrow.Author.Tests.{eqb-true}
 use Rattle.bytes.specs.Bytes.{slice, indexOf, indexAfter}
@@ -99,6 +99,31 @@ module _ (s : List ℕ) (at r : ℕ) (found : r ≡ at + indexOf 0x0a (slice at 
         let x = left-some (loaded f c next t) e l in
         let y = next-line h in
         rw (y .0) (loads-both g (a-line next (y .1) (x .1) (x .2) no-line))
+
+ends-on : (f : Form) (b : Bool) (s t y : List ℕ) → Ends f b s t false → Ends f b (s ++ y) t false
+ends-on f b s t y e = (e .0, e .1 ++ y, rw (e .2, append-assoc), e .3, e .4)
+
+-- A file in pieces: what is left of a piece stands before the next one. Together they are loaded as one piece, and a line that is not good
+-- is not good whatever comes behind it.
+module _ {f : Form} {b : Bool} {p t u : List ℕ} {r : Loading} (q : List ℕ) (g : LoadsLines f b p t r u) where
+  pub pieces : {v : List ℕ} {r′ : Loading} → LoadsLines f (r .begun) (drop (r .taken) p ++ q) u r′ v
+      → LoadsLines f b (p ++ q) t (record { taken = r .taken + r′ .taken; begun = r′ .begun; good = r′ .good }) v
+  pieces {r′ = r′} h =
+      let w = g .within in
+      record {
+        within = omega (arith, h .within, length-append p q, length-append (drop (r .taken) p) q, length-drop (r .taken) p);
+        loads = rw (take-add, take-append-le (r .taken) p q w, drop-append-le (r .taken) p q w) (loads-both (g .loads) (h .loads));
+        ends = rw (← drop-drop, drop-append-le (r .taken) p q w) (h .ends);
+      }
+
+  pub bad-piece : r .good ≡ false → LoadsLines f b (p ++ q) t r u
+  bad-piece e =
+      let w = g .within in
+      record {
+        within = omega (arith, length-append p q);
+        loads = rw (take-append-le (r .taken) p q w) (g .loads);
+        ends = rw (e, drop-append-le (r .taken) p q w) (ends-on f (r .begun) (drop (r .taken) p) u q (rw e at (g .ends)));
+      }
 
 -- a first line that is loaded is the file of the table that it leaves
 head-sound : (l t u : List ℕ) (st : State) → headLoaded form1 l t ≡ some st → Changed t u st → Sound u × (file form1 (stateOf u) ≡ l ++ (0x0a ∷ []))
@@ -193,10 +218,6 @@ all-loaded {u = u} g y st (a-line l o e c r) n q h =
     let p = file-front form1 (stateOf u) st y (w .0 .table) (q .table) (ap (λ (z : List ℕ). z ++ y) (sym (w .1 .same)) ∙ q .same) in
     let z = rest-loads u y g (p .entries) q (w .0 .form .long) (p .all) (p .last) (p .behind) (rw i at n) in
     (i, z .0, z .1)
-
--- a line that can't be loaded stays so, whatever comes behind it
-pub ends-on : (f : Form) (b : Bool) (s t y : List ℕ) → Ends f b s t false → Ends f b (s ++ y) t false
-ends-on f b s t y e = (e .0, e .1 ++ y, rw (e .2, append-assoc), e .3, e .4)
 
 -- the lines of a whole file
 pub whole-stores : {B t u : List ℕ} {p : Loading} → LoadsLines form1 false B t p u → p .begun ≡ true → p .taken ≡ length B → Sound u × Stores form1 B (stateOf u)

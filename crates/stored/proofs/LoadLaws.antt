@@ -35,7 +35,7 @@ front (whole a n) = ap (whole a) (zero-add n)
 front more = refl
 front (refused k) = refl
 
-pub read-front : {A : Type 0} (c : Codec A) (s : List ℕ) → c .dec s ≡ readAt c s 0
+read-front : {A : Type 0} (c : Codec A) (s : List ℕ) → c .dec s ≡ readAt c s 0
 unfolding readAt
 read-front c s = sym (front (c .dec s))
 

@@ -1,4 +1,4 @@
--- A file stores at most one table, and the file of a sound table stores it. Assumes nothing.
+-- A file stores at most one table, a file that begins another is of its first entries, and the file of a sound table stores it. Assumes nothing.
 use mathlib.Core.Path.{_≡_, refl, sym, ap, _∙_}
 use mathlib.Core.List.{List, [], _∷_, _++_, append-assoc, append-nil}
 use Prim.Native.Nat.{ℕ}

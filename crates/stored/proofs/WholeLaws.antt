@@ -156,7 +156,7 @@ line-sound l t u st h e c = go (readLine (entryLine form1) l) refl e
         (d .0, ap (file form1) (d .1 ∙ r .same) ∙ rw (lines-append, append-nil, y .same) (sym (append-assoc (line (headLine form1 .enc (stateOf t .last))) (entryLines form1 (stateOf t .entries)) (line (entryLine form1 .enc x)))))
 
 -- lines behind a file
-pub loads-true : {f : Form} {c : Bool} {s t u : List ℕ} → Loads f true s t c u → c ≡ true
+loads-true : {f : Form} {c : Bool} {s t u : List ℕ} → Loads f true s t c u → c ≡ true
 loads-true no-line = refl
 loads-true (a-line l o e c r) = loads-true r
 

@@ -1,47 +1,37 @@
--- The lines of the first entries, one after another: how long they are, what writing the next one leaves, and that all of them are the file.
+-- The first lines of a file, one after another: how long they are, what writing the next one leaves, and that all of them are the file.
 -- Assumes nothing.
 use mathlib.Core.Path.{_≡_, refl, sym, ap, _∙_}
 use mathlib.Core.List.{List, [], _∷_, _++_, append-assoc, append-nil}
 use mathlib.Core.Bool.{Bool, true, false}
-use Prim.Native.Nat.{ℕ, _+_, _*_, _≤_, _<_}
+use Prim.Native.Nat.{ℕ, zero, suc, _+_, _≤_, _<_}
 use native.Mathlib.Omega.{arith}
 use native.Mathlib.Nat.{zero-add}
 use native.Mathlib.Numerals.{add-one}
 use lib.ListN.{length, take, drop, length-append, take-append-drop}
 use lib.Seq.{sets, sets-eq, length-sets, take-suc, take-length}
 use lib.Dec.{eqb}
-use borrow.Author.Tests.{eqb-true, eqb-false, le-leb, lt-leb}
-use Rattle.wire.specs.Codec.{Valid}
+use borrow.Author.Tests.{eqb-true, eqb-false, le-leb, lt-leb, lt-ltb}
+use Rattle.wire.specs.Codec.{byte, guard, seq, as-type}
 use Rattle.wire.specs.Write.{written, kept}
 use Rattle.wire.proofs.FieldLaws.{big-length}
-use Rattle.map.specs.State.{Entry, State}
+use Rattle.map.specs.State.{Entry}
 use Rattle.map.specs.Step.{mostKeys}
-use Rattle.map.specs.Table.{Each, IsTable}
 use Rattle.table.specs.Memory.{size, entry, stateOf, Sound}
 use Rattle.table.specs.Found.{entryAt}
 use Rattle.table.proofs.RowLaws.{length-entries, count-most}
 use Rattle.table.proofs.Answers.{other-entries}
-use Rattle.stored.specs.File.{Form, form1, entryLine, headLine, line, entryLines, file}
+use Rattle.stored.specs.File.{Form, entryLine, headLine, line, entryLines, file}
 use Rattle.stored.specs.Answer.{lineAt, laid, sent, Storing}
-use Rattle.stored.proofs.LineLaws.{table-good}
-use Rattle.stored.proofs.StoreLaws.{entry-short, laid-done, twice, line-length, line-entry}
+use Rattle.stored.proofs.StoreLaws.{laid-done, twice, line-length, line-entry}
 
 pub lines-append : (f : Form) (a b : List Entry) → entryLines f (a ++ b) ≡ entryLines f a ++ entryLines f b
 unfolding entryLines
 lines-append f [] b = refl
 lines-append f (e ∷ a) b = rw (lines-append f a b, append-assoc)
 
--- a stored file has at most 86,931 bytes
-lines-most : (es : List Entry) → Each (λ e. Valid (entryLine form1) e) es → length (entryLines form1 es) ≤ 679 * length es
-unfolding entryLines
-lines-most [] v = omega arith
-lines-most (e ∷ es) v = omega (arith, length-append (line (entryLine form1 .enc e)) (entryLines form1 es), entry-short e (v .0), lines-most es (v .1))
-
-pub file-most : (st : State) → IsTable st → length (file form1 st) ≤ 86_931
-unfolding file headLine
-file-most st h =
-    omega
-    (arith, length-append (line (headLine form1 (st .last))) (entryLines form1 (st .entries)), line-length (headLine form1 (st .last)), big-length 8 (st .last), lines-most (st .entries) (table-good form1 st h), h .few)
+head-length : (f : Form) (n : ℕ) → length (headLine f .enc n) ≡ 9
+unfolding headLine as-type seq guard byte
+head-length f n = omega (arith, big-length 8 n)
 
 -- any memory holds at most 128 rows
 pub few : (t : List ℕ) → length (stateOf t .entries) ≤ mostKeys
@@ -56,81 +46,58 @@ module _ (f : Form) (t : List ℕ) where
   es = stateOf t .entries
 
   abbrev top : List ℕ
-  top = line (headLine f (stateOf t .last))
+  top = line (headLine f .enc (stateOf t .last))
 
-  -- the lines of the first n entries
-  unfoldable pub some : ℕ → List ℕ
-  some n = entryLines f (take n es)
+  -- the first lines of the file
+  unfoldable pub front : ℕ → List ℕ
+  front zero = []
+  front (suc k) = top ++ entryLines f (take k es)
 
-  pub some-none : some 0 ≡ []
-  unfolding some entryLines
-  some-none = refl
+  pub front-head : length (front 1) ≡ 19
+  unfolding front entryLines
+  front-head = omega (arith, length-append top [], line-length (headLine f .enc (stateOf t .last)), head-length f (stateOf t .last))
 
-  pub some-next : (i : ℕ) → i < length es → some (i + 1) ≡ some i ++ line (entryLine f .enc (entryAt t i))
-  unfolding some entryAt entryLines
-  some-next i h =
-      rw (add-one, take-suc es i (entry [] [] 0 0)) (lines-append f (take i es) (entryAt t i ∷ []) ∙ ap (λ (l : List ℕ). entryLines f (take i es) ++ l) (append-nil _))
+  front-next : (i : ℕ) → i ≤ length es → front (i + 1) ≡ front i ++ lineAt f (stateOf t) i
+  unfolding front lineAt entryLines
+  front-next zero h = append-nil top
+  front-next (suc k) h = rw (lt-ltb k (length es) h, add-one, take-suc es k (entry [] [] 0 0), lines-append, append-nil, append-assoc)
 
-  pub some-all : (n : ℕ) → n ≡ length es → some n ≡ entryLines f es
-  unfolding some
-  some-all n e = rw (e, take-length)
+  pub front-entry : (k : ℕ) → k < length es → front (k + 1 + 1) ≡ front (k + 1) ++ line (entryLine f .enc (entryAt t k))
+  front-entry k h = rw (add-one k, ← line-entry f t k h) (front-next (suc k) h)
 
-  pub some-within : (i : ℕ) → length (some i) ≤ length (entryLines f es)
-  unfolding some
-  some-within i =
-      let e : entryLines f es ≡ entryLines f (take i es) ++ entryLines f (drop i es) = ap (entryLines f) (sym (take-append-drop i es)) ∙ lines-append f (take i es) (drop i es) in
-      omega (arith, ap length e, length-append (entryLines f (take i es)) (entryLines f (drop i es)))
+  pub front-all : (n : ℕ) → n ≡ length es + 1 → front n ≡ file f (stateOf t)
+  unfolding front file
+  front-all n e = rw (e, add-one, take-length)
 
-  top-length : length top ≡ 19
-  unfolding headLine
-  top-length = omega (arith, line-length (headLine f (stateOf t .last)), big-length 8 (stateOf t .last))
+  front-within : (i : ℕ) → length (front i) ≤ length (file f (stateOf t))
+  unfolding front file
+  front-within zero = omega arith
+  front-within (suc k) =
+      let e : entryLines f es ≡ entryLines f (take k es) ++ entryLines f (drop k es) = ap (entryLines f) (sym (take-append-drop k es)) ∙ lines-append f (take k es) (drop k es) in
+      omega
+      (arith, ap length e, length-append (entryLines f (take k es)) (entryLines f (drop k es)), length-append top (entryLines f (take k es)), length-append top (entryLines f es))
 
-  pub file-length : length (file f (stateOf t)) ≡ 19 + length (entryLines f es)
-  unfolding file
-  file-length = omega (arith, length-append top (entryLines f es), top-length)
+  -- the first i lines stand at the front of what was old
+  pub record Lines (old : List ℕ) (i at : ℕ) (o : List ℕ) : Type 0 where
+    pub place : at ≡ 0 + length (front i)
+    pub list : o ≡ sets old 0 (front i)
+    pub long : length o ≡ length old
 
-  -- the first i entries' lines stand at a₀ in what was o₀
-  pub record Lines (a₀ : ℕ) (o₀ : List ℕ) (i at : ℕ) (o : List ℕ) : Type 0 where
-    pub place : at ≡ a₀ + length (some i)
-    pub list : o ≡ sets o₀ a₀ (some i)
-    pub long : length o ≡ length o₀
+  pub lines-begin : (old : List ℕ) → Lines old 0 0 old
+  unfolding front
+  lines-begin old = record { place = refl; list = refl; long = refl }
 
-  pub lines-begin : (a₀ : ℕ) (o₀ : List ℕ) → Lines a₀ o₀ 0 a₀ o₀
-  lines-begin a₀ o₀ = record { place = omega (arith, ap length some-none); list = sym (ap (sets o₀ a₀) some-none); long = refl }
-
-  pub lines-on : (a₀ i at r : ℕ) (o₀ o o′ : List ℕ) → a₀ + length (entryLines f es) ≤ length o₀ → i < length es → Lines a₀ o₀ i at o
-      → (r, o′) ≡ laid (lineAt f (stateOf t) (i + 1)) at o → Lines a₀ o₀ (i + 1) r o′
-  lines-on a₀ i at r o₀ o o′ h l g e =
-      let x : List ℕ = line (entryLine f .enc (entryAt t i)) in
-      let p : lineAt f (stateOf t) (i + 1) ≡ x = ap (lineAt f (stateOf t)) (add-one i) ∙ line-entry f t i l in
-      let n : length (some (i + 1)) ≡ length (some i) + length x = ap length (some-next i l) ∙ length-append (some i) x in
-      let d : _≡_ {A = ℕ × List ℕ} (r, o′) (at + length x, sets o at x) =
-      e ∙ ap (λ (b : List ℕ). laid b at o) p ∙ sym (laid-done x at o (omega (arith, g .place, g .long, some-within (i + 1)))) in
+  pub lines-on : (i at r : ℕ) (old o o′ : List ℕ) → length (file f (stateOf t)) ≤ length old → i ≤ length es → Lines old i at o
+      → (r, o′) ≡ laid (lineAt f (stateOf t) i) at o → Lines old (i + 1) r o′
+  lines-on i at r old o o′ h l g e =
+      let x : List ℕ = lineAt f (stateOf t) i in
+      let n : length (front (i + 1)) ≡ length (front i) + length x = ap length (front-next i l) ∙ length-append (front i) x in
+      let d : _≡_ {A = ℕ × List ℕ} (r, o′) (at + length x, sets o at x) = e ∙ sym (laid-done x at o (omega (arith, g .place, g .long, front-within (i + 1)))) in
       record {
         place = ap (λ (q : ℕ × List ℕ). q .0) d ∙ omega (arith, g .place);
-        list = ap (λ (q : ℕ × List ℕ). q .1) d ∙ rw (g .list, g .place) (twice (some i) x o₀ a₀) ∙ ap (sets o₀ a₀) (sym (some-next i l));
+        list = ap (λ (q : ℕ × List ℕ). q .1) d ∙ rw (g .list, g .place) (twice (front i) x old 0) ∙ ap (sets old 0) (sym (front-next i l));
         long = ap (λ (q : ℕ × List ℕ). length (q .1)) d ∙ length-sets o at x ∙ g .long;
       }
-
-  -- the first line, and then all of them
-  pub file-written : (old o₀ o : List ℕ) (a₀ i at : ℕ) → length (file f (stateOf t)) ≤ length old → (a₀, o₀) ≡ laid (lineAt f (stateOf t) 0) 0 old → i ≡ length es
-      → Lines a₀ o₀ i at o → (at ≡ length (file f (stateOf t))) × (o ≡ sets old 0 (file f (stateOf t)))
-  unfolding lineAt file
-  file-written old o₀ o a₀ i at h e q g =
-      let d : _≡_ {A = ℕ × List ℕ} (a₀, o₀) (0 + length top, sets old 0 top) = e ∙ sym (laid-done top 0 old (omega (arith, file-length, top-length))) in
-      let p : a₀ ≡ 0 + length top = ap (λ (q : ℕ × List ℕ). q .0) d in
-      let s : o₀ ≡ sets old 0 top = ap (λ (q : ℕ × List ℕ). q .1) d in (
-        omega (arith, g .place, ap length (some-all i q), length-append top (entryLines f es)),
-        g .list ∙ rw (p, s, some-all i q) (twice top (entryLines f es) old 0),
-      )
-
-  pub room-behind : (old o₀ : List ℕ) (a₀ : ℕ) → length (file f (stateOf t)) ≤ length old → (a₀, o₀) ≡ laid (lineAt f (stateOf t) 0) 0 old
-      → a₀ + length (entryLines f es) ≤ length o₀
-  unfolding lineAt
-  room-behind old o₀ a₀ h e =
-      let d : _≡_ {A = ℕ × List ℕ} (a₀, o₀) (0 + length top, sets old 0 top) = e ∙ sym (laid-done top 0 old (omega (arith, file-length, top-length))) in
-      omega
-      (arith, ap (λ (q : ℕ × List ℕ). q .0) d, ap (λ (q : ℕ × List ℕ). length (q .1)) d, length-sets old 0 top, file-length, top-length)
 
   -- what `store` answers
   pub storing-unsound : (old : List ℕ) → (Sound t → ⊥) → Storing f t old (kept 13) old

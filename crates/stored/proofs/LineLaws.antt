@@ -11,7 +11,7 @@ use lib.Seq.{take-length, take-at, take-append-seam, drop-append-add}
 use lib.Dec.{eqb}
 use borrow.Author.Tests.{eqb-true, eq-eqb, ne-eqb}
 use Rattle.bytes.specs.Bytes.{indexOf, indexAfter}
-use Rattle.wire.specs.Codec.{Read, whole, more, refused, Codec, Valid, Bytes, byte, guard, seq, as-type, all}
+use Rattle.wire.specs.Codec.{Read, whole, more, refused, Codec, Valid, Bytes, byte, guard, seq, all}
 use Rattle.wire.specs.Field.{bigEndian, limited}
 use Rattle.wire.proofs.Laws.{Laws, never, seq-laws, guard-laws, type-laws, byte-laws, guard-valid, seq-valid, type-good, seq-good, guard-good, bytes-are}
 use Rattle.wire.proofs.FieldLaws.{big-laws, big-good, limited-laws, limited-good}
@@ -24,7 +24,7 @@ use Rattle.hex.specs.Hex.{digitOf, toHex, fromHex}
 use Rattle.hex.proofs.HexLaws.{to-from, from-to}
 use Rattle.hex.proofs.Digits.{of-decimal, of-letter}
 use Rattle.stored.specs.File.{Form, form1, formByte, Fields, toEntry, fromEntry, entryLine, headLine, line}
-use Rattle.stored.specs.Answer.{head, exactly, readBytes, readLine, NoEnd}
+use Rattle.stored.specs.Answer.{exactly, readBytes, readLine, NoEnd}
 use Rattle.stored.proofs.Spelt.{Spelt, type-spelt, seq-spelt, guard-spelt, byte-spelt, big-spelt, limited-spelt}
 
 -- the formats
@@ -66,8 +66,8 @@ table-good f st t =
     (λ e h i. entry-good f e (omega (arith, i .1, t .last)) (omega (arith, h .deadline)) (h .key) (bytes-are _ (h .keyBytes)) (h .value) (bytes-are _ (h .valueBytes)))
     (t .sizes) (t .issued)
 
-pub head-laws : (f : Form) → Laws (head f)
-unfolding head
+pub head-laws : (f : Form) → Laws (headLine f)
+unfolding headLine
 head-laws f =
     type-laws all (λ p. p .1) (λ n. (formByte f, n)) (seq (guard (λ b. eqb b (formByte f)) 17 byte) (λ _. bigEndian 8))
     (seq-laws _ _ (guard-laws _ 17 byte byte-laws) (λ _. big-laws 8))
@@ -76,23 +76,19 @@ head-laws f =
     let w = seq-valid (guard (λ b. eqb b (formByte f)) 17 byte) (λ _. bigEndian 8) p v in
     (ap {B = ℕ × ℕ} (λ (b : ℕ). (b, p .1)) (sym (eqb-true (p .0) (formByte f) (guard-valid (λ b. eqb b (formByte f)) 17 byte (p .0) (w .0) .0))), refl))
 
-pub head-spelt : (f : Form) → Spelt (head f)
-unfolding head
+pub head-spelt : (f : Form) → Spelt (headLine f)
+unfolding headLine
 head-spelt f = type-spelt _ _ _ (seq-spelt (guard-spelt _ _ byte-spelt) (λ _. big-spelt 8))
 
-pub head-most : (f : Form) → Most (head f) 9
-unfolding head
+pub head-most : (f : Form) → Most (headLine f) 9
+unfolding headLine
 head-most f = type-most _ _ _ (seq-most (guard-most _ _ byte-most) (λ _ _. big-most 8))
 
-pub head-good : (f : Form) (n : ℕ) → n < 256 ^ 8 → Valid (head f) n
-unfolding head byte
+pub head-good : (f : Form) (n : ℕ) → n < 256 ^ 8 → Valid (headLine f) n
+unfolding headLine byte
 head-good form1 n h =
     type-good all (λ p. p .1) (λ n. (0x01, n)) (seq (guard (λ b. eqb b 0x01) 17 byte) (λ _. bigEndian 8)) {b = n} refl
     (seq-good (guard (λ b. eqb b 0x01) 17 byte) (λ _. bigEndian 8) (guard-good (λ b. eqb b 0x01) 17 byte {a = 0x01} refl refl) (big-good 8 n h))
-
-pub head-is : (f : Form) (n : ℕ) → head f .enc n ≡ headLine f n
-unfolding head headLine as-type seq guard byte
-head-is f n = refl
 
 -- what is read of a line is what is written so
 module _ {A : Type 0} (c : Codec A) (l : Laws c) where
@@ -168,10 +164,10 @@ pub line-cons : (bs y : List ℕ) → line bs ++ y ≡ toHex bs ++ (0x0a ∷ y)
 unfolding line
 line-cons bs y = append-assoc (toHex bs) (0x0a ∷ []) y
 
-some-same : {a b : List ℕ} → some a ≡ some b → a ≡ b
-some-same e = cc
-
-pub line-split : (a b x y : List ℕ) → Bytes a → Bytes b → line a ++ x ≡ line b ++ y → (a ≡ b) × (x ≡ y)
-line-split a b x y ha hb e =
-    let p = ends-split (toHex a) (toHex b) x y (no-end a) (no-end b) (sym (line-cons a x) ∙ e ∙ line-cons b y) in
-    (some-same (sym (from-to a ha) ∙ ap fromHex (p .0) ∙ from-to b hb), p .1)
+-- two lines that begin the same list say the same
+pub same-line : {A : Type 0} (c : Codec A) → Laws c → Spelt c → (a b : A) (x y : List ℕ) → Valid c a → Valid c b → line (c .enc a) ++ x ≡ line (c .enc b) ++ y
+    → (a ≡ b) × (x ≡ y)
+same-line c l s a b x y v w e =
+    let p = ends-split (toHex (c .enc a)) (toHex (c .enc b)) x y (no-end (c .enc a)) (no-end (c .enc b)) (sym (line-cons (c .enc a) x) ∙ e ∙ line-cons (c .enc b) y) in
+    let q : some a ≡ some b = sym (line-back c l s a v) ∙ ap (readLine c) (p .0) ∙ line-back c l s b w in
+    (cc, p .1)

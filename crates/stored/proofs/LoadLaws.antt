@@ -26,16 +26,16 @@ use Rattle.hex.specs.declared.Decoded.{Decoded}
 use Rattle.hex.specs.declared.Decoded.the-variants as d
 use Rattle.hex.proofs.Decoded as decoded-type
 use Rattle.hex.proofs.HexLaws.{to-from}
-use Rattle.stored.specs.File.{form1, entryLine}
-use Rattle.stored.specs.Answer.{head, exactly, readLine}
-use Rattle.stored.proofs.LineLaws.{bytes-read}
+use Rattle.stored.specs.File.{form1, entryLine, headLine}
+use Rattle.stored.specs.Answer.{exactly, readLine, headLoaded, lineLoaded, loaded}
+use Rattle.stored.proofs.LineLaws.{entry-laws, entry-most, head-laws, head-most, bytes-read}
 
 front : {A : Type 0} (r : Read A) → after r (λ a n. whole a (0 + n)) ≡ r
 front (whole a n) = ap (whole a) (zero-add n)
 front more = refl
 front (refused k) = refl
 
-pub read-front : {A : Type 0} (c : Codec A) (s : List ℕ) → c .dec s ≡ readAt c s 0
+read-front : {A : Type 0} (c : Codec A) (s : List ℕ) → c .dec s ≡ readAt c s 0
 unfolding readAt
 read-front c s = sym (front (c .dec s))
 
@@ -45,10 +45,10 @@ stopped-none n (whole a m) = refl
 stopped-none n more = refl
 stopped-none n (refused k) = refl
 
-pub head-at : (s : List ℕ) → head form1 .dec s
+pub head-at : (s : List ℕ) → headLine form1 .dec s
     ≡ after (readAt byte s 0) (λ b i. cond (eqb b 0x01) (after (readAt (bigEndian 8) s i) (λ n k. whole n k)) (refused 17))
-unfolding head
-head-at s = read-front (head form1) s ∙ simp (at-type, at-seq, at-guard, after-after, at-cond)
+unfolding headLine
+head-at s = read-front (headLine form1) s ∙ simp (at-type, at-seq, at-guard, after-after, at-cond)
 
 pub entry-at : (s : List ℕ) → entryLine form1 .dec s
     ≡ after (readAt (bigEndian 8) s 0) (λ n i. after (readAt (bigEndian 8) s i) (λ d j. after (readAt (limited keyLimit) s j)
@@ -103,10 +103,17 @@ module _ {A : Type 0} (c : Codec A) (s old new : List ℕ) where
         not-bytes (subst (λ (y : Decoded). OneOf (1 ∷ 2 ∷ []) (tagOf decoded-type.the-type y)) x k)
     decoded-none r bs false q p k e = rw p (too-long bs (to-from s bs p .1) (leb-false (length bs) (length old) q))
 
-    pub digits-none : (r : Decoded) → OneOf (1 ∷ 2 ∷ []) (tagOf decoded-type.the-type r) → (r, new) ≡ decoded s old → readLine c s ≡ none
+    digits-none : (r : Decoded) → OneOf (1 ∷ 2 ∷ []) (tagOf decoded-type.the-type r) → (r, new) ≡ decoded s old → readLine c s ≡ none
     unfolding decoded readLine
     digits-none r k e = go (fromHex s) refl e
       where
         go : (o : Option (List ℕ)) → fromHex s ≡ o → _≡_ {A = Decoded × List ℕ} (r, new) (decodedTo old o) → readLine c s ≡ none
         go none p q = rw p
         go (some bs) p q = decoded-none r bs (leb (length bs) (length old)) refl p k q
+
+-- a line that is not of digits, or of too many, is not loaded
+pub loaded-none : (b : Bool) (s t old new : List ℕ) (r : Decoded) → 339 ≤ length old → OneOf (1 ∷ 2 ∷ []) (tagOf decoded-type.the-type r) → (r, new) ≡ decoded s old
+    → loaded form1 b s t ≡ none
+unfolding headLoaded lineLoaded
+loaded-none false s t old new r h k e = rw (digits-none (headLine form1) s old new (head-laws form1) 9 (head-most form1) (omega arith) r k e)
+loaded-none true s t old new r h k e = rw (digits-none (entryLine form1) s old new (entry-laws form1) 339 (entry-most form1) h r k e)

@@ -1,30 +1,16 @@
--- A file stores at most one table, and the file of a sound table stores it. Assumes nothing.
+-- A file stores at most one table, a file that begins another is of its first entries, and the file of a sound table stores it. Assumes nothing.
 use mathlib.Core.Path.{_≡_, refl, sym, ap, _∙_}
 use mathlib.Core.List.{List, [], _∷_, _++_, append-assoc, append-nil}
 use Prim.Native.Nat.{ℕ}
 use native.Mathlib.Omega.{arith}
 use lib.ListN.{length, length-append}
-use Rattle.wire.specs.Codec.{Codec, Valid, whole}
-use Rattle.wire.proofs.Laws.{Laws}
+use Rattle.wire.specs.Codec.{Valid}
 use Rattle.map.specs.State.{Entry, State}
 use Rattle.map.specs.Table.{Each, IsTable}
 use Rattle.table.specs.Memory.{stateOf, Sound}
 use Rattle.stored.specs.File.{Form, entryLine, headLine, line, entryLines, file, Stores}
-use Rattle.stored.specs.Answer.{head}
-use Rattle.stored.proofs.LineLaws.{entry-laws, entry-spelt, table-good, head-laws, head-spelt, head-good, head-is, line-split}
-use Rattle.stored.proofs.Spelt.{Spelt}
+use Rattle.stored.proofs.LineLaws.{entry-laws, entry-spelt, table-good, head-laws, head-spelt, head-good, same-line}
 use Rattle.stored.proofs.StoreLaws.{line-length}
-
-same-value : {A : Type 0} {a b : A} {n m : ℕ} → whole a n ≡ whole b m → a ≡ b
-same-value e = cc
-
--- two lines that begin the same list say the same
-same-line : {A : Type 0} (c : Codec A) → Laws c → Spelt c → (a b : A) (x y : List ℕ) → Valid c a → Valid c b
-    → line (c .enc a) ++ x ≡ line (c .enc b) ++ y → (a ≡ b) × (x ≡ y)
-same-line c l s a b x y v w e =
-    let p = line-split (c .enc a) (c .enc b) x y (s .bytes a v) (s .bytes b w) e in
-    let q : whole a (length (c .enc a)) ≡ whole b (length (c .enc b)) = sym (l .round a [] v) ∙ ap (λ (z : List ℕ). c .dec (z ++ [])) (p .0) ∙ l .round b [] w in
-    (same-value q, p .1)
 
 module _ (f : Form) where
   some-line : (e : Entry) (x : List ℕ) → line (entryLine f .enc e) ++ x ≡ [] → ⊥
@@ -35,10 +21,9 @@ module _ (f : Form) where
       → (gs : List Entry) × (fs ≡ es ++ gs) × (y ≡ entryLines f gs)
   unfolding entryLines
   same-front [] fs y v w p = (fs, refl, p)
-  same-front (a ∷ es) [] y v w p = absurd (some-line a (entryLines f es ++ y) (sym (append-assoc (line (entryLine f .enc a)) (entryLines f es) y) ∙ p))
+  same-front (a ∷ es) [] y v w p = absurd (some-line a (entryLines f es ++ y) (rw append-assoc at p))
   same-front (a ∷ es) (b ∷ fs) y v w p =
-      let q = same-line (entryLine f) (entry-laws f) (entry-spelt f) a b (entryLines f es ++ y) (entryLines f fs) (v .0) (w .0)
-      (sym (append-assoc (line (entryLine f .enc a)) (entryLines f es) y) ∙ p) in
+      let q = same-line (entryLine f) (entry-laws f) (entry-spelt f) a b (entryLines f es ++ y) (entryLines f fs) (v .0) (w .0) (rw append-assoc at p) in
       let r = same-front es fs y (v .1) (w .1) (q .1) in
       (r .0, cc (q .0, r .1), r .2)
 
@@ -52,10 +37,8 @@ module _ (f : Form) where
   pub file-front : (s t : State) (y : List ℕ) → IsTable s → IsTable t → file f s ++ y ≡ file f t → Front s t y
   unfolding file
   file-front s t y hs ht p =
-      let e : line (head f .enc (s .last)) ++ (entryLines f (s .entries) ++ y) ≡ line (head f .enc (t .last)) ++ entryLines f (t .entries) =
-      rw (head-is f (s .last), head-is f (t .last)) (sym (append-assoc (line (headLine f (s .last))) (entryLines f (s .entries)) y) ∙ p) in
-      let q = same-line (head f) (head-laws f) (head-spelt f) (s .last) (t .last) (entryLines f (s .entries) ++ y) (entryLines f (t .entries))
-      (head-good f (s .last) (omega (arith, hs .last))) (head-good f (t .last) (omega (arith, ht .last))) e in
+      let q = same-line (headLine f) (head-laws f) (head-spelt f) (s .last) (t .last) (entryLines f (s .entries) ++ y) (entryLines f (t .entries))
+      (head-good f (s .last) (omega (arith, hs .last))) (head-good f (t .last) (omega (arith, ht .last))) (rw append-assoc at p) in
       let r = same-front (s .entries) (t .entries) y (table-good f s hs) (table-good f t ht) (q .1) in
       record { entries = r .0; all = r .1; last = sym (q .0); behind = r .2 }
 

@@ -30,9 +30,9 @@ use Rattle.table.proofs.Lists.{lt-or-ge}
 use Rattle.table.proofs.Parts.{bytes-part}
 use Rattle.table.proofs.RowLaws.{entry-is}
 use Rattle.table.proofs.Answers.{held-row, no-row}
-use Rattle.stored.specs.File.{Form, form1, toEntry, fromEntry, entryLine, line}
-use Rattle.stored.specs.Answer.{lineAt, laid, head}
-use Rattle.stored.proofs.LineLaws.{fields, entry-good, entry-most, head-is}
+use Rattle.stored.specs.File.{Form, form1, toEntry, fromEntry, entryLine, headLine, line}
+use Rattle.stored.specs.Answer.{lineAt, laid}
+use Rattle.stored.proofs.LineLaws.{fields, entry-good, entry-most}
 
 -- bytes laid at a place
 module _ (bs : List ℕ) (at : ℕ) (old : List ℕ) where
@@ -105,8 +105,8 @@ held-good f t i b =
 
 -- the fields of a line, written one after another
 pub head-wrote : (n : ℕ) {o₁ o₂ o₃ : List ℕ} {r₁ r₂ : ℕ} → n < 256 ^ 8 → length o₁ ≡ 339 → (r₁, o₂) ≡ putAt byte 0x01 0 o₁ → (r₂, o₃) ≡ putAt (bigEndian 8) n r₁ o₂
-    → Wrote (head form1) n o₁ o₃ 0 r₂
-unfolding head byte
+    → Wrote (headLine form1) n o₁ o₃ 0 r₂
+unfolding headLine byte
 head-wrote n h l e f =
     let x = put-wrote byte 0x01 0 _ refl (omega arith) _ _ e in
     let y = put-wrote (bigEndian 8) n _ _ (big-good 8 n h) (omega (arith, big-length 8 n, x .next, x .long)) _ _ f in
@@ -160,9 +160,9 @@ wrote-front c m k {a = a} {old = old} {new = new} {r = r} v h w =
     (rw (z, w .list, sets-eq (c .enc a) old 0 (omega arith)) (take-at (c .enc a) (drop (0 + length (c .enc a)) old) (0 + length (c .enc a)) (omega arith)), omega (arith, w .next))
 
 -- the lines of a file
-pub line-head : (f : Form) (st : State) → lineAt f st 0 ≡ line (head f .enc (st .last))
+pub line-head : (f : Form) (st : State) → lineAt f st 0 ≡ line (headLine f .enc (st .last))
 unfolding lineAt
-line-head f st = ap line (sym (head-is f (st .last)))
+line-head f st = refl
 
 pub line-entry : (f : Form) (t : List ℕ) (k : ℕ) → k < length (stateOf t .entries) → lineAt f (stateOf t) (suc k) ≡ line (entryLine f .enc (entryAt t k))
 unfolding lineAt entryAt

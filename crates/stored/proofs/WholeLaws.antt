@@ -7,11 +7,11 @@ use mathlib.Core.Option.{Option, none, some}
 use Prim.Native.Nat.{ℕ, suc, _+_, _-_, _≤_, _<_}
 use native.Mathlib.Omega.{arith}
 use lib.ListN.{length, take, drop, length-append, length-drop, take-append-drop, drop-of-length-le}
-use lib.Seq.{take-length, take-add, drop-drop}
+use lib.Seq.{take-length, take-append-le, drop-append-le, take-add, drop-drop}
 use lib.Dec.{eqb}
 use borrow.Author.Tests.{eqb-true}
 use Rattle.bytes.specs.Bytes.{slice, indexOf, indexAfter}
-use Rattle.wire.specs.Codec.{Valid, Bytes}
+use Rattle.wire.specs.Codec.{Valid}
 use Rattle.wire.proofs.Laws.{never, bytes-are}
 use Rattle.wire.proofs.FieldLaws.{limited-valid}
 use Rattle.message.specs.Request.{keyLimit, valueLimit}
@@ -19,35 +19,33 @@ use Rattle.map.specs.State.{Entry, State}
 use Rattle.map.specs.Table.{Each, IsTable}
 use Rattle.hex.specs.Hex.{toHex}
 use Rattle.table.specs.Memory.{size, entry, stateOf, Sound}
-use Rattle.table.specs.Change.{Changed, Left, isSome, started, restored}
-use Rattle.table.specs.Write.{extended}
+use Rattle.table.specs.Change.{Changed, Left, isSome}
 use Rattle.table.proofs.Restores.{started-is, started-says, restored-says, restored-sound, each-restored, each-mid}
 use Rattle.table.proofs.HasForm.{started-sound}
 use Rattle.stored.specs.File.{Form, form1, entryLine, headLine, line, entryLines, file, Stores}
-use Rattle.stored.specs.Answer.{head, readLine, startWith, restoreTo, headLoaded, lineLoaded, loaded, NoEnd, Loads, no-line, a-line, Ends, LoadsLines, Loaded}
+use Rattle.stored.specs.Answer.{readLine, startWith, restoreTo, headLoaded, lineLoaded, loaded, NoEnd, Loads, no-line, a-line, Ends, LoadsLines, Loaded}
 use Rattle.stored.specs.declared.Loading.{Loading}
-use Rattle.stored.proofs.LineLaws.{entry-laws, entry-spelt, table-good, head-laws, head-spelt, head-good, head-is, line-read, line-back, no-end, first-end, ends-split, line-cons}
+use Rattle.stored.proofs.LineLaws.{entry-laws, entry-spelt, table-good, head-laws, head-spelt, head-good, line-read, line-back, no-end, first-end, ends-split, line-cons}
 use Rattle.stored.proofs.StoreLaws.{parts}
 use Rattle.stored.proofs.FileLaws.{lines-append}
 use Rattle.stored.proofs.OneTable.{file-front}
 
 -- a list up to its first line end
-to-end : (xs : List ℕ) → indexOf 0x0a xs < length xs
-    → (take (indexOf 0x0a xs + 1) xs ≡ take (indexOf 0x0a xs) xs ++ (0x0a ∷ [])) × NoEnd (take (indexOf 0x0a xs) xs)
+abbrev Cut : List ℕ → ℕ → Type 0
+Cut s k = (take (k + 1) s ≡ take k s ++ (0x0a ∷ [])) × NoEnd (take k s)
+
+to-end : (s : List ℕ) → indexOf 0x0a s < length s → Cut s (indexOf 0x0a s)
 unfolding indexOf indexAfter
 to-end [] h = absurd (omega arith)
-to-end (x ∷ xs) h = go (eqb x 0x0a) refl (to-end xs) h
+to-end (x ∷ s) h = go (eqb x 0x0a) refl (to-end s) h
   where
-    go : (b : Bool) → eqb x 0x0a ≡ b
-        → (indexOf 0x0a xs < length xs → (take (indexOf 0x0a xs + 1) xs ≡ take (indexOf 0x0a xs) xs ++ (0x0a ∷ [])) × NoEnd (take (indexOf 0x0a xs) xs))
-        → indexAfter b (indexOf 0x0a xs) < suc (length xs)
-        → (take (indexAfter b (indexOf 0x0a xs) + 1) (x ∷ xs) ≡ take (indexAfter b (indexOf 0x0a xs)) (x ∷ xs) ++ (0x0a ∷ []))
-        × NoEnd (take (indexAfter b (indexOf 0x0a xs)) (x ∷ xs))
+    go : (b : Bool) → eqb x 0x0a ≡ b → (indexOf 0x0a s < length s → Cut s (indexOf 0x0a s)) → indexAfter b (indexOf 0x0a s) < suc (length s)
+        → Cut (x ∷ s) (indexAfter b (indexOf 0x0a s))
     go true e f l = (ap (λ (y : ℕ). y ∷ []) (eqb-true x 0x0a e), refl)
     go false e f l =
-        let s : suc (indexOf 0x0a xs) + 1 ≡ suc (indexOf 0x0a xs + 1) = omega arith in
         let i = f (omega arith) in
-        (rw s (ap (λ (ys : List ℕ). x ∷ ys) (i .0)), rw e (ap suc (i .1)))
+        let n : suc (indexOf 0x0a s) + 1 ≡ suc (indexOf 0x0a s + 1) = omega arith in
+        (rw n (ap (λ (y : List ℕ). x ∷ y) (i .0)), rw e (ap suc (i .1)))
 
 -- what a loader left
 left-none : {t u : List ℕ} (o : Option State) → isSome o ≡ false → Left t o u → (o ≡ none) × (t ≡ u)
@@ -61,7 +59,7 @@ left-some (some st) e l = (st, refl, l)
 -- lines behind lines: the cuts do not matter
 pub loads-both : {f : Form} {b c d : Bool} {x y t u v : List ℕ} → Loads f b x t c u → Loads f c y u d v → Loads f b (x ++ y) t d v
 loads-both no-line q = q
-loads-both {y = y} (a-line {s = s} l o e c r) q = rw append-assoc (a-line l o e c (loads-both r q))
+loads-both (a-line l o e c r) q = rw append-assoc (a-line l o e c (loads-both r q))
 
 pub loads-long : {f : Form} {b c : Bool} {s t u : List ℕ} → Loads f b s t c u → length u ≡ length t
 loads-long no-line = refl
@@ -102,18 +100,43 @@ module _ (s : List ℕ) (at r : ℕ) (found : r ≡ at + indexOf 0x0a (slice at 
         let y = next-line h in
         rw (y .0) (loads-both g (a-line next (y .1) (x .1) (x .2) no-line))
 
+ends-on : (f : Form) (b : Bool) (s t y : List ℕ) → Ends f b s t false → Ends f b (s ++ y) t false
+ends-on f b s t y e = (e .0, e .1 ++ y, rw (e .2, append-assoc), e .3, e .4)
+
+-- A file in pieces: what is left of a piece stands before the next one. Together they are loaded as one piece, and a line that is not good
+-- is not good whatever comes behind it.
+module _ {f : Form} {b : Bool} {p t u : List ℕ} {r : Loading} (q : List ℕ) (g : LoadsLines f b p t r u) where
+  pub pieces : {v : List ℕ} {r′ : Loading} → LoadsLines f (r .begun) (drop (r .taken) p ++ q) u r′ v
+      → LoadsLines f b (p ++ q) t (record { taken = r .taken + r′ .taken; begun = r′ .begun; good = r′ .good }) v
+  pieces {r′ = r′} h =
+      let w = g .within in
+      record {
+        within = omega (arith, h .within, length-append p q, length-append (drop (r .taken) p) q, length-drop (r .taken) p);
+        loads = rw (take-add, take-append-le (r .taken) p q w, drop-append-le (r .taken) p q w) (loads-both (g .loads) (h .loads));
+        ends = rw (← drop-drop, drop-append-le (r .taken) p q w) (h .ends);
+      }
+
+  pub bad-piece : r .good ≡ false → LoadsLines f b (p ++ q) t r u
+  bad-piece e =
+      let w = g .within in
+      record {
+        within = omega (arith, length-append p q);
+        loads = rw (take-append-le (r .taken) p q w) (g .loads);
+        ends = rw (e, drop-append-le (r .taken) p q w) (ends-on f (r .begun) (drop (r .taken) p) u q (rw e at (g .ends)));
+      }
+
 -- a first line that is loaded is the file of the table that it leaves
 head-sound : (l t u : List ℕ) (st : State) → headLoaded form1 l t ≡ some st → Changed t u st → Sound u × (file form1 (stateOf u) ≡ l ++ (0x0a ∷ []))
 unfolding headLoaded file entryLines line
-head-sound l t u st e c = go (readLine (head form1) l) refl e
+head-sound l t u st e c = go (readLine (headLine form1) l) refl e
   where
-    go : (o : Option ℕ) → readLine (head form1) l ≡ o → startWith t o ≡ some st → Sound u × (file form1 (stateOf u) ≡ l ++ (0x0a ∷ []))
+    go : (o : Option ℕ) → readLine (headLine form1) l ≡ o → startWith t o ≡ some st → Sound u × (file form1 (stateOf u) ≡ l ++ (0x0a ∷ []))
     go none p q = never (cc)
     go (some n) p q =
         let s = started-says n t st q in
         let d = started-sound n t u (s .0) (s .1) (rw q c) in
-        let x = line-read (head form1) (head-laws form1) l n p in
-        (d .0, ap (file form1) (d .1) ∙ append-nil (line (headLine form1 n)) ∙ ap (λ (y : List ℕ). y ++ (0x0a ∷ [])) (sym (x .same ∙ ap toHex (head-is form1 n))))
+        let x = line-read (headLine form1) (head-laws form1) l n p in
+        (d .0, ap (file form1) (d .1) ∙ append-nil (line (headLine form1 .enc n)) ∙ ap (λ (y : List ℕ). y ++ (0x0a ∷ [])) (sym (x .same)))
 
 -- an entry's line that is loaded is behind the file of the table before it
 line-sound : (l t u : List ℕ) (st : State) → Sound t → lineLoaded form1 l t ≡ some st → Changed t u st
@@ -130,10 +153,10 @@ line-sound l t u st h e c = go (readLine (entryLine form1) l) refl e
         let d = restored-sound (x .key) (x .value) (x .version) (x .deadline) t u st h
         (bytes-are _ (limited-valid keyLimit (x .key) (k .0) .1)) (bytes-are _ (limited-valid valueLimit (x .value) (k .1) .1)) q (rw q c) in
         let r = restored-says (x .key) (x .value) (x .version) (x .deadline) t st q in
-        (d .0, ap (file form1) (d .1 ∙ r .same) ∙ rw (lines-append, append-nil, y .same) (sym (append-assoc (line (headLine form1 (stateOf t .last))) (entryLines form1 (stateOf t .entries)) (line (entryLine form1 .enc x)))))
+        (d .0, ap (file form1) (d .1 ∙ r .same) ∙ rw (lines-append, append-nil, y .same) (sym (append-assoc (line (headLine form1 .enc (stateOf t .last))) (entryLines form1 (stateOf t .entries)) (line (entryLine form1 .enc x)))))
 
 -- lines behind a file
-pub loads-true : {f : Form} {c : Bool} {s t u : List ℕ} → Loads f true s t c u → c ≡ true
+loads-true : {f : Form} {c : Bool} {s t u : List ℕ} → Loads f true s t c u → c ≡ true
 loads-true no-line = refl
 loads-true (a-line l o e c r) = loads-true r
 
@@ -163,38 +186,37 @@ stuck b bs z u false h e =
     never (cc)
 
 -- of a file that stores a table all lines are loaded, into memory of the right length
-head-loads : (st : State) (t : List ℕ) → IsTable st → length t ≡ size → isSome (headLoaded form1 (toHex (headLine form1 (st .last))) t) ≡ true
+head-loads : (st : State) (t : List ℕ) → IsTable st → length t ≡ size → isSome (headLoaded form1 (toHex (headLine form1 .enc (st .last))) t) ≡ true
 unfolding headLoaded
 head-loads st t h l =
-    rw (← head-is form1 (st .last), line-back (head form1) (head-laws form1) (head-spelt form1) (st .last) (head-good form1 (st .last) (omega (arith, h .last))))
-    (ap isSome (started-is (st .last) t l (h .last)))
+    rw (line-back (headLine form1) (head-laws form1) (head-spelt form1) (st .last) (head-good form1 (st .last) (omega (arith, h .last)))) (ap isSome (started-is (st .last) t l (h .last)))
 
-line-loads : (bytes : List ℕ) (st : State) (u : List ℕ) (e : Entry) (es : List Entry) → Stores form1 bytes st → length u ≡ size → st .entries ≡ stateOf u .entries ++ (e ∷ es)
+line-loads : {bytes : List ℕ} {st : State} (u : List ℕ) (e : Entry) (es : List Entry) → Stores form1 bytes st → length u ≡ size → st .entries ≡ stateOf u .entries ++ (e ∷ es)
     → st .last ≡ stateOf u .last → isSome (lineLoaded form1 (toHex (entryLine form1 .enc e)) u) ≡ true
 unfolding lineLoaded
-line-loads bytes st u e es q h p l =
+line-loads {st = st} u e es q h p l =
     let v : Valid (entryLine form1) e =
     each-mid (λ e. Valid (entryLine form1) e) (stateOf u .entries) e es (subst (Each (λ e. Valid (entryLine form1) e)) p (table-good form1 st (q .table))) in
     rw (line-back (entryLine form1) (entry-laws form1) (entry-spelt form1) e v) (ap isSome (each-restored st e es u (q .table) (q .order) h p l))
 
-rest-loads : (bytes : List ℕ) (st : State) (u y : List ℕ) (g : Bool) (es : List Entry) → Stores form1 bytes st → length u ≡ size → st .entries ≡ stateOf u .entries ++ es
+rest-loads : {bytes : List ℕ} {st : State} (u y : List ℕ) (g : Bool) (es : List Entry) → Stores form1 bytes st → length u ≡ size → st .entries ≡ stateOf u .entries ++ es
     → st .last ≡ stateOf u .last → y ≡ entryLines form1 es → Ends form1 true y u g → (g ≡ true) × (y ≡ [])
 unfolding entryLines
-rest-loads bytes st u y true [] q h p l e n = (refl, e)
-rest-loads bytes st u y false [] q h p l e n = absurd (omega (arith, ap length e, ap length (n .2), length-append (n .0) (0x0a ∷ n .1)))
-rest-loads bytes st u y g (x ∷ es) q h p l e n =
-    absurd (stuck true (entryLine form1 .enc x) (entryLines form1 es) u g (line-loads bytes st u x es q h p l) (rw e at n))
+rest-loads u y true [] q h p l e n = (refl, e)
+rest-loads u y false [] q h p l e n = absurd (omega (arith, ap length e, ap length (n .2), length-append (n .0) (0x0a ∷ n .1)))
+rest-loads u y g (x ∷ es) q h p l e n =
+    absurd (stuck true (entryLine form1 .enc x) (entryLines form1 es) u g (line-loads u x es q h p l) (rw e at n))
 
 pub all-loaded : {c : Bool} {x t u : List ℕ} (g : Bool) (y : List ℕ) (st : State) → Loads form1 false x t c u → Ends form1 c y u g → Stores form1 (x ++ y) st → length t ≡ size
     → (c ≡ true) × (g ≡ true) × (y ≡ [])
 unfolding file
 all-loaded {t = t} g y st no-line n q h =
-    absurd (stuck false (headLine form1 (st .last)) (entryLines form1 (st .entries)) t g (head-loads st t (q .table) h) (rw (q .same) at n))
+    absurd (stuck false (headLine form1 .enc (st .last)) (entryLines form1 (st .entries)) t g (head-loads st t (q .table) h) (rw (q .same) at n))
 all-loaded {u = u} g y st (a-line l o e c r) n q h =
     let i = loads-true r in
     let w = loads-stores (a-line l o e c r) i in
     let p = file-front form1 (stateOf u) st y (w .0 .table) (q .table) (ap (λ (z : List ℕ). z ++ y) (sym (w .1 .same)) ∙ q .same) in
-    let z = rest-loads _ st u y g (p .entries) q (w .0 .form .long) (p .all) (p .last) (p .behind) (rw i at n) in
+    let z = rest-loads u y g (p .entries) q (w .0 .form .long) (p .all) (p .last) (p .behind) (rw i at n) in
     (i, z .0, z .1)
 
 -- the lines of a whole file

@@ -8,19 +8,18 @@ use lib.ListN.{length, take, drop, getD}
 use lib.Seq.{sets}
 use lib.Dec.{eqb, leb, ltb}
 use Rattle.bytes.specs.Bytes.{indexOf}
-use Rattle.wire.specs.Codec.{Read, whole, more, refused, Codec, byte, guard, seq, as-type, all}
-use Rattle.wire.specs.Field.{bigEndian}
+use Rattle.wire.specs.Codec.{Read, whole, more, refused, Codec}
 use Rattle.wire.specs.Write.{Sent, written, kept}
 use Rattle.map.specs.State.{Entry, State}
 use Rattle.table.specs.Memory.{size, entry, stateOf, Sound}
 use Rattle.table.specs.Change.{Changed, started, restored}
 use Rattle.hex.specs.Hex.{fromHex}
-use Rattle.stored.specs.File.{Form, formByte, entryLine, headLine, line, file, Stores}
+use Rattle.stored.specs.File.{Form, entryLine, headLine, line, file, Stores}
 use Rattle.stored.specs.declared.Loading.{Loading}
 
 -- line i of a stored file with its line end: the first line, then those of the entries; behind the last there is none
 unfoldable pub lineAt : Form → State → ℕ → List ℕ
-lineAt f st zero = line (headLine f (st .last))
+lineAt f st zero = line (headLine f .enc (st .last))
 lineAt f st (suc k) = cond (ltb k (length (st .entries))) (line (entryLine f .enc (getD (st .entries) k (entry [] [] 0 0)))) []
 
 -- bytes written at a place, and the place behind them; where there is no room for them, the same place and the same list
@@ -35,10 +34,6 @@ sent bs old = cond (leb (length bs) (length old)) (written (length bs), bs ++ dr
 pub record Storing (f : Form) (t old : List ℕ) (r : Sent) (new : List ℕ) : Type 0 where
   pub sound : Sound t → (r, new) ≡ sent (file f (stateOf t)) old
   pub unsound : (Sound t → ⊥) → _≡_ {A = Sent × List ℕ} (r, new) (kept 13, old)
-
--- the first line as a format
-unfoldable pub head : Form → Codec ℕ
-head f = as-type all (λ p. p .1) (λ n. (formByte f, n)) (seq (guard (λ b. eqb b (formByte f)) 17 byte) (λ _. bigEndian 8))
 
 -- a value that takes all the bytes
 abbrev pub exactly : {A : Type 0} → ℕ → Read A → Option A
@@ -64,7 +59,7 @@ restoreTo t none = none
 restoreTo t (some e) = restored (e .key) (e .value) (e .version) (e .deadline) t
 
 unfoldable pub headLoaded : Form → List ℕ → List ℕ → Option State
-headLoaded f s t = startWith t (readLine (head f) s)
+headLoaded f s t = startWith t (readLine (headLine f) s)
 
 unfoldable pub lineLoaded : Form → List ℕ → List ℕ → Option State
 lineLoaded f s t = restoreTo t (readLine (entryLine f) s)

@@ -3,7 +3,8 @@
 use mathlib.Core.Path.{_≡_}
 use mathlib.Core.List.{List, [], _∷_, _++_}
 use Prim.Native.Nat.{ℕ}
-use Rattle.wire.specs.Codec.{Codec, seq, as-type, all}
+use lib.Dec.{eqb}
+use Rattle.wire.specs.Codec.{Codec, byte, guard, seq, as-type, all}
 use Rattle.wire.specs.Field.{bigEndian, limited}
 use Rattle.message.specs.Request.{keyLimit, valueLimit}
 use Rattle.map.specs.State.{Entry, State}
@@ -31,8 +32,9 @@ fromEntry e = (e .version, (e .deadline, (e .key, e .value)))
 unfoldable pub entryLine : Form → Codec Entry
 entryLine form1 = as-type all toEntry fromEntry (seq (bigEndian 8) λ _. seq (bigEndian 8) λ _. seq (limited keyLimit) λ _. limited valueLimit)
 
-unfoldable pub headLine : Form → ℕ → List ℕ
-headLine f last = formByte f ∷ bigEndian 8 .enc last
+-- the bytes of the first line
+unfoldable pub headLine : Form → Codec ℕ
+headLine f = as-type all (λ p. p .1) (λ n. (formByte f, n)) (seq (guard (λ b. eqb b (formByte f)) 17 byte) (λ _. bigEndian 8))
 
 -- a line of digits with its line end: "In all files a line end is the one byte 0A. Every line of a stored file has one."
 unfoldable pub line : List ℕ → List ℕ
@@ -43,7 +45,7 @@ entryLines f [] = []
 entryLines f (e ∷ es) = line (entryLine f .enc e) ++ entryLines f es
 
 unfoldable pub file : Form → State → List ℕ
-file f st = line (headLine f (st .last)) ++ entryLines f (st .entries)
+file f st = line (headLine f .enc (st .last)) ++ entryLines f (st .entries)
 
 -- "Reading accepts exactly what writing a table can give."
 pub record Stores (f : Form) (bytes : List ℕ) (st : State) : Type 0 where

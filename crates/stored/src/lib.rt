@@ -71,11 +71,11 @@ fn write_file(t: &[u8], out: &mut [u8]) -> usize
     ensures { λ r. ⌜ (r ≡ length (file form1 (stateOf (now (t .entry))))) × (now (out .exit) ≡ sets (now (out .entry)) 0 (file form1 (stateOf (now (t .entry))))) ⌝ }
 {
     let n = table::count(t);
-    let mut at = store_line(t, 0, out, 0);
+    let mut at = 0;
     let mut i = 0;
-    while i < n {
-        i += 1;
+    while i <= n {
         at = store_line(t, i, out, at);
+        i += 1;
     }
     at
 }
@@ -93,36 +93,32 @@ pub fn store(t: &[u8], out: &mut [u8]) -> Sent
     Sent::Written(write_file(t, out))
 }
 
-// Starts the table in t with the first line of a stored file, without its line end. Any other line leaves t as it was.
-pub fn load_head(line: &[u8], t: &mut [u8]) -> bool
-    ensures { λ r. ⌜ (r ≡ isSome (headLoaded form1 (now (line .entry)) (now (t .entry)))) × Left (now (t .entry)) (headLoaded form1 (now (line .entry)) (now (t .entry))) (now (t .exit)) ⌝ }
+// Loads a line, without its line end: the first line of a file where none is loaded yet, else an entry's line.
+fn load_next(line: &[u8], t: &mut [u8], begun: bool) -> bool
+    ensures { λ r. ⌜ (r ≡ isSome (loaded form1 begun (now (line .entry)) (now (t .entry)))) × Left (now (t .entry)) (loaded form1 begun (now (line .entry)) (now (t .entry))) (now (t .exit)) ⌝ }
 {
     let mut room = lines::room();
     let Decoded::Bytes(n) = hex::decode(line, &mut room) else {
         return false;
     };
+    if begun {
+        return lines::restore(&room[0..n], t);
+    }
     lines::start(&room[0..n], t)
+}
+
+// Starts the table in t with the first line of a stored file, without its line end. Any other line leaves t as it was.
+pub fn load_head(line: &[u8], t: &mut [u8]) -> bool
+    ensures { λ r. ⌜ (r ≡ isSome (headLoaded form1 (now (line .entry)) (now (t .entry)))) × Left (now (t .entry)) (headLoaded form1 (now (line .entry)) (now (t .entry))) (now (t .exit)) ⌝ }
+{
+    load_next(line, t, false)
 }
 
 // Adds the entry of a line, without its line end, to the table in t. A line of none, or of one that can't stand there, leaves t as it was.
 pub fn load_line(line: &[u8], t: &mut [u8]) -> bool
     ensures { λ r. ⌜ (r ≡ isSome (lineLoaded form1 (now (line .entry)) (now (t .entry)))) × Left (now (t .entry)) (lineLoaded form1 (now (line .entry)) (now (t .entry))) (now (t .exit)) ⌝ }
 {
-    let mut room = lines::room();
-    let Decoded::Bytes(n) = hex::decode(line, &mut room) else {
-        return false;
-    };
-    lines::restore(&room[0..n], t)
-}
-
-// Loads a line, without its line end: the first line of a file where none is loaded yet, else an entry's line.
-fn load_next(line: &[u8], t: &mut [u8], begun: bool) -> bool
-    ensures { λ r. ⌜ (r ≡ isSome (loaded form1 begun (now (line .entry)) (now (t .entry)))) × Left (now (t .entry)) (loaded form1 begun (now (line .entry)) (now (t .entry))) (now (t .exit)) ⌝ }
-{
-    if begun {
-        return load_line(line, t);
-    }
-    load_head(line, t)
+    load_next(line, t, true)
 }
 
 // Loads the whole lines of a piece of a stored file into the table in t, up to the first that is not good. begun: the first line of the file

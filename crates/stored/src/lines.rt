@@ -15,8 +15,8 @@ ghost use Rattle.wire.specs.Write.{Wrote};
 ghost use Rattle.table.specs.Memory.{stateOf};
 ghost use Rattle.table.specs.Found.{entryAt};
 ghost use Rattle.table.specs.Change.{Left, isSome};
-ghost use Rattle.stored.specs.File.{form1, entryLine, line};
-ghost use Rattle.stored.specs.Answer.{laid, head, exactly, startWith, restoreTo};
+ghost use Rattle.stored.specs.File.{form1, entryLine, headLine, line};
+ghost use Rattle.stored.specs.Answer.{laid, exactly, startWith, restoreTo};
 
 // Room for the bytes of a line.
 pub(crate) fn room() -> [u8; 339]
@@ -28,7 +28,7 @@ pub(crate) fn room() -> [u8; 339]
 // Writes the bytes of the first line.
 pub(crate) fn write_head(t: &[u8], out: &mut [u8]) -> usize
     requires { ⌜ length (now out) ≡ 339 ⌝ }
-    ensures { λ r. ⌜ Wrote (head form1) (stateOf (now (t .entry)) .last) (now (out .entry)) (now (out .exit)) 0 r ⌝ }
+    ensures { λ r. ⌜ Wrote (headLine form1) (stateOf (now (t .entry)) .last) (now (out .entry)) (now (out .exit)) 0 r ⌝ }
 {
     let a = put::put_byte(out, 0, Line::FORM);
     put::put_version(out, a, table::last(t))
@@ -72,7 +72,7 @@ pub(crate) fn put_line(s: &[u8], out: &mut [u8], at: usize) -> usize
 
 // Starts the table with the last version that the bytes of a first line say.
 pub(crate) fn start(s: &[u8], t: &mut [u8]) -> bool
-    ensures { λ r. ⌜ (r ≡ isSome (startWith (now (t .entry)) (exactly (length (now (s .entry))) (head form1 .dec (now (s .entry)))))) × Left (now (t .entry)) (startWith (now (t .entry)) (exactly (length (now (s .entry))) (head form1 .dec (now (s .entry))))) (now (t .exit)) ⌝ }
+    ensures { λ r. ⌜ (r ≡ isSome (startWith (now (t .entry)) (exactly (length (now (s .entry))) (headLine form1 .dec (now (s .entry)))))) × Left (now (t .entry)) (startWith (now (t .entry)) (exactly (length (now (s .entry))) (headLine form1 .dec (now (s .entry))))) (now (t .exit)) ⌝ }
 {
     let a = field::read_byte(s, Cursor { at: 0 });
     let ByteRead::Whole(form, at1) = a else {

@@ -5,13 +5,13 @@ use native.Mathlib.Omega.{arith}
 use lib.ListN.{length, length-append}
 use Rattle.table.specs.Found.{entryAt}
 use Rattle.stored.specs.File.{form1, entryLine, line}
-use Rattle.stored.proofs.FileLaws.{few, some, some-none, some-next, some-all, file-length}
+use Rattle.stored.proofs.FileLaws.{few, front, front-head, front-entry, front-all}
 use borrow.Author.Needs.{needs}
 use Rattle.stored.proofs.file_len.Statement.{statement}
 use Rattle.stored.proofs.file_len.Tie as tie
 
 abbrev Inv-loop : tie.InvT-loop
-Inv-loop t n sum₀ i₀ sum i = (i ≤ n) × (sum ≡ 19 + length (some form1 t i)) × (sum ≤ 19 + 679 * i)
+Inv-loop t n sum₀ i₀ sum i = (i ≤ n) × (sum ≡ length (front form1 t (i + 1))) × (sum ≤ 19 + 679 * i)
 
 abbrev μ-loop : tie.MeasureT-loop
 μ-loop t n sum₀ i₀ sum i = n - i
@@ -20,7 +20,7 @@ count-requires : tie.Need-count-requires Inv-loop μ-loop
 count-requires c κs = search needs
 
 loop-holds : tie.Need-loop-holds Inv-loop μ-loop
-loop-holds c = (omega arith, omega (arith, ap length (some-none form1 (c .before .before .args .t .now))), omega arith)
+loop-holds c = (omega arith, omega (arith, front-head form1 (c .before .before .args .t .now)), omega arith)
 
 entry-len-requires : tie.Need-entry-len-requires Inv-loop μ-loop
 entry-len-requires c κs = search needs
@@ -37,11 +37,11 @@ loop-less c = search needs
 loop-again : tie.Need-loop-again Inv-loop μ-loop
 loop-again c = let l = c .before .before .loop in
     let t = c .before .before .before .before .before .args .t .now in
-    (omega arith, omega (arith, ap length (some-next form1 t (l .i) (omega arith)), length-append (some form1 t (l .i)) (line (entryLine form1 .enc (entryAt t (l .i))))), omega arith)
+    (omega arith, omega (arith, ap length (front-entry form1 t (l .i) (omega arith)), length-append (front form1 t (l .i + 1)) (line (entryLine form1 .enc (entryAt t (l .i))))), omega arith)
 
 returns : tie.Need-returns Inv-loop μ-loop
 returns c = let t = c .before .before .before .before .args .t .now in
-    omega (arith, file-length form1 t, ap length (some-all form1 t (c .before .loop .i) (omega arith)))
+    omega (arith, ap length (front-all form1 t (c .before .loop .i + 1) (omega arith)))
 
 pub file-len-spec : {M : Type 1} → statement M
 file-len-spec =

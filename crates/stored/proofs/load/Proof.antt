@@ -1,9 +1,8 @@
 -- `stored::load` meets its contract. Assumes nothing.
-use mathlib.Core.Path.{_≡_, refl, sym, _∙_}
+use mathlib.Core.Path.{refl, sym, _∙_}
 use mathlib.Core.Logic.{⊎-elim}
 use native.Mathlib.Omega.{arith}
 use borrow.Author.Tests.{not-true, not-false, eqb-true, eqb-false}
-use mathlib.Core.Bool.{true, false}
 use Rattle.wire.proofs.Laws.{never}
 use Rattle.stored.proofs.WholeLaws.{loaded-no, loaded-yes, whole-stores}
 use borrow.Author.Needs.{needs}

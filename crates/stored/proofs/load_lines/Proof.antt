@@ -1,11 +1,11 @@
 -- `stored::load_lines` meets its contract: between two lines, those before the place are loaded. Assumes nothing.
-use mathlib.Core.Path.{_≡_, refl, sym, _∙_}
+use mathlib.Core.Path.{sym, _∙_}
 use Prim.Native.Nat.{_-_, _≤_}
 use native.Mathlib.Omega.{arith}
 use lib.ListN.{length, take}
 use borrow.Author.Tests.{not-true, not-false}
 use Rattle.stored.specs.File.{form1}
-use Rattle.stored.specs.Answer.{loaded, Loads, no-line, a-line}
+use Rattle.stored.specs.Answer.{Loads, no-line}
 use Rattle.stored.proofs.WholeLaws.{loads-long, none-left, bad-next, good-next}
 use borrow.Author.Needs.{needs}
 use Rattle.stored.proofs.load_lines.Statement.{statement}

@@ -7,8 +7,8 @@ use lib.ListN.{take, drop}
 use Rattle.wire.specs.Codec.{Bytes}
 use Rattle.table.specs.Memory.{stateOf}
 use Rattle.table.specs.Found.{entryAt}
-use Rattle.stored.specs.File.{form1, entryLine, line}
-use Rattle.stored.specs.Answer.{lineAt, head}
+use Rattle.stored.specs.File.{form1, entryLine, headLine, line}
+use Rattle.stored.specs.Answer.{lineAt}
 use Rattle.stored.proofs.LineLaws.{head-most, head-good, entry-most}
 use Rattle.stored.proofs.StoreLaws.{line-head, line-entry, line-none, laid-none, held-good, last-small, wrote-front}
 use borrow.Author.Needs.{needs}
@@ -19,9 +19,9 @@ bytes : (c : tie.After-shared-slice-known) → Bytes (c .before .args .t .now)
 bytes c i = omega (arith, c .shared-slice-known .given i)
 
 head-front : (c : tie.After-write-head) → (take (c .write-head .result - 0) (drop 0 (c .write-head .last .1 .0))
-    ≡ head form1 .enc (stateOf (c .before .before .before .before .before .before .args .t .now) .last)) × (c .write-head .result ≤ 9)
+    ≡ headLine form1 .enc (stateOf (c .before .before .before .before .before .before .args .t .now) .last)) × (c .write-head .result ≤ 9)
 head-front c = let k = c .before .before .before .before .before in
-    wrote-front (head form1) 9 (head-most form1) (head-good form1 _ (last-small (k .before .args .t .now) (bytes k))) (omega arith) (c .write-head .ensures)
+    wrote-front (headLine form1) 9 (head-most form1) (head-good form1 _ (last-small (k .before .args .t .now) (bytes k))) (omega arith) (c .write-head .ensures)
 
 entry-front : (c : tie.After-write-entry) → let s = c .before .before .before .before .before .before .before .before .args in
     (take (c .write-entry .result - 0) (drop 0 (c .write-entry .last .1 .1 .0)) ≡ entryLine form1 .enc (entryAt (s .t .now) (s .i - 1)))

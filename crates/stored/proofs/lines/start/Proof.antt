@@ -5,8 +5,8 @@ use lib.ListN.{length}
 use borrow.Author.Tests.{eq-eqb, ne-eqb}
 use Rattle.wire.specs.Codec.{whole, more, byte, readAt}
 use Rattle.wire.specs.Field.{bigEndian}
-use Rattle.stored.specs.File.{form1}
-use Rattle.stored.specs.Answer.{head, exactly}
+use Rattle.stored.specs.File.{form1, headLine}
+use Rattle.stored.specs.Answer.{exactly}
 use Rattle.stored.proofs.LoadLaws.{head-at}
 use borrow.Author.Needs.{needs}
 use Rattle.stored.proofs.lines.start.Statement.{statement}
@@ -34,13 +34,13 @@ returns : tie.Need-returns
 returns c = let b = c .before .before in
     let s = b .before .before .before .args .s .now in
     let e : readAt byte s 0 ≡ more = sym (b .read-byte .ensures) ∙ rw (c .enum-told .given .1) in
-    let n : exactly (length s) (head form1 .dec s) ≡ none = rw (head-at, e) in
+    let n : exactly (length s) (headLine form1 .dec s) ≡ none = rw (head-at, e) in
     rw n (refl, refl)
 
 returns-2 : tie.Need-returns-2
 returns-2 c = let a = c .before in
     let s = a .before .before .before .before .before .before .args .s .now in
-    let n : exactly (length s) (head form1 .dec s) ≡ none = rw (head-at, form a, ne-eqb _ _ (c .if1 .taken)) in
+    let n : exactly (length s) (headLine form1 .dec s) ≡ none = rw (head-at, form a, ne-eqb _ _ (c .if1 .taken)) in
     rw n (refl, refl)
 
 read-version-requires : tie.Need-read-version-requires
@@ -57,14 +57,14 @@ returns-3 c = let b = c .before .before in
     let a = b .before .before in
     let s = a .before .before .before .before .before .before .args .s .now in
     let e : readAt (bigEndian 8) s (a .before .a .given .0 .1 .0 .at) ≡ more = sym (b .read-version .ensures) ∙ rw (c .enum-told2 .given .1) in
-    let n : exactly (length s) (head form1 .dec s) ≡ none = rw (head-at, form a, eq-eqb _ _ (b .before .if1 .left), e) in
+    let n : exactly (length s) (headLine form1 .dec s) ≡ none = rw (head-at, form a, eq-eqb _ _ (b .before .if1 .left), e) in
     rw n (refl, refl)
 
 returns-4 : tie.Need-returns-4
 returns-4 c = let b = c .before .before in
     let a = b .before .before .before .before .before in
     let s = a .before .before .before .before .before .before .args .s .now in
-    let n : exactly (length s) (head form1 .dec s) ≡ none =
+    let n : exactly (length s) (headLine form1 .dec s) ≡ none =
     rw (head-at, form a, eq-eqb _ _ (b .before .before .before .before .if1 .left), last b, ne-eqb _ _ (c .if2 .taken)) in
     rw n (refl, refl)
 
@@ -79,7 +79,7 @@ returns-5 c = let g = c .before .before .before .before in
     let b = g .before .before in
     let a = b .before .before .before .before .before in
     let s = a .before .before .before .before .before .before .args .s .now in
-    let n : exactly (length s) (head form1 .dec s) ≡ some (b .before .b .given .0 .0 .0) =
+    let n : exactly (length s) (headLine form1 .dec s) ≡ some (b .before .b .given .0 .0 .0) =
     rw (head-at, form a, eq-eqb _ _ (b .before .before .before .before .if1 .left), last b, eq-eqb _ _ (g .if2 .left)) in
     rw n (c .before .before .start .ensures)
 

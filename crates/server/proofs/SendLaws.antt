@@ -43,10 +43,10 @@ use Rattle.reply.proofs.body.Form as form-code
 use Rattle.reply.proofs.BodyLaws.{code-small}
 use Rattle.stream.specs.Serve as stream
 use Rattle.stream.specs.Serve.{room, errorPieces}
+use Rattle.plan.specs.declared.Held.{Held}
+use Rattle.plan.specs.Plan.{heldAt}
 use Rattle.server.specs.declared.Answer.{Answer}
-use Rattle.server.specs.declared.plan.Held.{Held}
 use Rattle.server.specs.Answer.{Says, Sends}
-use Rattle.server.specs.Plan.{heldAt}
 use Rattle.server.specs.Act.{valueShown, entryShown, Planned}
 
 pub count : {m n : ℕ} → written m ≡ written n → m ≡ n

@@ -17,10 +17,10 @@ use Rattle.reply.specs.declared.body.Form.the-variants as f
 use Rattle.table.specs.Memory.{stateOf, Sound}
 use Rattle.stream.specs.Serve.{room, served, onStep}
 use Rattle.stream.specs.Stream.{Done, Does}
+use Rattle.plan.specs.declared.Held.{Held}
+use Rattle.plan.specs.Plan.{Holds}
 use Rattle.server.specs.declared.Answer.{Answer}
-use Rattle.server.specs.declared.plan.Held.{Held}
 use Rattle.server.specs.Answer.{Sends}
-use Rattle.server.specs.Plan.{Holds}
 
 abbrev pub at : ℕ → Context
 at second = record { second = second }

@@ -1,14 +1,13 @@
 // Serving a request on a table that is sound, with room for any reply.
 use crate::Answer;
 use crate::Verdict;
-use crate::plan;
-use crate::plan::Change;
-use crate::plan::Held;
 use field::EntryVersion;
 use field::Second;
 use message::Head;
 use message::Request;
 use message::Sent;
+use plan::Change;
+use plan::Held;
 use reply::body;
 use reply::body::Form;
 use request::RequestRead;
@@ -30,8 +29,8 @@ ghost use Rattle.table.specs.Change as table;
 ghost use Rattle.stream.specs.Sound.{isSound};
 ghost use Rattle.stream.specs.Serve as stream;
 ghost use Rattle.stream.specs.Stream.{Serves};
+ghost use Rattle.plan.specs.Plan.{Holds, heldAt};
 ghost use Rattle.server.specs.Answer.{asVerdict, callOf, doneOf, Says, Sends};
-ghost use Rattle.server.specs.Plan.{Holds, heldAt};
 ghost use Rattle.server.specs.Act.{at, valueShown, entryShown, less, Planned, Given, Acts, Replies, Performs};
 
 // Nothing taken and nothing sent.

@@ -9,9 +9,9 @@ use Rattle.map.specs.Step.{Change, Plan}
 use Rattle.table.specs.Found.{entryAt, FoundIs}
 use Rattle.table.specs.declared.Found.the-variants as f
 use Rattle.table.proofs.Keys.{found-held, found-none}
-use Rattle.server.specs.declared.plan.Held.{Held}
-use Rattle.server.specs.declared.plan.Held.the-variants as h
-use Rattle.server.specs.Plan.{Holds, heldAt, ifHeld, ifSame}
+use Rattle.plan.specs.declared.Held.{Held}
+use Rattle.plan.specs.declared.Held.the-variants as h
+use Rattle.plan.specs.Plan.{Holds, heldAt, ifHeld, ifSame}
 
 module _ (t k : List ℕ) {x : Held} where
   pub row-found : {i : ℕ} {v : EntryVersion} → x ≡ h.Row i v → Holds t k x → FoundIs t k (f.At i) × (v .0 ≡ entryAt t i .version)

@@ -1,9 +1,9 @@
--- `server::plan::if_same` meets its contract: the version of the row held is that of the entry found. Assumes nothing.
+-- `plan::if_same` meets its contract: the version of the row held is that of the entry found. Assumes nothing.
 use borrow.Author.Tests.{eq-eqb, ne-eqb}
-use Rattle.server.proofs.PlanLaws.{row-found, row-held, none-held}
+use Rattle.plan.proofs.PlanLaws.{row-found, row-held, none-held}
 use borrow.Author.Needs.{needs}
-use Rattle.server.proofs.plan.if_same.Statement.{statement}
-use Rattle.server.proofs.plan.if_same.Tie as tie
+use Rattle.plan.proofs.if_same.Statement.{statement}
+use Rattle.plan.proofs.if_same.Tie as tie
 
 returns : tie.Need-returns
 returns c t k h =

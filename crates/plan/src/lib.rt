@@ -6,29 +6,29 @@ ghost use mathlib.Core.Path.{_≡_};
 ghost use mathlib.Core.List.{List};
 ghost use Prim.Native.Nat.{ℕ};
 ghost use Rattle.map.specs.Step as map;
-ghost use Rattle.server.specs.Plan.{asPlan, asChange, Holds, heldAt, ifHeld, ifSame};
+ghost use Rattle.plan.specs.Plan.{asPlan, asChange, Holds, heldAt, ifHeld, ifSame};
 
 // The row that has the key, with the version of its entry, or that none has it.
-pub(crate) enum Held {
+pub enum Held {
     Row(usize, EntryVersion),
     Absent,
 }
 
 // What becomes of the entries.
-pub(crate) enum Change {
+pub enum Change {
     Keep,
     Store,
     Drop,
     Empty,
 }
 
-pub(crate) struct Plan {
+pub struct Plan {
     pub status: u8,
     pub change: Change,
 }
 
 // The row that has the key, with its version.
-pub(crate) fn held_in(t: &[u8], key: &[u8]) -> Held
+pub fn held_in(t: &[u8], key: &[u8]) -> Held
     ensures { λ r. ⌜ Holds (now (t .entry)) (now (key .entry)) r ⌝ }
 {
     let f = table::find(t, key);
@@ -74,7 +74,7 @@ fn if_same(held: Held, asked: EntryVersion, change: Change) -> Plan
 }
 
 // The reply table: the status, and what becomes of the entries.
-pub(crate) fn plan_of(op: Operation, asked: EntryVersion, held: Held) -> Plan
+pub fn plan_of(op: Operation, asked: EntryVersion, held: Held) -> Plan
     ensures { λ r. ⌜ ((t k : List ℕ) → Holds t k held → asPlan r ≡ map.plan op (asked .0) (heldAt t k)) ⌝ }
 {
     let stored = planned(0x00, Change::Store);

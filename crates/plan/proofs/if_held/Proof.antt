@@ -1,8 +1,8 @@
--- `server::plan::if_held` meets its contract: what is held is what the map finds. Assumes nothing.
-use Rattle.server.proofs.PlanLaws.{row-held, none-held}
+-- `plan::if_held` meets its contract: what is held is what the map finds. Assumes nothing.
+use Rattle.plan.proofs.PlanLaws.{row-held, none-held}
 use borrow.Author.Needs.{needs}
-use Rattle.server.proofs.plan.if_held.Statement.{statement}
-use Rattle.server.proofs.plan.if_held.Tie as tie
+use Rattle.plan.proofs.if_held.Statement.{statement}
+use Rattle.plan.proofs.if_held.Tie as tie
 
 returns : tie.Need-returns
 returns c t k h = rw (row-held t k (c .enum-told .given .1) h)

@@ -1,7 +1,7 @@
--- `server::plan::held_in` meets its contract. Assumes nothing.
+-- `plan::held_in` meets its contract. Assumes nothing.
 use borrow.Author.Needs.{needs}
-use Rattle.server.proofs.plan.held_in.Statement.{statement}
-use Rattle.server.proofs.plan.held_in.Tie as tie
+use Rattle.plan.proofs.held_in.Statement.{statement}
+use Rattle.plan.proofs.held_in.Tie as tie
 
 returns : tie.Need-returns
 returns c =

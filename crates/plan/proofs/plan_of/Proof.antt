@@ -1,12 +1,12 @@
--- `server::plan::plan_of` meets its contract: each arm is a row of the map's plan. Assumes nothing.
+-- `plan::plan_of` meets its contract: each arm is a row of the map's plan. Assumes nothing.
 use mathlib.Core.Path.{refl, _∙_}
 use Rattle.message.specs.declared.Operation.the-variants as o
 use Rattle.map.specs.Step as map
-use Rattle.server.specs.Plan.{heldAt}
-use Rattle.server.proofs.PlanLaws.{held-plan, any-plan, same-plan}
+use Rattle.plan.specs.Plan.{heldAt}
+use Rattle.plan.proofs.PlanLaws.{held-plan, any-plan, same-plan}
 use borrow.Author.Needs.{needs}
-use Rattle.server.proofs.plan.plan_of.Statement.{statement}
-use Rattle.server.proofs.plan.plan_of.Tie as tie
+use Rattle.plan.proofs.plan_of.Statement.{statement}
+use Rattle.plan.proofs.plan_of.Tie as tie
 
 returns : tie.Need-returns
 unfolding map.plan

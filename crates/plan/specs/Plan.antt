@@ -10,11 +10,11 @@ use Rattle.map.specs.Step as map
 use Rattle.table.specs.Memory.{stateOf}
 use Rattle.table.specs.Found.{entryAt, FoundIs}
 use Rattle.table.specs.declared.Found.the-variants as f
-use Rattle.server.specs.declared.plan.Held.{Held}
-use Rattle.server.specs.declared.plan.Held.the-variants as h
-use Rattle.server.specs.declared.plan.Change.{Change}
-use Rattle.server.specs.declared.plan.Change.the-variants as c
-use Rattle.server.specs.declared.plan.Plan.{Plan}
+use Rattle.plan.specs.declared.Held.{Held}
+use Rattle.plan.specs.declared.Held.the-variants as h
+use Rattle.plan.specs.declared.Change.{Change}
+use Rattle.plan.specs.declared.Change.the-variants as c
+use Rattle.plan.specs.declared.Plan.{Plan}
 
 abbrev pub asChange : Change → map.Change
 asChange c.Keep = map.keep

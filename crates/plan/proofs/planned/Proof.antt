@@ -1,8 +1,8 @@
--- `server::plan::planned` meets its contract. Assumes nothing.
+-- `plan::planned` meets its contract. Assumes nothing.
 use mathlib.Core.Path.{refl}
 use Rattle.map.specs.Step as map
-use Rattle.server.proofs.plan.planned.Statement.{statement}
-use Rattle.server.proofs.plan.planned.Tie as tie
+use Rattle.plan.proofs.planned.Statement.{statement}
+use Rattle.plan.proofs.planned.Tie as tie
 
 returns : tie.Need-returns
 unfolding map.plans

@@ -19,7 +19,7 @@ use Rattle.text.specs.Text.{isText}
 use Rattle.field.specs.Answer.{limitedText}
 use Rattle.message.specs.Request.{isEmpty, valueLimit}
 use Rattle.message.specs.Reply.{Reply, Body, Payload, payload, noEntry, noValue, noText, textLimit, noBody, valueBody, versionedBody, textBody, bodyAt, isAllowed, allowed, bodyOf, toReply, fromReply, fields, message}
-use Rattle.reply.specs.Body.{framed}
+use Rattle.reply.specs.Frame.{framed}
 
 pub is-empty : (s : List ℕ) → eqb (length s) 0 ≡ isEmpty s
 is-empty [] = refl

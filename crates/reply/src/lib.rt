@@ -1,14 +1,13 @@
 // The reader and the writers of a reply, for any bytes, operation and flag.
-pub mod body;
 mod read;
 mod write;
 
-use body::Form;
 use field::EntryVersion;
 use message::Answer;
 use message::Found;
 use message::Reply;
 use message::Sent;
+use reply_body::Form;
 ghost use mathlib.Core.Path.{_≡_};
 ghost use Prim.Native.Nat.{_≤_};
 ghost use Rattle.wire.specs.Write.{send};
@@ -43,14 +42,14 @@ pub fn write_reply(out: &mut [u8], op: u8, flag: bool, a: Answer, value: &[u8], 
     let Found::Known(o) = found else {
         return Sent::Refused(16);
     };
-    if !body::is_awaited(o, a.op) {
+    if !reply_body::is_awaited(o, a.op) {
         return Sent::Refused(16);
     }
-    let b = body::body_at(o, a.op, a.status);
-    if !body::is_allowed(b) {
+    let b = reply_body::body_at(o, a.op, a.status);
+    if !reply_body::is_allowed(b) {
         return Sent::Refused(16);
     }
-    write::write_message(out, a, body::form_of(flag, b), value, text)
+    write::write_message(out, a, reply_body::form_of(flag, b), value, text)
 }
 
 // The error reply of a refusal, whatever was asked.

@@ -1,10 +1,10 @@
 // The writer of a reply whose operation and status were judged: it judges the rest, then measures, and then writes.
-use crate::body::Form;
 use field::Kind;
 use field::put;
 use message::Answer;
 use message::Reply;
 use message::Sent;
+use reply_body::Form;
 ghost use mathlib.Core.Path.{_≡_};
 ghost use mathlib.Core.Bool.{_&&_};
 ghost use Prim.Native.Nat.{_+_, _≤_};
@@ -17,7 +17,8 @@ ghost use Rattle.field.specs.Answer.{limitedText};
 ghost use Rattle.message.specs.Answer.{asSent};
 ghost use Rattle.message.specs.Request.{isEmpty};
 ghost use Rattle.message.specs.Reply.{replyOf};
-ghost use Rattle.reply.specs.Body.{fieldsOf, framed, payloadOf};
+ghost use Rattle.reply_body.specs.Body.{fieldsOf};
+ghost use Rattle.reply.specs.Frame.{framed, payloadOf};
 
 // Is a number 0, and are there no bytes?
 fn is_absent(v: u64, s: &[u8]) -> bool

@@ -8,8 +8,7 @@ use message::Request;
 use message::Sent;
 use plan::Change;
 use plan::Held;
-use reply::body;
-use reply::body::Form;
+use reply_body::Form;
 use request::RequestRead;
 use table::Table;
 ghost use mathlib.Core.Path.{_≡_};
@@ -108,7 +107,7 @@ fn respond(out: &mut [u8], t: &[u8], h: Head, status: u8, held: Held, taken: usi
     let code = message::code(op);
     let flag = h.flags % 2 == 1;
     let awaited = code + 1;
-    let f = body::form_of(flag, body::body_at(op, awaited, status));
+    let f = reply_body::form_of(flag, reply_body::body_at(op, awaited, status));
     let a = message::Answer {
         id: h.id,
         op: awaited,

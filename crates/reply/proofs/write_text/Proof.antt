@@ -3,9 +3,9 @@ use mathlib.Core.Path.{refl, sym, ap, _∙_}
 use mathlib.Core.Bool.{false}
 use lib.Dec.{eqb}
 use Rattle.message.specs.Reply.{errorCode, errors, bodyOf, isAllowed, errorReply}
+use Rattle.reply_body.specs.Body.{fieldsOf}
+use Rattle.reply_body.proofs.BodyLaws.{error-text}
 use Rattle.reply.specs.Answer.{errorOf}
-use Rattle.reply.specs.Body.{fieldsOf}
-use Rattle.reply.proofs.BodyLaws.{error-text}
 use Rattle.reply.proofs.SendLaws.{send-framed}
 use borrow.Author.Needs.{needs}
 use Rattle.reply.proofs.write_text.Statement.{statement}

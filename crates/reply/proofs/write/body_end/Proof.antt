@@ -3,7 +3,8 @@ use native.Mathlib.Nat.{add-zero}
 use native.Mathlib.Omega.{arith}
 use Rattle.wire.specs.Codec.{empty, as-type}
 use Rattle.message.specs.Reply.{noBody}
-use Rattle.reply.specs.Body.{fieldsOf, payloadOf}
+use Rattle.reply_body.specs.Body.{fieldsOf}
+use Rattle.reply.specs.Frame.{payloadOf}
 use Rattle.reply.proofs.SendLaws.{value-size, versioned-size, text-size}
 use borrow.Author.Needs.{needs}
 use Rattle.reply.proofs.write.body_end.Statement.{statement}

@@ -1,7 +1,7 @@
 -- `reply::write::length_of` meets its contract. Assumes nothing.
 use native.Mathlib.Omega.{arith}
 use Rattle.message.specs.Reply.{replyOf}
-use Rattle.reply.specs.Body.{fieldsOf}
+use Rattle.reply_body.specs.Body.{fieldsOf}
 use Rattle.reply.proofs.SendLaws.{rules, framed-length}
 use borrow.Author.Needs.{needs}
 use Rattle.reply.proofs.write.length_of.Statement.{statement}

@@ -3,7 +3,8 @@ use mathlib.Core.Path.{refl, sym}
 use native.Mathlib.Nat.{add-zero}
 use Rattle.wire.specs.Codec.{empty, as-type}
 use Rattle.message.specs.Reply.{noBody}
-use Rattle.reply.specs.Body.{fieldsOf, payloadOf}
+use Rattle.reply_body.specs.Body.{fieldsOf}
+use Rattle.reply.specs.Frame.{payloadOf}
 use Rattle.reply.proofs.SendLaws.{put-value, put-versioned, put-text}
 use borrow.Author.Needs.{needs}
 use Rattle.reply.proofs.write.put_body.Statement.{statement}

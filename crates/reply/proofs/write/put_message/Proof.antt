@@ -1,7 +1,7 @@
 -- `reply::write::put_message` meets its contract: a field after the other. Assumes nothing.
 use Rattle.wire.specs.Number.{vLong}
 use Rattle.message.specs.Reply.{replyOf}
-use Rattle.reply.specs.Body.{fieldsOf}
+use Rattle.reply_body.specs.Body.{fieldsOf}
 use Rattle.reply.proofs.SendLaws.{rules, headed}
 use borrow.Author.Needs.{needs}
 use Rattle.reply.proofs.write.put_message.Statement.{statement}

@@ -5,7 +5,8 @@ use borrow.Author.Tests.{not-true, not-false}
 use Rattle.wire.specs.Codec.{Valid}
 use Rattle.wire.proofs.WriteLaws.{send-broken, send-short, send-done}
 use Rattle.message.specs.Reply.{replyOf}
-use Rattle.reply.specs.Body.{fieldsOf, framed}
+use Rattle.reply_body.specs.Body.{fieldsOf}
+use Rattle.reply.specs.Frame.{framed}
 use borrow.Author.Needs.{needs}
 use Rattle.reply.proofs.write.write_message.Statement.{statement}
 use Rattle.reply.proofs.write.write_message.Tie as tie

@@ -1,9 +1,9 @@
--- `reply::body::body_at` meets its contract. Assumes nothing.
+-- `reply_body::body_at` meets its contract. Assumes nothing.
 use mathlib.Core.Path.{_∙_}
 use borrow.Author.Tests.{eq-eqb, ne-eqb}
 use borrow.Author.Needs.{needs}
-use Rattle.reply.proofs.body.body_at.Statement.{statement}
-use Rattle.reply.proofs.body.body_at.Tie as tie
+use Rattle.reply_body.proofs.body_at.Statement.{statement}
+use Rattle.reply_body.proofs.body_at.Tie as tie
 
 returns : tie.Need-returns
 returns c = c .in-errors .ensures ∙ rw (eq-eqb _ _ (c .before .if1 .taken))

@@ -1,8 +1,8 @@
--- `reply::body::in_errors` meets its contract. Assumes nothing.
+-- `reply_body::in_errors` meets its contract. Assumes nothing.
 use native.Mathlib.Omega.{arith}
-use Rattle.reply.proofs.BodyLaws.{error-text, error-none}
-use Rattle.reply.proofs.body.in_errors.Statement.{statement}
-use Rattle.reply.proofs.body.in_errors.Tie as tie
+use Rattle.reply_body.proofs.BodyLaws.{error-text, error-none}
+use Rattle.reply_body.proofs.in_errors.Statement.{statement}
+use Rattle.reply_body.proofs.in_errors.Tie as tie
 
 returns : tie.Need-returns
 returns c = error-none _ (λ k l h e. omega arith)

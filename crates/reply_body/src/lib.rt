@@ -6,7 +6,7 @@ ghost use mathlib.Core.Bool.{cond};
 ghost use mathlib.Core.Option.{none};
 ghost use lib.Dec.{eqb};
 ghost use Rattle.message.specs.Reply.{bodyAt, table, errors, rowsOf, isAwaited, isAllowed, allowed};
-ghost use Rattle.reply.specs.Body.{asBody, formOf, oldForm};
+ghost use Rattle.reply_body.specs.Body.{asBody, formOf, oldForm};
 
 // What a reply carries behind its marker.
 pub enum Body {

@@ -1,6 +1,6 @@
--- `reply::body::old` meets its contract. Assumes nothing.
-use Rattle.reply.proofs.body.old.Statement.{statement}
-use Rattle.reply.proofs.body.old.Tie as tie
+-- `reply_body::old` meets its contract. Assumes nothing.
+use Rattle.reply_body.proofs.old.Statement.{statement}
+use Rattle.reply_body.proofs.old.Tie as tie
 
 returns : tie.Need-returns
 returns c = rw (c .if1 .taken)

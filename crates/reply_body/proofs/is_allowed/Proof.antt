@@ -1,8 +1,8 @@
--- `reply::body::is_allowed` meets its contract. Assumes nothing.
-use Rattle.reply.proofs.BodyLaws.{is-listed}
+-- `reply_body::is_allowed` meets its contract. Assumes nothing.
+use Rattle.reply_body.proofs.BodyLaws.{is-listed}
 use borrow.Author.Needs.{needs}
-use Rattle.reply.proofs.body.is_allowed.Statement.{statement}
-use Rattle.reply.proofs.body.is_allowed.Tie as tie
+use Rattle.reply_body.proofs.is_allowed.Statement.{statement}
+use Rattle.reply_body.proofs.is_allowed.Tie as tie
 
 returns-2 : tie.Need-returns-2
 returns-2 c = is-listed (c .before .args .b) (c .match .keys2)

@@ -14,10 +14,10 @@ use Rattle.message.specs.declared.Operation.{Operation}
 use Rattle.message.specs.declared.Operation.the-variants.{Put, Get, PutIfAbsent, Replace, ReplaceIfUnmodified, Remove, RemoveIfUnmodified, ContainsKey, GetWithVersion, Clear, Ping}
 use Rattle.message.specs.Reply as m
 use Rattle.message.specs.Reply.{isAllowed, errors, bodyAt, bodyOf}
-use Rattle.reply.specs.Body.{asBody, formOf, fieldsOf}
-use Rattle.reply.specs.declared.body.Body.{Body}
-use Rattle.reply.specs.declared.body.Body.the-variants as b
-use Rattle.reply.proofs.body.Body as body
+use Rattle.reply_body.specs.Body.{asBody, formOf, fieldsOf}
+use Rattle.reply_body.specs.declared.Body.{Body}
+use Rattle.reply_body.specs.declared.Body.the-variants as b
+use Rattle.reply_body.proofs.Body as body
 
 same : (t : Bool) → _≡_ {A = Option m.Body} (cond t none none) none
 same true = refl

@@ -1,8 +1,8 @@
--- `reply::body::form_of` meets its contract. Assumes nothing.
+-- `reply_body::form_of` meets its contract. Assumes nothing.
 use mathlib.Core.Path.{_∙_}
 use borrow.Author.Needs.{needs}
-use Rattle.reply.proofs.body.form_of.Statement.{statement}
-use Rattle.reply.proofs.body.form_of.Tie as tie
+use Rattle.reply_body.proofs.form_of.Statement.{statement}
+use Rattle.reply_body.proofs.form_of.Tie as tie
 
 returns-2 : tie.Need-returns-2
 returns-2 c = c .old .ensures ∙ rw (c .before .enum-told2 .given .1)

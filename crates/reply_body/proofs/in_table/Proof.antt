@@ -1,12 +1,12 @@
--- `reply::body::in_table` meets its contract: each arm has the rows of its operation. Assumes nothing.
+-- `reply_body::in_table` meets its contract: each arm has the rows of its operation. Assumes nothing.
 use mathlib.Core.Path.{_∙_}
 use mathlib.Core.Option.{some}
 use Rattle.message.specs.Reply as m
 use Rattle.message.specs.Reply.{bodyAt}
-use Rattle.reply.proofs.BodyLaws.{row-0, rows-01, rows-02}
+use Rattle.reply_body.proofs.BodyLaws.{row-0, rows-01, rows-02}
 use borrow.Author.Needs.{needs}
-use Rattle.reply.proofs.body.in_table.Statement.{statement}
-use Rattle.reply.proofs.body.in_table.Tie as tie
+use Rattle.reply_body.proofs.in_table.Statement.{statement}
+use Rattle.reply_body.proofs.in_table.Tie as tie
 
 returns : tie.Need-returns
 unfolding bodyAt

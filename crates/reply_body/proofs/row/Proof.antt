@@ -1,7 +1,7 @@
--- `reply::body::row` meets its contract. Assumes nothing.
+-- `reply_body::row` meets its contract. Assumes nothing.
 use borrow.Author.Tests.{ne-eqb}
-use Rattle.reply.proofs.body.row.Statement.{statement}
-use Rattle.reply.proofs.body.row.Tie as tie
+use Rattle.reply_body.proofs.row.Statement.{statement}
+use Rattle.reply_body.proofs.row.Tie as tie
 
 returns : tie.Need-returns
 returns c = rw (c .match .keys1)

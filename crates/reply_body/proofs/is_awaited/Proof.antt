@@ -1,10 +1,10 @@
--- `reply::body::is_awaited` meets its contract. Assumes nothing.
+-- `reply_body::is_awaited` meets its contract. Assumes nothing.
 use native.Mathlib.Omega.{arith}
 use borrow.Author.Tests.{eq-eqb, ne-eqb}
-use Rattle.reply.proofs.BodyLaws.{code-small}
+use Rattle.reply_body.proofs.BodyLaws.{code-small}
 use borrow.Author.Needs.{needs}
-use Rattle.reply.proofs.body.is_awaited.Statement.{statement}
-use Rattle.reply.proofs.body.is_awaited.Tie as tie
+use Rattle.reply_body.proofs.is_awaited.Statement.{statement}
+use Rattle.reply_body.proofs.is_awaited.Tie as tie
 
 add-if1 : tie.Need-add-if1
 add-if1 c = omega (arith, c .code .ensures, code-small (c .before .args .o))

@@ -74,7 +74,7 @@ pub extern "C" fn fq_write_request(
         return 16;
     };
     let h = given::head(numbers, op);
-    tell::sent(request::write_request(out, h, name, key, value))
+    tell::sent(request_writer::write_request(out, h, name, key, value))
 }
 
 // Writes a reply at the front of `out`. Its numbers: id, operation, status and entry version.

@@ -1,7 +1,7 @@
--- `request::write::limits_of` meets its contract: the shape decides. Assumes nothing.
+-- `request_writer::write::limits_of` meets its contract: the shape decides. Assumes nothing.
 use borrow.Author.Needs.{needs}
-use Rattle.request.proofs.write.limits_of.Statement.{statement}
-use Rattle.request.proofs.write.limits_of.Tie as tie
+use Rattle.request_writer.proofs.write.limits_of.Statement.{statement}
+use Rattle.request_writer.proofs.write.limits_of.Tie as tie
 
 enum-told : tie.Need-enum-told
 enum-told c = search needs

@@ -1,13 +1,13 @@
--- `request::write::keeps_rules` meets its contract: each way out breaks a rule, but for the last. Assumes nothing.
+-- `request_writer::write::keeps_rules` meets its contract: each way out breaks a rule, but for the last. Assumes nothing.
 use mathlib.Core.Path.{_≡_, sym, _∙_}
 use mathlib.Core.Bool.{true, false}
 use native.Mathlib.Omega.{arith}
 use borrow.Author.Tests.{not-true, not-false}
 use Rattle.wire.proofs.Laws.{never}
-use Rattle.request.proofs.Rules.{broken, last}
+use Rattle.request_writer.proofs.Rules.{broken, last}
 use borrow.Author.Needs.{needs}
-use Rattle.request.proofs.write.keeps_rules.Statement.{statement}
-use Rattle.request.proofs.write.keeps_rules.Tie as tie
+use Rattle.request_writer.proofs.write.keeps_rules.Statement.{statement}
+use Rattle.request_writer.proofs.write.keeps_rules.Tie as tie
 
 returns : tie.Need-returns
 returns c = broken _ (λ r. omega (arith, r .id))

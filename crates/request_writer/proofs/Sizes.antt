@@ -9,9 +9,9 @@ use Rattle.wire.proofs.NumberWrite.{int-long}
 use Rattle.wire.proofs.FieldLaws.{big-length, limited-length}
 use Rattle.field.specs.Answer.{limitedText}
 use Rattle.message.specs.Request.{Shape, keyed, writes, writesIf, keyedIf, bare, shapeOf, Args, argsOf, operation, transaction, ed, fields, Request, request, nameLimit, keyLimit, valueLimit}
-use Rattle.request.specs.Parts.{limitsOf, sizeOf, argsSize}
 use Rattle.request.proofs.Editions.{has-transaction, flags-small}
-use Rattle.request.proofs.Rules.{Within, within, Rules}
+use Rattle.request_writer.specs.Parts.{limitsOf, sizeOf, argsSize}
+use Rattle.request_writer.proofs.Rules.{Within, within, Rules}
 
 int-size : (v : ℕ) → v ≤ 0xffff_ffff → length (vInt .enc v) ≡ length (vLong .enc v)
 int-size v h = ap length (int-long v (omega arith))

@@ -1,12 +1,12 @@
--- `request::write::put_args` meets its contract: the shape decides. Assumes nothing.
+-- `request_writer::write::put_args` meets its contract: the shape decides. Assumes nothing.
 use mathlib.Core.Path.{_≡_, sym, _∙_}
 use Rattle.message.specs.Request.{shapeOf}
 use Rattle.request.specs.declared.Shape.{Shape}
 use Rattle.request.specs.Parts.{asShape}
-use Rattle.request.proofs.Puts.{put-keyed, put-bare}
+use Rattle.request_writer.proofs.Puts.{put-keyed, put-bare}
 use borrow.Author.Needs.{needs}
-use Rattle.request.proofs.write.put_args.Statement.{statement}
-use Rattle.request.proofs.write.put_args.Tie as tie
+use Rattle.request_writer.proofs.write.put_args.Statement.{statement}
+use Rattle.request_writer.proofs.write.put_args.Tie as tie
 
 -- the shape that was found
 shape : (c : tie.After-shape-of) {x : Shape} → c .shape-of .result ≡ x → shapeOf (c .before .before .before .before .args .h .op) ≡ asShape x

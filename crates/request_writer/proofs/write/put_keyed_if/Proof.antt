@@ -1,9 +1,9 @@
--- `request::write::put_keyed_if` meets its contract: field after field. Assumes nothing.
+-- `request_writer::write::put_keyed_if` meets its contract: field after field. Assumes nothing.
 use Rattle.wire.specs.Number.{vInt}
-use Rattle.request.proofs.Puts.{put-keyed-if}
+use Rattle.request_writer.proofs.Puts.{put-keyed-if}
 use borrow.Author.Needs.{needs}
-use Rattle.request.proofs.write.put_keyed_if.Statement.{statement}
-use Rattle.request.proofs.write.put_keyed_if.Tie as tie
+use Rattle.request_writer.proofs.write.put_keyed_if.Statement.{statement}
+use Rattle.request_writer.proofs.write.put_keyed_if.Tie as tie
 
 returns : tie.Need-returns
 unfolding vInt

@@ -17,8 +17,8 @@ use Rattle.wire.proofs.FieldLaws.{big-good, limited-valid, limited-good}
 use Rattle.text.specs.Text.{isText}
 use Rattle.field.specs.Answer.{limitedText}
 use Rattle.message.specs.Request.{Shape, keyed, writes, writesIf, keyedIf, bare, shapeOf, Args, argsOf, isEmpty, noTimes, noEntry, noValue, opFits, operation, transaction, isVersion, ed, fields, fromRequest, Request, request, nameLimit, keyLimit, valueLimit}
-use Rattle.request.specs.Parts.{Limits, limitsOf}
 use Rattle.request.proofs.Editions.{has-transaction, op-known, flags-small, version-small, code-known, code-small}
+use Rattle.request_writer.specs.Parts.{Limits, limitsOf}
 
 -- a test of a message tells its rules
 broken-by : {A : Type 0} (c : Codec A) (a : A) → (Valid c a → ⊥) → false ≡ c .ok a

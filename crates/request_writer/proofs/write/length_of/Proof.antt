@@ -1,12 +1,12 @@
--- `request::write::length_of` meets its contract: the lengths of the fields make the whole. Assumes nothing.
+-- `request_writer::write::length_of` meets its contract: the lengths of the fields make the whole. Assumes nothing.
 use Prim.Native.Nat.{_<_, _^_}
 use native.Mathlib.Omega.{arith}
 use Rattle.message.specs.Request.{requestOf, shapeOf}
-use Rattle.request.proofs.Rules.{within, rules}
-use Rattle.request.proofs.Sizes.{args-small, request-size}
+use Rattle.request_writer.proofs.Rules.{within, rules}
+use Rattle.request_writer.proofs.Sizes.{args-small, request-size}
 use borrow.Author.Needs.{needs}
-use Rattle.request.proofs.write.length_of.Statement.{statement}
-use Rattle.request.proofs.write.length_of.Tie as tie
+use Rattle.request_writer.proofs.write.length_of.Statement.{statement}
+use Rattle.request_writer.proofs.write.length_of.Tie as tie
 
 -- an entry version fits its eight bytes
 fits : (s : tie.Start) → s .args .h .entry .0 < 256 ^ 8

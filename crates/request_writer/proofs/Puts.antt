@@ -17,8 +17,8 @@ use Rattle.field.specs.Answer.{limitedText}
 use Rattle.message.specs.declared.Operation.{Operation}
 use Rattle.message.specs.Operation.{codeOf}
 use Rattle.message.specs.Request.{keyed, writes, writesIf, keyedIf, bare, shapeOf, Args, argsOf, opFits, operation, transaction, isVersion, ed, fields, Request, request, nameLimit, keyLimit, valueLimit}
-use Rattle.request.specs.Parts.{Ready}
 use Rattle.request.proofs.Editions.{has-transaction}
+use Rattle.request_writer.specs.Parts.{Ready}
 
 -- the writer of a field
 put : {A : Type 0} (c : Codec A) {a : A} {at r : ℕ} {old new : List ℕ} → Ready c a at old → (r, new) ≡ putAt c a at old → Wrote c a old new at r

@@ -1,9 +1,9 @@
--- `request::write::args_len` meets its contract: the shape decides. Assumes nothing.
+-- `request_writer::write::args_len` meets its contract: the shape decides. Assumes nothing.
 use native.Mathlib.Omega.{arith}
-use Rattle.request.specs.Parts.{argsSize}
+use Rattle.request_writer.specs.Parts.{argsSize}
 use borrow.Author.Needs.{needs}
-use Rattle.request.proofs.write.args_len.Statement.{statement}
-use Rattle.request.proofs.write.args_len.Tie as tie
+use Rattle.request_writer.proofs.write.args_len.Statement.{statement}
+use Rattle.request_writer.proofs.write.args_len.Tie as tie
 
 enum-told : tie.Need-enum-told
 enum-told c = search needs

@@ -1,12 +1,12 @@
--- `request::write_request` meets its contract: it judges, then measures, then writes. Assumes nothing.
+-- `request_writer::write_request` meets its contract: it judges, then measures, then writes. Assumes nothing.
 use mathlib.Core.Path.{sym, _∙_}
 use native.Mathlib.Omega.{arith}
 use borrow.Author.Tests.{not-true, not-false}
 use Rattle.wire.proofs.WriteLaws.{send-broken, send-short, send-done}
 use Rattle.message.specs.Request.{request}
 use borrow.Author.Needs.{needs}
-use Rattle.request.proofs.write_request.Statement.{statement}
-use Rattle.request.proofs.write_request.Tie as tie
+use Rattle.request_writer.proofs.write_request.Statement.{statement}
+use Rattle.request_writer.proofs.write_request.Tie as tie
 
 returns : tie.Need-returns
 returns c = send-broken request _ _ (sym (c .before .keeps-rules .ensures) ∙ not-true _ (c .if1 .taken))

@@ -1,9 +1,9 @@
--- `request::write::keeps_args` meets its contract: each way out breaks a limit, but for the last. Assumes nothing.
+-- `request_writer::write::keeps_args` meets its contract: each way out breaks a limit, but for the last. Assumes nothing.
 use native.Mathlib.Omega.{arith}
-use Rattle.request.proofs.Rules.{broken-args, good-args}
+use Rattle.request_writer.proofs.Rules.{broken-args, good-args}
 use borrow.Author.Needs.{needs}
-use Rattle.request.proofs.write.keeps_args.Statement.{statement}
-use Rattle.request.proofs.write.keeps_args.Tie as tie
+use Rattle.request_writer.proofs.write.keeps_args.Statement.{statement}
+use Rattle.request_writer.proofs.write.keeps_args.Tie as tie
 
 returns : tie.Need-returns
 returns c = broken-args _ _ _ (c .before .before .limits-of .ensures) (omega arith) (λ w. omega (arith, w .key))

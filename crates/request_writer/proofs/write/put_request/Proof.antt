@@ -1,10 +1,10 @@
--- `request::write::put_request` meets its contract: field after field. Assumes nothing.
+-- `request_writer::write::put_request` meets its contract: field after field. Assumes nothing.
 use Rattle.wire.specs.Number.{vInt, vLong}
 use Rattle.message.specs.Request.{requestOf}
-use Rattle.request.proofs.Puts.{Headed, put-header}
+use Rattle.request_writer.proofs.Puts.{Headed, put-header}
 use borrow.Author.Needs.{needs}
-use Rattle.request.proofs.write.put_request.Statement.{statement}
-use Rattle.request.proofs.write.put_request.Tie as tie
+use Rattle.request_writer.proofs.write.put_request.Statement.{statement}
+use Rattle.request_writer.proofs.write.put_request.Tie as tie
 
 -- what stands where the arguments begin
 header : (c : tie.After-slice-known10) → let w = c .before .before in let s = w .before .before .before .before .before .before .before .before .before .before .before .before .before .before .before .before .before .before .before .before .before .before .before .before .before .before .before .before .before .before .before .before .before .before .before .before .before .before .before in

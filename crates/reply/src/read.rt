@@ -21,8 +21,7 @@ ghost use Rattle.wire.specs.Field.{limited};
 ghost use Rattle.field.specs.Answer.{asNumber, asSpan, stopped, limitedText};
 ghost use Rattle.message.specs.Reply.{message, isAwaited, rowsOf, versionedBody, textLimit, replyOf};
 ghost use Rattle.reply_body.specs.Body.{fieldsOf};
-ghost use Rattle.reply.specs.Answer.{asReply};
-ghost use Rattle.reply.specs.Frame.{replyWith};
+ghost use Rattle.reply.specs.Answer.{asReply, replyWith};
 
 // A byte that has to be `b`; another is refused with the number `k`.
 fn read_fixed(s: &[u8], c: Cursor, b: u8, k: u8) -> NumberRead

@@ -35,7 +35,7 @@ use Rattle.table.specs.Memory as memory
 use Rattle.table.specs.Memory.{stateOf, Sound}
 use Rattle.table.specs.Found.{entryAt}
 use Rattle.request.specs.Answer.{start, idFound, idIn}
-use Rattle.reply.specs.Answer.{asked}
+use Rattle.reply_body.specs.Asked.{asked}
 use Rattle.reply_body.specs.Body.{formOf}
 use Rattle.reply_body.specs.declared.Form.{Form}
 use Rattle.reply_body.specs.declared.Form.the-variants as f

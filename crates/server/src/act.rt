@@ -66,7 +66,7 @@ pub(crate) fn refuse(out: &mut [u8], id: u64, k: u8, taken: usize) -> Answer
     requires { ⌜ k ≤ 11 ⌝ }
     ensures { λ r. ⌜ Sends (stream.errorPieces k id) taken (stream.refused k) (now (out .entry)) (now (out .exit)) r ⌝ }
 {
-    let w = reply::write_error(out, id, k);
+    let w = reply_writer::write_error(out, id, k);
     ended(w, taken, Verdict::Refused(k))
 }
 
@@ -115,7 +115,7 @@ fn respond(out: &mut [u8], t: &[u8], h: Head, status: u8, held: Held, taken: usi
         entry: shown_version(f, held),
     };
     let value = table::value_at(t, shown_row(f, held));
-    let w = reply::write_reply(out, code, flag, a, value, b"");
+    let w = reply_writer::write_reply(out, code, flag, a, value, b"");
     ended(w, taken, Verdict::Served)
 }
 

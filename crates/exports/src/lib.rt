@@ -10,7 +10,8 @@ ghost use mathlib.Core.Path.{_≡_};
 ghost use Rattle.message.specs.Request.{request};
 ghost use Rattle.message.specs.Reply.{reply};
 ghost use Rattle.request.specs.Answer.{asRequest};
-ghost use Rattle.reply.specs.Answer.{asReply, asked};
+ghost use Rattle.reply_body.specs.Asked.{asked};
+ghost use Rattle.reply.specs.Answer.{asReply};
 ghost use Rattle.table.specs.Memory.{Sound};
 ghost use Rattle.table.specs.Found.{Tells as Says};
 ghost use Rattle.table.specs.Change.{Left, isSome, made};
@@ -74,7 +75,7 @@ pub extern "C" fn fq_write_request(
         return 16;
     };
     let h = given::head(numbers, op);
-    tell::sent(request::write_request(out, h, name, key, value))
+    tell::sent(request_writer::write_request(out, h, name, key, value))
 }
 
 // Writes a reply at the front of `out`. Its numbers: id, operation, status and entry version.
@@ -93,7 +94,7 @@ pub extern "C" fn fq_write_reply(
         return 16;
     }
     let a = given::answer(numbers);
-    tell::sent(reply::write_reply(out, op, flag, a, value, text))
+    tell::sent(reply_writer::write_reply(out, op, flag, a, value, text))
 }
 
 // Whether the memory is a sound table.

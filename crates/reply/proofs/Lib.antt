@@ -1,3 +1,1 @@
-pub mod BodyLaws
 pub mod ReadLaws
-pub mod SendLaws

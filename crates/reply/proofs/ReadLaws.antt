@@ -15,7 +15,7 @@ use Rattle.message.specs.Request.{valueLimit}
 use Rattle.message.specs.Reply.{Reply, Payload, payload, textLimit, noBody, valueBody, versionedBody, textBody, replyOf, isAwaited, rowsOf, bodyAt, isAllowed, allowed, bodyOf, fields, message}
 use Rattle.message.specs.declared.Operation.{Operation}
 use Rattle.message.specs.declared.Answer.{Answer}
-use Rattle.reply.specs.Body.{replyWith}
+use Rattle.reply.specs.Answer.{replyWith}
 
 -- at the front of the bytes
 pub at-front : {A : Type 0} (c : Codec A) (s : List ℕ) → readAt c s 0 ≡ c .dec s

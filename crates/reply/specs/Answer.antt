@@ -1,9 +1,9 @@
--- What the reader's answer says, and what was asked.
-use mathlib.Core.List.{List, []}
-use mathlib.Core.Bool.{Bool}
+-- What the reader's answer says of the bytes that it was given.
+use mathlib.Core.List.{List}
 use Prim.Native.Nat.{ℕ}
 use Rattle.wire.specs.Codec.{Read, whole, more, refused}
-use Rattle.message.specs.Reply.{Asked, Reply, errorCode, replyIn}
+use Rattle.message.specs.Reply.{Reply, Payload, replyIn}
+use Rattle.message.specs.declared.Answer.{Answer}
 use Rattle.reply.specs.declared.ReplyRead.{ReplyRead}
 use Rattle.reply.specs.declared.ReplyRead.the-variants as r
 
@@ -12,9 +12,6 @@ asReply s (r.Whole x n) = whole (replyIn s x) n
 asReply s r.More = more
 asReply s (r.Refused k) = refused k
 
-abbrev pub asked : ℕ → Bool → Asked
-asked op flag = record { op = op; flag = flag }
-
--- an error reply of a status and a text
-abbrev pub errorOf : ℕ → ℕ → List ℕ → Reply
-errorOf id status text = record { id = id; op = errorCode; status = status; entry = 0; value = []; text = text }
+-- the reply of a header and a body
+abbrev pub replyWith : Answer → Payload → Reply
+replyWith a p = record { id = a .id; op = a .op; status = a .status; entry = p .entry; value = p .value; text = p .text }

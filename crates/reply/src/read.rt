@@ -1,7 +1,5 @@
 // The parts of the reader of a reply.
 use crate::ReplyRead;
-use crate::body;
-use crate::body::Form;
 use field::ByteRead;
 use field::Cursor;
 use field::EntryVersion;
@@ -13,6 +11,7 @@ use field::VersionRead;
 use message::Answer;
 use message::Operation;
 use message::Reply;
+use reply_body::Form;
 ghost use mathlib.Core.Path.{_≡_};
 ghost use mathlib.Core.List.{List, []};
 ghost use Prim.Native.Nat.{ℕ};
@@ -21,8 +20,8 @@ ghost use Rattle.wire.specs.Codec.{readAt, byte, guard, after, whole};
 ghost use Rattle.wire.specs.Field.{limited};
 ghost use Rattle.field.specs.Answer.{asNumber, asSpan, stopped, limitedText};
 ghost use Rattle.message.specs.Reply.{message, isAwaited, rowsOf, versionedBody, textLimit, replyOf};
-ghost use Rattle.reply.specs.Answer.{asReply};
-ghost use Rattle.reply.specs.Body.{fieldsOf, replyWith};
+ghost use Rattle.reply_body.specs.Body.{fieldsOf};
+ghost use Rattle.reply.specs.Answer.{asReply, replyWith};
 
 // A byte that has to be `b`; another is refused with the number `k`.
 fn read_fixed(s: &[u8], c: Cursor, b: u8, k: u8) -> NumberRead
@@ -152,15 +151,15 @@ pub(crate) fn read_message(s: &[u8], o: Operation, flag: bool) -> ReplyRead
     let ByteRead::Whole(op, c3) = r3 else {
         return ReplyRead::More;
     };
-    if !body::is_awaited(o, op) {
+    if !reply_body::is_awaited(o, op) {
         return ReplyRead::Refused(4);
     }
     let r4 = field::read_byte(s, c3);
     let ByteRead::Whole(status, c4) = r4 else {
         return ReplyRead::More;
     };
-    let b = body::body_at(o, op, status);
-    if !body::is_allowed(b) {
+    let b = reply_body::body_at(o, op, status);
+    if !reply_body::is_allowed(b) {
         return ReplyRead::Refused(8);
     }
     let r5 = read_fixed(s, c4, 0, 8);
@@ -173,5 +172,5 @@ pub(crate) fn read_message(s: &[u8], o: Operation, flag: bool) -> ReplyRead
         status: status,
         entry: EntryVersion(0),
     };
-    read_body(s, c5, a, body::form_of(flag, b))
+    read_body(s, c5, a, reply_body::form_of(flag, b))
 }

@@ -1,22 +1,19 @@
--- The parts of a request, for the contracts of the functions that read and write them.
+-- The parts of a request, for the contracts of the functions that read them.
 use mathlib.Core.List.{List}
-use Prim.Native.Nat.{ℕ, _+_}
-use lib.ListN.{length}
+use Prim.Native.Nat.{ℕ}
 use lib.Dec.{leb}
 use mathlib.Core.Bool.{_&&_}
-use Rattle.wire.specs.Codec.{Read, whole, more, refused, after, Codec, Valid, byte, guard, seq, readAt}
-use Rattle.wire.specs.Number.{vInt, vLong}
-use Rattle.wire.specs.Write.{Room}
+use Rattle.wire.specs.Codec.{Read, whole, more, refused, after, Codec, byte, guard, seq, readAt}
+use Rattle.wire.specs.Number.{vInt}
 use Rattle.field.specs.Answer.{partOf, limitedText}
 use Rattle.message.specs.declared.Operation.{Operation}
 use Rattle.message.specs.declared.Head.{Head}
-use Rattle.message.specs.Request.{Shape, keyed, writes, writesIf, keyedIf, bare, shapeOf, Args, args, argsOf, Request, nameLimit, keyLimit, valueLimit, ed, transaction, toRequest}
+use Rattle.message.specs.Request.{Shape, keyed, writes, writesIf, keyedIf, bare, shapeOf, Args, args, argsOf, Request, nameLimit, ed, transaction, toRequest}
 use Rattle.request.specs.declared.CheckedRead.{CheckedRead}
 use Rattle.request.specs.declared.CheckedRead.the-variants as c
 use Rattle.request.specs.declared.Shape as code
 use Rattle.request.specs.declared.Shape.the-variants as s
 use Rattle.request.specs.declared.Args as code-args
-use Rattle.request.specs.declared.write.Limits as code-limits
 
 abbrev pub asChecked : CheckedRead → Read ℕ
 asChecked (c.Whole b n) = whole b (n .at)
@@ -36,10 +33,6 @@ asShape s.Bare = bare
 
 abbrev pub argsIn : List ℕ → code-args.Args → Args
 argsIn s a = args (partOf s (a .key)) (a .lifespan) (a .idle) (a .entry .0) (partOf s (a .value))
-
--- the arguments of a head, a key and a value
-abbrev pub argsWith : Head → List ℕ → List ℕ → Args
-argsWith h key value = args key (h .lifespan) (h .idle) (h .entry .0) value
 
 -- the request of a header and its arguments
 abbrev pub requestWith : Head → List ℕ → Args → Request
@@ -71,42 +64,3 @@ options version op =
 -- what is found where the name begins
 unfoldable pub fromName : List ℕ → (id version : ℕ) → Operation → ℕ → Read Request
 fromName s id version op at = after (readAt (options version op) s at) (λ p n. whole (toRequest (0xa0, (id, (version, (op, p))))) n)
-
--- the greatest length or number of each argument: 0 where it is not sent
-pub record Limits : Type 0 where
-  pub key : ℕ
-  pub time : ℕ
-  pub entry : ℕ
-  pub value : ℕ
-
-abbrev limits : ℕ → ℕ → ℕ → ℕ → Limits
-limits k t e v = record { key = k; time = t; entry = e; value = v }
-
-abbrev pub limitsOf : Shape → Limits
-limitsOf keyed = limits keyLimit 0 0 0
-limitsOf writes = limits keyLimit 0xffff_ffff 0 valueLimit
-limitsOf writesIf = limits keyLimit 0xffff_ffff 0xffff_ffff_ffff_ffff valueLimit
-limitsOf keyedIf = limits keyLimit 0 0xffff_ffff_ffff_ffff 0
-limitsOf bare = limits 0 0 0 0
-
-abbrev pub asLimits : code-limits.Limits → Limits
-asLimits l = limits (l .key) (l .time) (l .entry) (l .value)
-
--- how many bytes a length and so many bytes take, and the arguments of each shape
-abbrev pub sizeOf : List ℕ → ℕ
-sizeOf s = length (vLong .enc (length s)) + length s
-
-abbrev pub timesSize : Args → ℕ
-timesSize a = length (vLong .enc (a .lifespan)) + length (vLong .enc (a .maxIdle))
-
-unfoldable pub argsSize : Shape → Args → ℕ
-argsSize keyed a = sizeOf (a .key)
-argsSize writes a = sizeOf (a .key) + timesSize a + sizeOf (a .value)
-argsSize writesIf a = sizeOf (a .key) + timesSize a + 8 + sizeOf (a .value)
-argsSize keyedIf a = sizeOf (a .key) + 8
-argsSize bare a = 0
-
--- a value has a written form, and there is room for it
-pub record Ready {A : Type 0} (c : Codec A) (a : A) (at : ℕ) (old : List ℕ) : Type 0 where
-  pub good : Valid c a
-  pub room : Room c a at old

@@ -1,6 +1,4 @@
-// The reader and the writer of a request.
-mod write;
-
+// The reader of a request.
 use field::ByteRead;
 use field::Cursor;
 use field::EntryVersion;
@@ -13,15 +11,12 @@ use message::Found;
 use message::Head;
 use message::Operation;
 use message::Request;
-use message::Sent;
 ghost use mathlib.Core.Path.{_≡_};
 ghost use mathlib.Core.List.{List};
 ghost use Prim.Native.Nat.{ℕ};
 ghost use Rattle.wire.specs.Codec.{readAt, whole};
-ghost use Rattle.wire.specs.Write.{send};
 ghost use Rattle.field.specs.Answer.{asNumber, asSpan, partOf, stopped};
-ghost use Rattle.message.specs.Answer.{asSent};
-ghost use Rattle.message.specs.Request.{request, requestOf, shapeOf, keyed, writes, writesIf, keyedIf, isVersion, ed};
+ghost use Rattle.message.specs.Request.{request, shapeOf, keyed, writes, writesIf, keyedIf, isVersion, ed};
 ghost use Rattle.request.specs.Answer.{asRequest, start, idIn};
 ghost use Rattle.request.specs.Parts.{asChecked, asShape, between, argsIn, requestWith, fromArgs, fromName};
 
@@ -40,7 +35,7 @@ enum CheckedRead {
 }
 
 // Which arguments an operation is sent.
-enum Shape {
+pub enum Shape {
     Keyed,
     Writes,
     WritesIf,
@@ -57,7 +52,7 @@ struct Args {
     value: Span,
 }
 
-fn shape_of(op: Operation) -> Shape
+pub fn shape_of(op: Operation) -> Shape
     ensures { λ r. ⌜ asShape r ≡ shapeOf op ⌝ }
 {
     match op {
@@ -75,7 +70,7 @@ fn shape_of(op: Operation) -> Shape
     }
 }
 
-fn is_served(version: u8) -> bool
+pub fn is_served(version: u8) -> bool
     ensures { λ r. ⌜ r ≡ isVersion version ⌝ }
 {
     match version {
@@ -87,7 +82,7 @@ fn is_served(version: u8) -> bool
 }
 
 // The greatest flags of a version.
-fn greatest_flags(version: u8) -> u64
+pub fn greatest_flags(version: u8) -> u64
     ensures { λ r. ⌜ r ≡ ed version .flags ⌝ }
 {
     match version {
@@ -390,17 +385,4 @@ pub fn read_request(s: &[u8]) -> RequestRead
         return RequestRead::Refused(4);
     };
     read_options(s, c3, id, version, op)
-}
-
-// Writes a request at the front of `out`.
-pub fn write_request(out: &mut [u8], h: Head, name: &[u8], key: &[u8], value: &[u8]) -> Sent
-    ensures { λ r. ⌜ (asSent r, now (out .exit)) ≡ send request (requestOf h (now (name .entry)) (now (key .entry)) (now (value .entry))) (now (out .entry)) ⌝ }
-{
-    if !write::keeps_rules(h, name, key, value) {
-        return Sent::Refused(16);
-    }
-    if out.len() < write::length_of(h, name, key, value) {
-        return Sent::Refused(12);
-    }
-    Sent::Written(write::put_request(out, h, name, key, value))
 }

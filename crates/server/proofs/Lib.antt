@@ -1,4 +1,3 @@
-pub mod PlanLaws
 pub mod SendLaws
 pub mod StepLaws
 pub mod ManyLaws

@@ -35,18 +35,18 @@ use Rattle.table.specs.Memory as memory
 use Rattle.table.specs.Memory.{stateOf, Sound}
 use Rattle.table.specs.Found.{entryAt}
 use Rattle.request.specs.Answer.{start, idFound, idIn}
-use Rattle.reply.specs.Answer.{asked}
-use Rattle.reply.specs.Body.{formOf}
-use Rattle.reply.specs.declared.body.Form.{Form}
-use Rattle.reply.specs.declared.body.Form.the-variants as f
-use Rattle.reply.proofs.body.Form as form-code
-use Rattle.reply.proofs.BodyLaws.{code-small}
+use Rattle.reply_body.specs.Asked.{asked}
+use Rattle.reply_body.specs.Body.{formOf}
+use Rattle.reply_body.specs.declared.Form.{Form}
+use Rattle.reply_body.specs.declared.Form.the-variants as f
+use Rattle.reply_body.proofs.Form as form-code
+use Rattle.reply_body.proofs.BodyLaws.{code-small}
 use Rattle.stream.specs.Serve as stream
 use Rattle.stream.specs.Serve.{room, errorPieces}
+use Rattle.plan.specs.declared.Held.{Held}
+use Rattle.plan.specs.Plan.{heldAt}
 use Rattle.server.specs.declared.Answer.{Answer}
-use Rattle.server.specs.declared.plan.Held.{Held}
 use Rattle.server.specs.Answer.{Says, Sends}
-use Rattle.server.specs.Plan.{heldAt}
 use Rattle.server.specs.Act.{valueShown, entryShown, Planned}
 
 pub count : {m n : ℕ} → written m ≡ written n → m ≡ n

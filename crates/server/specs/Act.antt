@@ -12,15 +12,15 @@ use Rattle.map.specs.State.{Entry, State, withEntries, without, hasKey}
 use Rattle.map.specs.Step as map
 use Rattle.map.specs.Step.{Context}
 use Rattle.map.specs.Reply.{pieces}
-use Rattle.reply.specs.declared.body.Form.{Form}
-use Rattle.reply.specs.declared.body.Form.the-variants as f
+use Rattle.reply_body.specs.declared.Form.{Form}
+use Rattle.reply_body.specs.declared.Form.the-variants as f
 use Rattle.table.specs.Memory.{stateOf, Sound}
 use Rattle.stream.specs.Serve.{room, served, onStep}
 use Rattle.stream.specs.Stream.{Done, Does}
+use Rattle.plan.specs.declared.Held.{Held}
+use Rattle.plan.specs.Plan.{Holds}
 use Rattle.server.specs.declared.Answer.{Answer}
-use Rattle.server.specs.declared.plan.Held.{Held}
 use Rattle.server.specs.Answer.{Sends}
-use Rattle.server.specs.Plan.{Holds}
 
 abbrev pub at : ℕ → Context
 at second = record { second = second }

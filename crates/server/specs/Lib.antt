@@ -1,4 +1,3 @@
 pub mod Answer
-pub mod Plan
 pub mod Act
 pub mod Lines

@@ -1,16 +1,14 @@
 // Serving a request on a table that is sound, with room for any reply.
 use crate::Answer;
 use crate::Verdict;
-use crate::plan;
-use crate::plan::Change;
-use crate::plan::Held;
 use field::EntryVersion;
 use field::Second;
 use message::Head;
 use message::Request;
 use message::Sent;
-use reply::body;
-use reply::body::Form;
+use plan::Change;
+use plan::Held;
+use reply_body::Form;
 use request::RequestRead;
 use table::Table;
 ghost use mathlib.Core.Path.{_≡_};
@@ -30,8 +28,8 @@ ghost use Rattle.table.specs.Change as table;
 ghost use Rattle.stream.specs.Sound.{isSound};
 ghost use Rattle.stream.specs.Serve as stream;
 ghost use Rattle.stream.specs.Stream.{Serves};
+ghost use Rattle.plan.specs.Plan.{Holds, heldAt};
 ghost use Rattle.server.specs.Answer.{asVerdict, callOf, doneOf, Says, Sends};
-ghost use Rattle.server.specs.Plan.{Holds, heldAt};
 ghost use Rattle.server.specs.Act.{at, valueShown, entryShown, less, Planned, Given, Acts, Replies, Performs};
 
 // Nothing taken and nothing sent.
@@ -68,7 +66,7 @@ pub(crate) fn refuse(out: &mut [u8], id: u64, k: u8, taken: usize) -> Answer
     requires { ⌜ k ≤ 11 ⌝ }
     ensures { λ r. ⌜ Sends (stream.errorPieces k id) taken (stream.refused k) (now (out .entry)) (now (out .exit)) r ⌝ }
 {
-    let w = reply::write_error(out, id, k);
+    let w = reply_writer::write_error(out, id, k);
     ended(w, taken, Verdict::Refused(k))
 }
 
@@ -109,7 +107,7 @@ fn respond(out: &mut [u8], t: &[u8], h: Head, status: u8, held: Held, taken: usi
     let code = message::code(op);
     let flag = h.flags % 2 == 1;
     let awaited = code + 1;
-    let f = body::form_of(flag, body::body_at(op, awaited, status));
+    let f = reply_body::form_of(flag, reply_body::body_at(op, awaited, status));
     let a = message::Answer {
         id: h.id,
         op: awaited,
@@ -117,7 +115,7 @@ fn respond(out: &mut [u8], t: &[u8], h: Head, status: u8, held: Held, taken: usi
         entry: shown_version(f, held),
     };
     let value = table::value_at(t, shown_row(f, held));
-    let w = reply::write_reply(out, code, flag, a, value, b"");
+    let w = reply_writer::write_reply(out, code, flag, a, value, b"");
     ended(w, taken, Verdict::Served)
 }
 

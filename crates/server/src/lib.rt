@@ -1,7 +1,6 @@
 // The server: one call, a stream of calls, and the lines of a file.
 mod act;
 mod lines;
-mod plan;
 
 use field::Second;
 ghost use mathlib.Core.Path.{_≡_};

@@ -6,7 +6,7 @@ use Rattle.wire.specs.Codec.{Read, readAt}
 use Rattle.wire.specs.Number.{vLong}
 use Rattle.field.proofs.Parts.{number-stops}
 use Rattle.message.specs.Reply.{Reply, isAwaited, rowsOf, bodyAt, isAllowed, message}
-use Rattle.reply.proofs.BodyLaws.{fields-form}
+use Rattle.reply_body.proofs.BodyLaws.{fields-form}
 use Rattle.reply.proofs.ReadLaws.{rest1, rest2, rest3, rest4, rest5, at-message}
 use borrow.Author.Needs.{needs}
 use Rattle.reply.proofs.read.read_message.Statement.{statement}

@@ -1,5 +1,5 @@
 -- `server::act::drop_row` meets its contract. Assumes nothing.
-use Rattle.server.proofs.PlanLaws.{row-found, none-found}
+use Rattle.plan.proofs.PlanLaws.{row-found, none-found}
 use Rattle.server.proofs.StepLaws.{row-dropped, none-dropped}
 use borrow.Author.Needs.{needs}
 use Rattle.server.proofs.act.drop_row.Statement.{statement}

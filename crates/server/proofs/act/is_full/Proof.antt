@@ -1,6 +1,6 @@
 -- `server::act::is_full` meets its contract. Assumes nothing.
 use Rattle.map.specs.Step as map
-use Rattle.server.proofs.PlanLaws.{row-held, none-held}
+use Rattle.plan.proofs.PlanLaws.{row-held, none-held}
 use borrow.Author.Needs.{needs}
 use Rattle.server.proofs.act.is_full.Statement.{statement}
 use Rattle.server.proofs.act.is_full.Tie as tie

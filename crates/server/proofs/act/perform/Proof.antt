@@ -9,7 +9,7 @@ use Rattle.map.specs.State.{State}
 use Rattle.table.specs.Memory as memory
 use Rattle.table.specs.Memory.{stateOf}
 use Rattle.table.specs.Change.{cleared}
-use Rattle.server.specs.Plan.{asPlan, asChange, Holds}
+use Rattle.plan.specs.Plan.{asPlan, asChange, Holds}
 use Rattle.server.specs.Act.{Planned, Acts}
 use Rattle.server.proofs.StepLaws.{does-refused, does-answered, step-named, step-acts, named, unnamed, same-table}
 use borrow.Author.Needs.{needs}

@@ -1,6 +1,6 @@
 -- `server::act::shown_row` meets its contract: row 128 of a sound table is empty. Assumes nothing.
 use borrow.Author.Tests.{eq-eqb, ne-eqb}
-use Rattle.server.proofs.PlanLaws.{row-held, none-held}
+use Rattle.plan.proofs.PlanLaws.{row-held, none-held}
 use Rattle.server.proofs.SendLaws.{past-rows}
 use borrow.Author.Needs.{needs}
 use Rattle.server.proofs.act.shown_row.Statement.{statement}

@@ -1,6 +1,6 @@
 -- `server::act::shown_version` meets its contract. Assumes nothing.
-use Rattle.server.specs.Plan.{heldAt}
-use Rattle.server.proofs.PlanLaws.{row-found, row-held, none-held}
+use Rattle.plan.specs.Plan.{heldAt}
+use Rattle.plan.proofs.PlanLaws.{row-found, row-held, none-held}
 use Rattle.server.proofs.SendLaws.{no-version}
 use borrow.Author.Needs.{needs}
 use Rattle.server.proofs.act.shown_version.Statement.{statement}

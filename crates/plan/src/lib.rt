@@ -1,0 +1,96 @@
+// What a request is going to do: the status of its reply, and what becomes of the entries.
+use field::EntryVersion;
+use message::Operation;
+use table::Found;
+ghost use mathlib.Core.Path.{_≡_};
+ghost use mathlib.Core.List.{List};
+ghost use Prim.Native.Nat.{ℕ};
+ghost use Rattle.map.specs.Step as map;
+ghost use Rattle.plan.specs.Plan.{asPlan, asChange, Holds, heldAt, ifHeld, ifSame};
+
+// The row that has the key, with the version of its entry, or that none has it.
+pub enum Held {
+    Row(usize, EntryVersion),
+    Absent,
+}
+
+// What becomes of the entries.
+pub enum Change {
+    Keep,
+    Store,
+    Drop,
+    Empty,
+}
+
+pub struct Plan {
+    pub status: u8,
+    pub change: Change,
+}
+
+// The row that has the key, with its version.
+pub fn held_in(t: &[u8], key: &[u8]) -> Held
+    ensures { λ r. ⌜ Holds (now (t .entry)) (now (key .entry)) r ⌝ }
+{
+    let f = table::find(t, key);
+    match f {
+        Found::At(i) => Held::Row(i, table::version_at(t, i)),
+        Found::Absent => Held::Absent,
+    }
+}
+
+fn planned(status: u8, change: Change) -> Plan
+    ensures { λ r. ⌜ asPlan r ≡ map.plans status (asChange change) ⌝ }
+{
+    Plan {
+        status: status,
+        change: change,
+    }
+}
+
+// One plan where the key is held, and another where it is not.
+fn if_held(held: Held, present: Plan, absent: Plan) -> Plan
+    ensures { λ r. ⌜ ((t k : List ℕ) → Holds t k held → asPlan r ≡ ifHeld (heldAt t k) (asPlan present) (asPlan absent)) ⌝ }
+{
+    match held {
+        Held::Row(_, _) => present,
+        Held::Absent => absent,
+    }
+}
+
+// The plan of an operation that asks for a version: the change where the version held is the same one.
+fn if_same(held: Held, asked: EntryVersion, change: Change) -> Plan
+    ensures { λ r. ⌜ ((t k : List ℕ) → Holds t k held → asPlan r ≡ ifSame (heldAt t k) (asked .0) (asChange change)) ⌝ }
+{
+    match held {
+        Held::Row(_, version) => {
+            if version.0 == asked.0 {
+                planned(0x00, change)
+            } else {
+                planned(0x01, Change::Keep)
+            }
+        }
+        Held::Absent => planned(0x02, Change::Keep),
+    }
+}
+
+// The reply table: the status, and what becomes of the entries.
+pub fn plan_of(op: Operation, asked: EntryVersion, held: Held) -> Plan
+    ensures { λ r. ⌜ ((t k : List ℕ) → Holds t k held → asPlan r ≡ map.plan op (asked .0) (heldAt t k)) ⌝ }
+{
+    let stored = planned(0x00, Change::Store);
+    let kept = planned(0x00, Change::Keep);
+    let missed = planned(0x02, Change::Keep);
+    match op {
+        Operation::Put => stored,
+        Operation::PutIfAbsent => if_held(held, planned(0x01, Change::Keep), stored),
+        Operation::Replace => if_held(held, stored, planned(0x01, Change::Keep)),
+        Operation::ReplaceIfUnmodified => if_same(held, asked, Change::Store),
+        Operation::Remove => if_held(held, planned(0x00, Change::Drop), missed),
+        Operation::RemoveIfUnmodified => if_same(held, asked, Change::Drop),
+        Operation::Get => if_held(held, kept, missed),
+        Operation::GetWithVersion => if_held(held, kept, missed),
+        Operation::ContainsKey => if_held(held, kept, missed),
+        Operation::Clear => planned(0x00, Change::Empty),
+        Operation::Ping => kept,
+    }
+}

@@ -1,0 +1,26 @@
+-- A reply by its header and its body.
+use mathlib.Core.List.{List, []}
+use Prim.Native.Nat.{ℕ}
+use lib.Dec.{eqb}
+use Rattle.wire.specs.Codec.{Codec, byte, guard, seq, as-type, all}
+use Rattle.wire.specs.Number.{vLong}
+use Rattle.message.specs.Reply.{Reply, Payload, payload, toReply, fromReply, errorCode}
+use Rattle.message.specs.declared.Answer.{Answer}
+
+-- the body of an answer, a value and a text
+abbrev pub payloadOf : Answer → List ℕ → List ℕ → Payload
+payloadOf a v t = payload (a .entry .0) v t
+
+-- a reply whose operation and status were judged
+unfoldable pub framed : Codec Payload → Codec Reply
+framed c =
+    as-type all toReply fromReply
+    (seq (guard (λ m. eqb m 0xa1) 1 byte) λ _.
+    seq vLong λ _.
+    seq byte λ _.
+    seq byte λ _.
+    seq (guard (λ m. eqb m 0) 8 byte) λ _. c)
+
+-- an error reply of a status and a text
+abbrev pub errorOf : ℕ → ℕ → List ℕ → Reply
+errorOf id status text = record { id = id; op = errorCode; status = status; entry = 0; value = []; text = text }

@@ -1,0 +1,69 @@
+// The writers of a reply, for any operation and flag.
+mod write;
+
+use field::EntryVersion;
+use message::Answer;
+use message::Found;
+use message::Sent;
+use reply_body::Form;
+ghost use mathlib.Core.Path.{_≡_};
+ghost use Prim.Native.Nat.{_≤_};
+ghost use Rattle.wire.specs.Write.{send};
+ghost use Rattle.message.specs.Answer.{asSent};
+ghost use Rattle.message.specs.Reply.{reply, replyOf, errorReply};
+ghost use Rattle.message.specs.Refusal.{refusal};
+ghost use Rattle.reply_body.specs.Asked.{asked};
+ghost use Rattle.reply_writer.specs.Frame.{errorOf};
+
+// The reply to an operation, which was asked with flag 0x0001 or without: its numbers, value and text. What is not sent is 0 or empty.
+pub fn write_reply(out: &mut [u8], op: u8, flag: bool, a: Answer, value: &[u8], text: &[u8]) -> Sent
+    ensures { λ r. ⌜ (asSent r, now (out .exit)) ≡ send (reply (asked op flag)) (replyOf a (now (value .entry)) (now (text .entry))) (now (out .entry)) ⌝ }
+{
+    let found = message::find(op);
+    let Found::Known(o) = found else {
+        return Sent::Refused(16);
+    };
+    if !reply_body::is_awaited(o, a.op) {
+        return Sent::Refused(16);
+    }
+    let b = reply_body::body_at(o, a.op, a.status);
+    if !reply_body::is_allowed(b) {
+        return Sent::Refused(16);
+    }
+    write::write_message(out, a, reply_body::form_of(flag, b), value, text)
+}
+
+// The error reply of a refusal, whatever was asked.
+pub fn write_error(out: &mut [u8], id: u64, k: u8) -> Sent
+    ensures { λ r. ⌜ (asSent r, now (out .exit)) ≡ send errorReply (refusal k id) (now (out .entry)) ⌝ }
+{
+    match k {
+        1 => write_text(out, id, 0x81, b"bad magic"),
+        2 => write_text(out, id, 0x81, b"bad message id"),
+        3 => write_text(out, id, 0x83, b"bad version"),
+        4 => write_text(out, id, 0x82, b"bad command"),
+        5 => write_text(out, id, 0x84, b"bad number"),
+        6 => write_text(out, id, 0x84, b"too long"),
+        7 => write_text(out, id, 0x84, b"bad text"),
+        8 => write_text(out, id, 0x84, b"bad field"),
+        9 => write_text(out, id, 0x85, b"no such cache"),
+        10 => write_text(out, id, 0x85, b"full"),
+        11 => write_text(out, id, 0x85, b"no versions left"),
+        _ => Sent::Refused(16),
+    }
+}
+
+// An error reply of a status and a text.
+fn write_text(out: &mut [u8], id: u64, status: u8, text: &[u8]) -> Sent
+    requires { ⌜ 0x81 ≤ status ⌝ }
+    requires { ⌜ status ≤ 0x86 ⌝ }
+    ensures { λ r. ⌜ (asSent r, now (out .exit)) ≡ send errorReply (errorOf id status (now (text .entry))) (now (out .entry)) ⌝ }
+{
+    let a = Answer {
+        id: id,
+        op: 0x50,
+        status: status,
+        entry: EntryVersion(0),
+    };
+    write::write_message(out, a, Form::Text, &text[0..0], text)
+}

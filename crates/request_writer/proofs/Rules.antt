@@ -1,0 +1,232 @@
+-- The rules of a request: which requests have a written form. Assumes nothing.
+use mathlib.Core.Path.{_≡_, refl, sym}
+use mathlib.Core.List.{List, [], _∷_}
+use mathlib.Core.Bool.{Bool, true, false, _&&_}
+use Prim.Native.Nat.{ℕ, _≤_, _<_, _^_}
+use native.Mathlib.Omega.{arith}
+use lib.ListN.{length}
+use lib.Dec.{eqb, leb, lit≤}
+use borrow.Author.Tests.{leb-true, le-leb, eqb-true, eq-eqb, lt-ltb}
+use Rattle.wire.specs.Codec.{Codec, Valid, Bytes, empty, byte}
+use Rattle.wire.specs.Number.{vInt, vLong}
+use Rattle.wire.specs.Field.{limited}
+use Rattle.wire.proofs.Laws.{never, both, and, seq-valid, seq-good, guard-valid, guard-good, type-valid, type-good}
+use Rattle.wire.proofs.NumberLaws.{valid}
+use Rattle.wire.proofs.NumberWrite.{number-good}
+use Rattle.wire.proofs.FieldLaws.{big-good, limited-valid, limited-good}
+use Rattle.text.specs.Text.{isText}
+use Rattle.field.specs.Answer.{limitedText}
+use Rattle.message.specs.Request.{Shape, keyed, writes, writesIf, keyedIf, bare, shapeOf, Args, argsOf, isEmpty, noTimes, noEntry, noValue, opFits, operation, transaction, isVersion, ed, fields, fromRequest, Request, request, nameLimit, keyLimit, valueLimit}
+use Rattle.request.proofs.Editions.{has-transaction, op-known, flags-small, version-small, code-known, code-small}
+use Rattle.request_writer.specs.Parts.{Limits, limitsOf}
+
+-- a test of a message tells its rules
+broken-by : {A : Type 0} (c : Codec A) (a : A) → (Valid c a → ⊥) → false ≡ c .ok a
+broken-by c a n = go (c .ok a) refl
+  where
+    go : (t : Bool) → c .ok a ≡ t → false ≡ t
+    go true e = absurd (n e)
+    go false e = refl
+
+-- numbers and lists that are sent, and those that are not
+int-least : (v : ℕ) → Valid vInt v → v ≤ 0xffff_ffff
+unfolding vInt
+int-least v g = omega (arith, valid 5 15 4 0 v g .1)
+
+pub int-good : (v : ℕ) → v ≤ 0xffff_ffff → Valid vInt v
+unfolding vInt
+int-good v h = number-good 5 15 4 0 v (omega arith) (omega arith)
+
+no-number : (n : ℕ) → eqb n 0 ≡ true → n ≤ 0
+no-number n e = omega (arith, eqb-true n 0 e)
+
+is-zero : (n : ℕ) → n ≤ 0 → eqb n 0 ≡ true
+is-zero n h = eq-eqb n 0 (omega arith)
+
+no-bytes : (s : List ℕ) → isEmpty s ≡ true → length s ≤ 0
+no-bytes [] e = lit≤ tt
+no-bytes (b ∷ s) e = never (cc)
+
+is-empty : (s : List ℕ) → length s ≤ 0 → isEmpty s ≡ true
+is-empty [] h = refl
+is-empty (b ∷ s) h = absurd (omega arith)
+
+-- the arguments keep within the limits of their shape
+pub record Within (l : Limits) (a : Args) : Type 0 where
+  pub key : length (a .key) ≤ l .key
+  pub lifespan : a .lifespan ≤ l .time
+  pub idle : a .maxIdle ≤ l .time
+  pub entry : a .entry ≤ l .entry
+  pub value : length (a .value) ≤ l .value
+
+module _ (a : Args) where
+  times : noTimes a ≡ true → (a .lifespan ≤ 0) × (a .maxIdle ≤ 0)
+  times e = let b = both (eqb (a .lifespan) 0) (eqb (a .maxIdle) 0) e in (no-number (a .lifespan) (b .0), no-number (a .maxIdle) (b .1))
+
+  no-times : a .lifespan ≤ 0 → a .maxIdle ≤ 0 → noTimes a ≡ true
+  no-times l m = and (is-zero (a .lifespan) l) (is-zero (a .maxIdle) m)
+
+  pub within : (shape : Shape) → a .entry < 256 ^ 8 → Valid (argsOf shape) a → Within (limitsOf shape) a
+  unfolding argsOf
+  within keyed h v =
+      let w = type-valid _ _ _ _ a v in
+      let b = both (noTimes a) (noEntry a && noValue a) (w .0) in
+      let d = both (noEntry a) (noValue a) (b .1) in
+      record {
+        key = limited-valid keyLimit (a .key) (w .1) .0;
+        lifespan = times (b .0) .0;
+        idle = times (b .0) .1;
+        entry = no-number (a .entry) (d .0);
+        value = no-bytes (a .value) (d .1);
+      }
+  within writes h v =
+      let w = type-valid _ _ _ _ a v in
+      let k = seq-valid _ _ _ (w .1) in
+      let l = seq-valid _ _ _ (k .1) in
+      let m = seq-valid _ _ _ (l .1) in
+      record {
+        key = limited-valid keyLimit (a .key) (k .0) .0;
+        lifespan = int-least (a .lifespan) (l .0);
+        idle = int-least (a .maxIdle) (m .0);
+        entry = no-number (a .entry) (w .0);
+        value = limited-valid valueLimit (a .value) (m .1) .0;
+      }
+  within writesIf h v =
+      let w = type-valid _ _ _ _ a v in
+      let k = seq-valid _ _ _ (w .1) in
+      let l = seq-valid _ _ _ (k .1) in
+      let m = seq-valid _ _ _ (l .1) in
+      let e = seq-valid _ _ _ (m .1) in
+      record {
+        key = limited-valid keyLimit (a .key) (k .0) .0;
+        lifespan = int-least (a .lifespan) (l .0);
+        idle = int-least (a .maxIdle) (m .0);
+        entry = omega arith;
+        value = limited-valid valueLimit (a .value) (e .1) .0;
+      }
+  within keyedIf h v =
+      let w = type-valid _ _ _ _ a v in
+      let k = seq-valid _ _ _ (w .1) in
+      let b = both (noTimes a) (noValue a) (w .0) in
+      record {
+        key = limited-valid keyLimit (a .key) (k .0) .0;
+        lifespan = times (b .0) .0;
+        idle = times (b .0) .1;
+        entry = omega arith;
+        value = no-bytes (a .value) (b .1);
+      }
+  within bare h v =
+      let w = type-valid _ _ _ _ a v in
+      let b = both (isEmpty (a .key)) (noTimes a && (noEntry a && noValue a)) (w .0) in
+      let d = both (noTimes a) (noEntry a && noValue a) (b .1) in
+      let e = both (noEntry a) (noValue a) (d .1) in
+      record {
+        key = no-bytes (a .key) (b .0);
+        lifespan = times (d .0) .0;
+        idle = times (d .0) .1;
+        entry = no-number (a .entry) (e .0);
+        value = no-bytes (a .value) (e .1);
+      }
+
+  pub within-good : (shape : Shape) → Bytes (a .key) → Bytes (a .value) → Within (limitsOf shape) a → Valid (argsOf shape) a
+  unfolding argsOf empty
+  within-good keyed bk bv w =
+      type-good _ _ _ _ (and (no-times (w .lifespan) (w .idle)) (and (is-zero (a .entry) (w .entry)) (is-empty (a .value) (w .value))))
+      (limited-good keyLimit (a .key) (omega arith) (w .key) bk)
+  within-good writes bk bv w =
+      type-good _ _ _ _ (is-zero (a .entry) (w .entry))
+      (seq-good _ _ (limited-good keyLimit (a .key) (omega arith) (w .key) bk)
+      (seq-good _ _ (int-good (a .lifespan) (w .lifespan))
+      (seq-good _ _ (int-good (a .maxIdle) (w .idle)) (limited-good valueLimit (a .value) (omega arith) (w .value) bv))))
+  within-good writesIf bk bv w =
+      type-good _ _ _ _ refl
+      (seq-good _ _ (limited-good keyLimit (a .key) (omega arith) (w .key) bk)
+      (seq-good _ _ (int-good (a .lifespan) (w .lifespan))
+      (seq-good _ _ (int-good (a .maxIdle) (w .idle))
+      (seq-good _ _ (big-good 8 (a .entry) (omega (arith, w .entry))) (limited-good valueLimit (a .value) (omega arith) (w .value) bv)))))
+  within-good keyedIf bk bv w =
+      type-good _ _ _ _ (and (no-times (w .lifespan) (w .idle)) (is-empty (a .value) (w .value)))
+      (seq-good _ _ (limited-good keyLimit (a .key) (omega arith) (w .key) bk) (big-good 8 (a .entry) (omega (arith, w .entry))))
+  within-good bare bk bv w =
+      type-good _ _ _ _
+      (and (is-empty (a .key) (w .key)) (and (no-times (w .lifespan) (w .idle)) (and (is-zero (a .entry) (w .entry)) (is-empty (a .value) (w .value)))))
+      refl
+
+-- the test of the arguments, by limits that are those of the shape
+module _ (shape : Shape) (a : Args) (l : Limits) (e : l ≡ limitsOf shape) where
+  pub broken-args : a .entry < 256 ^ 8 → (Within l a → ⊥) → false ≡ argsOf shape .ok a
+  broken-args h n = broken-by (argsOf shape) a (λ v. n (rw e (within a shape h v)))
+
+  pub good-args : Bytes (a .key) → Bytes (a .value) → Within l a → true ≡ argsOf shape .ok a
+  good-args bk bv w = sym (within-good a shape bk bv (rw e at w))
+
+-- the rules of a request, one by one
+pub record Rules (q : Request) : Type 0 where
+  pub id : q .id < 0x8000_0000_0000_0000
+  pub version : isVersion (q .version) ≡ true
+  pub text : isText (q .name) ≡ true
+  pub name : length (q .name) ≤ nameLimit
+  pub flags : q .flags ≤ ed (q .version) .flags
+  pub low : 1 ≤ q .intelligence
+  pub high : q .intelligence ≤ 3
+  pub topology : q .topology ≤ 0xffff_ffff
+  pub args : Valid (argsOf (shapeOf (q .op))) (q .args)
+
+pub rules : (q : Request) → Valid request q → Rules q
+unfolding request fields limitedText vLong
+rules q v =
+    let a = seq-valid _ _ (fromRequest q) (type-valid _ _ _ _ q v .1) in
+    let b = seq-valid _ _ _ (a .1) in
+    let c = seq-valid _ _ _ (b .1) in
+    let d = seq-valid _ _ _ (c .1) in
+    let e = seq-valid _ _ _ (d .1) in
+    let f = seq-valid _ _ _ (e .1) in
+    let g = seq-valid _ _ _ (f .1) in
+    let h = seq-valid _ _ _ (g .1) in
+    let i = seq-valid _ _ _ (h .1) in
+    let n = guard-valid isText 7 (limited nameLimit) (q .name) (e .0) in
+    let j = both (leb 1 (q .intelligence)) (leb (q .intelligence) 3) (guard-valid _ 8 byte (q .intelligence) (g .0) .0) in
+    record {
+      id = valid 2 127 8 0 (q .id) (b .0) .1;
+      version = guard-valid isVersion 3 byte (q .version) (c .0) .0;
+      text = n .0;
+      name = limited-valid nameLimit (q .name) (n .1) .0;
+      flags = leb-true (q .flags) _ (guard-valid _ 8 vInt (q .flags) (f .0) .0);
+      low = leb-true 1 (q .intelligence) (j .0);
+      high = leb-true (q .intelligence) 3 (j .1);
+      topology = int-least (q .topology) (h .0);
+      args = i .1;
+    }
+
+-- the fields that every request can be sent
+operation-good : (q : Request) → Valid (operation (ed (q .version))) (q .op)
+unfolding operation byte
+operation-good q =
+    type-good _ _ _ _ refl
+    (guard-good (opFits (ed (q .version))) 4 byte (rw (op-known (q .version), code-known (q .op))) (lt-ltb _ 256 (code-small (q .op))))
+
+transaction-good : (v : ℕ) → Valid (transaction (ed v .transaction)) tt
+unfolding transaction byte
+transaction-good v = rw (has-transaction v) (type-good _ _ _ _ refl (guard-good (λ n. eqb n 0) 8 byte refl refl))
+
+pub good : (q : Request) → Bytes (q .name) → Rules q → Valid request q
+unfolding request fields limitedText vLong byte
+good q b r =
+    type-good _ _ _ _ refl
+    (seq-good _ _ (guard-good (λ m. eqb m 0xa0) 1 byte refl refl)
+    (seq-good _ _ (number-good 2 127 8 0 (q .id) (omega arith) (r .id))
+    (seq-good _ _ (guard-good isVersion 3 byte (r .version) (lt-ltb (q .version) 256 (version-small (q .version) (r .version))))
+    (seq-good _ _ (operation-good q)
+    (seq-good _ _ (guard-good isText 7 (limited nameLimit) (r .text) (limited-good nameLimit (q .name) (omega arith) (r .name) b))
+    (seq-good _ _ (guard-good _ 8 vInt (le-leb (q .flags) _ (r .flags)) (int-good (q .flags) (omega (arith, r .flags, flags-small (q .version)))))
+    (seq-good _ _
+    (guard-good _ 8 byte (and (le-leb 1 (q .intelligence) (r .low)) (le-leb (q .intelligence) 3 (r .high))) (lt-ltb (q .intelligence) 256 (omega (arith, r .high))))
+    (seq-good _ _ (int-good (q .topology) (r .topology)) (seq-good _ _ (transaction-good (q .version)) (r .args))))))))))
+
+-- a rule that is not kept; and the last one, where all others are
+pub broken : (q : Request) → (Rules q → ⊥) → false ≡ request .ok q
+broken q n = broken-by request q (λ v. n (rules q v))
+
+pub last : (q : Request) (t : Bool) → t ≡ argsOf (shapeOf (q .op)) .ok (q .args) → Bytes (q .name) → (Valid (argsOf (shapeOf (q .op))) (q .args) → Rules q) → t ≡ request .ok q
+last q true e b f = sym (good q b (f (sym e)))
+last q false e b f = broken q (λ r. let x = r .args in never (cc))

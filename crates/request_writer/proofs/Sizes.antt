@@ -1,0 +1,52 @@
+-- How many bytes a request takes. Assumes nothing.
+use mathlib.Core.Path.{_≡_, refl, ap}
+use Prim.Native.Nat.{ℕ, _+_, _≤_, _<_, _^_}
+use native.Mathlib.Omega.{arith}
+use lib.ListN.{length, length-append}
+use Rattle.wire.specs.Codec.{empty, byte, guard, seq, as-type}
+use Rattle.wire.specs.Number.{vInt, vLong}
+use Rattle.wire.proofs.NumberWrite.{int-long}
+use Rattle.wire.proofs.FieldLaws.{big-length, limited-length}
+use Rattle.field.specs.Answer.{limitedText}
+use Rattle.message.specs.Request.{Shape, keyed, writes, writesIf, keyedIf, bare, shapeOf, Args, argsOf, operation, transaction, ed, fields, Request, request, nameLimit, keyLimit, valueLimit}
+use Rattle.request.proofs.Editions.{has-transaction, flags-small}
+use Rattle.request_writer.specs.Parts.{limitsOf, sizeOf, argsSize}
+use Rattle.request_writer.proofs.Rules.{Within, within, Rules}
+
+int-size : (v : ℕ) → v ≤ 0xffff_ffff → length (vInt .enc v) ≡ length (vLong .enc v)
+int-size v h = ap length (int-long v (omega arith))
+
+module _ (a : Args) where
+  pub args-size : (shape : Shape) → Within (limitsOf shape) a → length (argsOf shape .enc a) ≡ argsSize shape a
+  unfolding argsOf argsSize as-type seq empty
+  args-size keyed w = limited-length keyLimit (a .key) (omega (arith, w .key))
+  args-size writes w =
+      simp length-append
+      (omega
+      (arith, limited-length keyLimit (a .key) (omega (arith, w .key)), int-size (a .lifespan) (w .lifespan), int-size (a .maxIdle) (w .idle), limited-length valueLimit (a .value) (omega (arith, w .value))))
+  args-size writesIf w =
+      simp length-append
+      (omega
+      (arith, limited-length keyLimit (a .key) (omega (arith, w .key)), int-size (a .lifespan) (w .lifespan), int-size (a .maxIdle) (w .idle), big-length 8 (a .entry), limited-length valueLimit (a .value) (omega (arith, w .value))))
+  args-size keyedIf w = simp length-append (omega (arith, limited-length keyLimit (a .key) (omega (arith, w .key)), big-length 8 (a .entry)))
+  args-size bare w = refl
+
+  -- no shape sends more than the greatest key and value
+  pub args-small : (shape : Shape) → Within (limitsOf shape) a → (length (a .key) ≤ keyLimit) × (length (a .value) ≤ valueLimit)
+  args-small keyed w = (omega (arith, w .key), omega (arith, w .value))
+  args-small writes w = (omega (arith, w .key), omega (arith, w .value))
+  args-small writesIf w = (omega (arith, w .key), omega (arith, w .value))
+  args-small keyedIf w = (omega (arith, w .key), omega (arith, w .value))
+  args-small bare w = (omega (arith, w .key), omega (arith, w .value))
+
+transaction-size : (v : ℕ) → length (transaction (ed v .transaction) .enc tt) ≡ 1
+unfolding transaction as-type guard byte
+transaction-size v = rw (has-transaction v)
+
+pub request-size : (q : Request) → q .args .entry < 256 ^ 8 → Rules q → length (request .enc q)
+    ≡ 5 + length (vLong .enc (q .id)) + sizeOf (q .name) + length (vLong .enc (q .flags)) + length (vLong .enc (q .topology)) + argsSize (shapeOf (q .op)) (q .args)
+unfolding request fields operation limitedText as-type seq guard byte
+request-size q h r =
+    simp length-append
+    (omega
+    (arith, limited-length nameLimit (q .name) (omega (arith, r .name)), int-size (q .flags) (omega (arith, r .flags, flags-small (q .version))), int-size (q .topology) (r .topology), transaction-size (q .version), args-size (q .args) (shapeOf (q .op)) (within (q .args) (shapeOf (q .op)) h (r .args))))

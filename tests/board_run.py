@@ -85,6 +85,16 @@ def start(program, arguments, **options):
     return Outcome(done.stdout or b'', done.stderr or b'', done.returncode, None, [])
 
 
+def traced(kill_at, arguments):
+    """Runs tests/kill_at; gives its outcome and the lines it wrote to file descriptor 9."""
+    with tempfile.TemporaryFile() as told:
+        def give_nine():
+            os.dup2(told.fileno(), 9)
+        outcome = start(kill_at, arguments, preexec_fn=give_nine, pass_fds=[9])
+        told.seek(0)
+        return outcome, told.read().decode().splitlines()
+
+
 def demand(good, case, why):
     if not good:
         raise Difference(f'{case}: {why}')

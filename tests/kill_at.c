@@ -5,6 +5,8 @@
    kill_at short N COMMAND ..        lets no read and no write pass more than N bytes
    kill_at list COMMAND ..           prints each call to file descriptor 9: number, first two arguments, result
 
+   fail and short begin where the command first opens a file that is one of its own words, so that the loading of the program is left alone.
+
    It exits with 0 if it disturbed the command, 3 if the command ended before that, and 2 if ptrace is refused. */
 #include <errno.h>
 #include <signal.h>
@@ -17,11 +19,14 @@
 #include <sys/wait.h>
 #include <unistd.h>
 
-#ifndef __x86_64__
-#error "the registers are those of x86-64"
-#endif
-
 enum { DISTURBED = 0, REFUSED = 2, ENDED = 3 };
+
+#ifndef __x86_64__
+/* The registers below are those of x86-64. */
+int main(void) {
+    return REFUSED;
+}
+#else
 
 static FILE *list;
 
@@ -40,6 +45,22 @@ static int on_files(long call) {
 
 static int has_count(long call) {
     return call == SYS_read || call == SYS_write || call == SYS_pread64 || call == SYS_pwrite64;
+}
+
+/* Whether the call at its entry opens a file that is one of the command's words. */
+static int opens_own(pid_t child, char **words, struct user_regs_struct *registers) {
+    char path[4096] = "";
+    unsigned long long at = registers->orig_rax == SYS_openat ? registers->rsi : registers->rdi;
+    if (registers->orig_rax != SYS_openat && registers->orig_rax != SYS_open) return 0;
+    for (size_t done = 0; done + sizeof(long) < sizeof path && !memchr(path, 0, done); done += sizeof(long)) {
+        long word = ptrace(PTRACE_PEEKDATA, child, at + done, 0);
+        memcpy(path + done, &word, sizeof word);
+    }
+    path[sizeof path - 1] = 0;
+    for (char **word = words + 1; *word; word++) {
+        if (!strcmp(*word, path)) return 1;
+    }
+    return 0;
 }
 
 /* Goes on to the next stop at a call; 0 if the command ended. */
@@ -73,13 +94,14 @@ static int kill_at(pid_t child, long at) {
 }
 
 /* At its entry the call becomes none, at its exit its result becomes the error. */
-static int fail_at(pid_t child, long at, long error) {
+static int fail_at(pid_t child, char **words, long at, long error) {
     long seen = 0;
-    int disturbed = ENDED;
+    int disturbed = ENDED, begun = 0;
     struct user_regs_struct registers;
     while (next_stop(child)) {
         ptrace(PTRACE_GETREGS, child, 0, &registers);
-        int now = on_files((long)registers.orig_rax) && ++seen == at;
+        begun = begun || opens_own(child, words, &registers);
+        int now = begun && on_files((long)registers.orig_rax) && ++seen == at;
         if (now) {
             if (list) fprintf(list, "%lld %lld\n", registers.orig_rax, registers.rdi);
             registers.orig_rax = (unsigned long long)-1;
@@ -96,12 +118,13 @@ static int fail_at(pid_t child, long at, long error) {
     return disturbed;
 }
 
-static int shorten(pid_t child, unsigned long long most) {
-    int disturbed = ENDED;
+static int shorten(pid_t child, char **words, unsigned long long most) {
+    int disturbed = ENDED, begun = 0;
     struct user_regs_struct registers;
     while (next_stop(child)) {
         ptrace(PTRACE_GETREGS, child, 0, &registers);
-        if (has_count((long)registers.orig_rax) && registers.rdx > most) {
+        begun = begun || opens_own(child, words, &registers);
+        if (begun && has_count((long)registers.orig_rax) && registers.rdx > most) {
             registers.rdx = most;
             ptrace(PTRACE_SETREGS, child, 0, &registers);
             disturbed = DISTURBED;
@@ -146,7 +169,8 @@ int main(int count, char **words) {
     pid_t child = start(words + before);
     if (child < 0) return REFUSED;
     if (!strcmp(mode, "kill")) return kill_at(child, atol(words[2]));
-    if (!strcmp(mode, "fail")) return fail_at(child, atol(words[2]), atol(words[3]));
-    if (!strcmp(mode, "short")) return shorten(child, (unsigned long long)atol(words[2]));
+    if (!strcmp(mode, "fail")) return fail_at(child, words + before, atol(words[2]), atol(words[3]));
+    if (!strcmp(mode, "short")) return shorten(child, words + before, (unsigned long long)atol(words[2]));
     return list_calls(child);
 }
+#endif

@@ -53,6 +53,8 @@ class Folder:
 def wrong_words(folder):
     """Arguments that are no command, and files that are not there."""
     long = 'x' * 4096
+    longer = [(f'an argument of {size:,} bytes', words) for size in (4095, 4097, 4098, 5000, 8192, 65536, 100_000)
+              for words in (['serve', 'x' * size], ['serve', 'requests', 'x' * size], ['serve', 'x' * size, 'table'], ['x' * size])]
     cases = [('missing REQUESTS', ['serve', 'none']), ('missing REQUESTS', ['serve', 'none', 'table']),
              ('missing REQUESTS and TABLE', ['serve', 'none', 'none']), ('REQUESTS in no folder', ['serve', 'no/requests', 'table']),
              ('REQUESTS below a file', ['serve', 'requests/x', 'table']),
@@ -63,10 +65,11 @@ def wrong_words(folder):
              ('too many arguments', ['serve', 'requests', 'table', '']), ('too many arguments', ['serve'] + ['requests'] * 300),
              ('unknown command', ['store']), ('unknown command', ['Serve', 'requests']), ('unknown command', ['serv', 'requests']),
              ('unknown command', ['server', 'requests', 'table']), ('unknown command', ['--serve', 'requests']),
-             ('unknown command', ['']), ('unknown command', ['requests', 'table']),
+             ('unknown command', ['']), ('unknown command', ['requests', 'table']), ('unknown command', ['serve ', 'requests']),
+             ('unknown command', ['serve\n', 'requests']), ('unknown command', ['', 'requests']), ('unknown command', ['serve requests']),
              ('an argument of 4,096 bytes', [long]), ('an argument of 4,096 bytes', ['serve', long]),
              ('an argument of 4,096 bytes', ['serve', 'requests', long]), ('an argument of 4,096 bytes', ['serve', long, 'table']),
-             ('an argument of 4,096 bytes', ['serve', './' * 2044 + 'requests']), ('an argument of 100,000 bytes', ['serve', 'requests', 'x' * 100_000]),
+             ('an argument of 4,096 bytes', ['serve', './' * 2044 + 'requests']), *longer,
              ('a path of 4,095 bytes and more for the file beside', ['serve', 'requests', './' * 2045 + 'table'])]
     if STAND_IN:  # it serves first and stores afterwards
         cases = [case for case in cases if case[0] != 'a path of 4,095 bytes and more for the file beside']

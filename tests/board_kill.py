@@ -121,7 +121,25 @@ def same_number(bench):
         now = read_file(scene.table)
         demand(now == scene.new, case, f'TABLE is {short(now)}')
         demand(set(beside(scene.table)) <= {'table.new-1'}, case, f'left beside TABLE: {beside(scene.table)}')
+    place(scene.table + '.new-1', ABSENT)
     return 3
+
+
+def at_once(bench, rounds):
+    """Several runs over one TABLE at once: each finds a whole table, and the last to store leaves one that some of them make in a row."""
+    scene = Scene(bench, 'several at once', SHORT, OLD)
+    several, possible = 4, [OLD]
+    for _ in range(several):
+        possible.append(scene.expected(scene.requests, possible[-1])[1])
+    for _ in range(rounds):
+        place(scene.table, OLD)
+        runs = [subprocess.Popen(scene.command(), stdout=subprocess.DEVNULL, stderr=subprocess.PIPE) for _ in range(several)]
+        for run in runs:
+            _, said = run.communicate(timeout=60)
+            demand(said == b'' and run.returncode >= 0, scene.name, f'one says {short(said)}')
+        demand(read_file(scene.table) in possible[1:], scene.name, f'TABLE is {short(read_file(scene.table))}')
+        demand(beside(scene.table) == [], scene.name, f'left beside TABLE: {beside(scene.table)}')
+    return rounds
 
 
 def random_scene(bench, seed, lines):
@@ -145,6 +163,7 @@ def part():
         kills = by_clock(scene, 2000 if LONG else 100)
         told.append(f'by the clock: {kills} kills, {scene.seen[scene.old]} old, {scene.seen[scene.new]} new')
         told.append(f'left under the same name: {same_number(bench)}')
+        told.append(f'four at once: {0 if STAND_IN else at_once(bench, 200 if LONG else 10)}')
     return '; '.join(told)
 
 

@@ -8,7 +8,7 @@ import signal
 import subprocess
 
 from board_frames import GET, PUT, entry_line, head_line, key_name, request
-from board_run import (ABSENT, BOARD, Bench, REFERENCE, STAND_IN, Outcome, demand, demand_calm, demand_nothing_beside, demand_refused,
+from board_run import (ABSENT, BOARD, Bench, REFERENCE, STAND_IN, demand, demand_calm, demand_refused,
                        demand_sentence, read_file, run_part, short, start, write_file)
 
 NOBODY = 65534

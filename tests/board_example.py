@@ -1,7 +1,7 @@
 """Part 1: the example of paper 01, byte for byte."""
 import os
 
-from board_run import (ABSENT, BOARD, Bench, NO_TABLE, REFERENCE, TOP, demand, demand_calm, demand_nothing_beside, read_file, run_part,
+from board_run import (ABSENT, BOARD, Bench, REFERENCE, TOP, demand, demand_calm, demand_nothing_beside, read_file, run_part,
                        short)
 
 

@@ -103,6 +103,7 @@ def by_clock(scene, count, seed=7):
             time.sleep(moment)
             child.send_signal(signal.SIGKILL)
         scene.check(f'after {moment * 1000:.2f} ms')
+    demand(scene.seen[scene.old] >= 1, scene.name, 'no kill came before the end')
     return count
 
 

@@ -6,8 +6,8 @@ import os
 import random
 
 from board_frames import (GET_WITH_VERSION, LARGEST_DEADLINE, LARGEST_VERSION, MOST_KEYS, PUT, entry_line, head_line, key_name, request)
-from board_run import (ABSENT, BOARD, Bench, LONG, REFERENCE, STAND_IN, Difference, beside, demand, demand_refused, read_file, run_part,
-                       short, start, write_file)
+from board_run import (ABSENT, BOARD, Bench, LONG, REFERENCE, STAND_IN, beside, demand, demand_refused, read_file, run_part,
+                       start, write_file)
 
 ASK = request(GET_WITH_VERSION) + request(PUT, key=b'new', value=b'x', lifespan=3) + request(GET_WITH_VERSION, key=b'new')
 SMALL = head_line(9) + entry_line(3, b'k', b'one', 104) + entry_line(9, b'l', b'')

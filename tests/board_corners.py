@@ -1,0 +1,246 @@
+"""Part 2: corners of request files, each compared with the second program, with and without a TABLE."""
+from board_frames import (CLEAR, CONTAINS_KEY, GET, GET_WITH_VERSION, LARGEST_SECOND, LARGEST_VERSION, MOST_KEYS, OPERATIONS, PING, PUT,
+                          PUT_IF_ABSENT, REMOVE, REMOVE_IF_UNMODIFIED, REPLACE, REPLACE_IF_UNMODIFIED, entry_line, frame, head_line,
+                          header, key_name, line, number, request)
+from board_run import ABSENT, Bench, demand, run_part
+
+GOOD = request(PUT, key=b'good', value=b'line')
+AFTER = request(GET_WITH_VERSION, key=b'good')
+
+
+def line_forms():
+    """Files whose lines are or are not of the form, with what the paper says of each where it is one line."""
+    ping = request(PING)
+    yield 'empty file', b'', b''
+    yield 'a lone line end', b'\n', b'refused 14\n'
+    yield 'several empty lines', b'\n\n\n', b'refused 14\n' * 3
+    yield 'an empty line between', ping + b'\n' + ping, None
+    yield 'last line without its end', ping[:-1], b'a101180000\n'
+    yield 'one character', b'0', b'refused 14\n'
+    yield 'one NUL', b'\0', b'refused 14\n'
+    yield 'carriage returns', GOOD.replace(b'\n', b'\r\n') + AFTER, None
+    yield 'carriage return alone', ping[:-1] + b'\r' + ping, b'refused 14\n'
+    yield 'upper-case digits', GOOD.upper() + AFTER, None
+    yield 'upper-case digits in the second', b'0000000A' + ping[8:], b'refused 14\n'
+    yield 'eight digits and a blank', b'00000000 \n', b'refused 15\n'
+    yield 'eight digits and a blank without line end', b'00000000 ', b'refused 15\n'
+    yield 'eight digits', b'00000000\n', b'refused 14\n'
+    yield 'no blank', ping.replace(b' ', b''), b'refused 14\n'
+    yield 'two blanks', ping.replace(b' ', b'  '), b'refused 14\n'
+    yield 'a tab', ping.replace(b' ', b'\t'), b'refused 14\n'
+    yield 'blank in front', b' ' + ping, b'refused 14\n'
+    yield 'blank behind', ping[:-1] + b' \n', b'refused 14\n'
+    yield 'byte order mark', b'\xef\xbb\xbf' + ping, b'refused 14\n'
+    yield 'seven digits', ping[1:], b'refused 14\n'
+    yield 'nine digits', b'0' + ping, b'refused 14\n'
+    yield 'odd digits', ping[:-2] + b'\n', b'refused 14\n'
+    yield 'one digit', b'00000000 a\n', b'refused 14\n'
+    yield 'blank among the digits', b'00000000 a0 010a170000010000\n', b'refused 14\n'
+
+
+def long_lines():
+    """Lines around the limit and far above it, each before a good line, and at the end without line end."""
+    for length in [*range(1016, 1032), 2047, 2048, 4095, 4096, 4097, 5000, 65535, 65536, 65537, 70000, 131072, 200000]:
+        for name, fill in (('digits', b'00000000 ' + b'a0' * length), ('zeros', b'0' * length), ('NULs', b'\0' * length),
+                           ('a good beginning', GOOD[:-1] + b'0' * length), ('carriage returns', b'\r' * length)):
+            long = fill[:length]
+            yield f'{length} characters of {name}, then good lines', GOOD + long + b'\n' + AFTER + long + b'\n' + AFTER
+            yield f'{length} characters of {name} at the end', GOOD + long
+
+
+def sizes():
+    """Files that end at, before and behind the sizes that buffers have, in lines of 32 bytes."""
+    text = b''.join(request(CONTAINS_KEY, key=bytes([at % 251])) for at in range(5000))
+    demand(len(text) == 5000 * 32, 'sizes', 'a line is not 32 bytes long')
+    for size in (512, 1024, 2048, 4096, 8192, 16384, 32768, 65536, 131072):
+        for near in (-1, 0, 1):
+            yield f'a file of {size + near} bytes', text[:size + near]
+
+
+def odd_bytes():
+    """Every byte at every kind of place, in one file."""
+    base = GOOD[:-1]
+    out = bytearray()
+    for place in (0, 4, 7, 8, 9, 10, len(base) - 1):
+        for byte in range(256):
+            out += base[:place] + bytes([byte]) + base[place + 1:] + b'\n'
+    yield 'every byte at seven places', bytes(out) + AFTER
+    yield 'NUL and high bytes', b'\0\n' + b'\xff' * 40 + b'\n' + b'\x80\xfe\0' * 300 + b'\n' + GOOD + AFTER
+
+
+def refusals():
+    """Frames refused 1 to 9; 10 and 11 need a table and stand below."""
+    many = b'\xff' * 4
+    yield 1, b'\xa1' + header(PING)[1:]
+    yield 2, b'\xa0\x80\x00' + header(PING)[2:]
+    yield 2, b'\xa0' + b'\xff' * 8 + b'\x80' + header(PING)[2:]
+    for version in (0, 9, 13, 20, 0x41, 255):
+        yield 3, header(PING, version=version)
+    for operation in (0, 2, 4, 0x15, 0x16, 0x18, 0x19, 0x1d, 0x50, 255):
+        yield 4, header(operation)
+    yield 5, header(PING)[:4] + b'\x80\x00' + header(PING)[5:]
+    yield 5, header(PING)[:4] + many + b'\x10'
+    yield 5, header(GET) + b'\x81\x00' + b'k'
+    yield 5, header(PUT) + b'\x01k' + many + b'\x1f'
+    yield 6, header(PING, name=b'n' * 33)
+    yield 6, header(GET) + number(65) + b'k' * 65
+    yield 6, header(GET) + many + b'\x0f'
+    yield 6, header(PUT) + b'\x01k\0\0' + number(257) + b'v' * 257
+    for name in (b'\xc3', b'\xc0\x80', b'\xed\xa0\x80', b'\xf4\x90\x80\x80', b'\xff', b'\x80', b'\xe0\x9f\xbf', b'\xf0\x8f\xbf\xbf'):
+        yield 7, header(PING, name=name)
+    for flags, version in ((2, 10), (7, 11), (8, 12), (LARGEST_SECOND, 12)):
+        yield 8, header(PING, flags=flags, version=version)
+    for intelligence in (0, 4, 255):
+        yield 8, header(PING, intelligence=intelligence)
+    yield 8, header(PING, transaction=1)
+    for name in (b'n', b'n' * 32, 'é'.encode(), '\U0010ffff'.encode(), b'\0'):
+        yield 9, header(PING, name=name)
+    yield 9, header(CLEAR, name=b'x')
+
+
+STATUS = {1: '81', 2: '81', 3: '83', 4: '82', 5: '84', 6: '84', 7: '84', 8: '84', 9: '85', 10: '85', 11: '85'}
+TEXT = {1: 'bad magic', 2: 'bad message id', 3: 'bad version', 4: 'bad command', 5: 'bad number', 6: 'too long', 7: 'bad text',
+        8: 'bad field', 9: 'no such cache', 10: 'full', 11: 'no versions left'}
+
+
+def error_line(refusal, message=1):
+    """The error reply of the paper's table."""
+    text = TEXT[refusal].encode()
+    message = 0 if refusal in (1, 2) else message
+    return (b'\xa1' + number(message) + b'\x50' + bytes.fromhex(STATUS[refusal]) + b'\0' + number(len(text)) + text).hex().encode() + b'\n'
+
+
+def refusal_files(bench):
+    """Each refusal alone and with bytes behind, both by the paper's table."""
+    for refusal, data in refusals():
+        case = f'refused {refusal} at {data.hex()}'
+        behind = b'refused 15\n' if refusal == 9 else error_line(refusal)
+        wanted = error_line(refusal) + behind
+        got = bench.same(case, line(data) + line(data + b'\0') + GOOD + AFTER)
+        demand(got.out.startswith(wanted), case, f'the second program gives {got.out!r}, the paper {wanted!r}')
+
+
+def cut_frames():
+    """Every beginning of a frame of each operation, and bytes behind it, with a look at the table after each."""
+    for operation in OPERATIONS:
+        data = frame(operation, key=b'good', value=b'new', flags=1, entry_version=1)
+        out = GOOD
+        for end in range(len(data)):
+            out += line(data[:end]) + AFTER
+        for tail in (b'\0', b'\xa0', data):
+            out += line(data + tail) + AFTER
+        yield f'cut frames and bytes behind, operation {operation:02x}', out + line(data) + AFTER
+
+
+def operations():
+    """All operations, each flag and version, on a held and on an absent key, with the right version and with others."""
+    for version, most in ((10, 1), (11, 1), (12, 7)):
+        for flags in range(most + 1):
+            out = b''
+            for operation in OPERATIONS:
+                for key in (b'good', b'none'):
+                    for entry_version in (1, 0, 2, LARGEST_VERSION, LARGEST_VERSION + 2, 2 ** 64 - 1):
+                        out += request(CLEAR) + GOOD
+                        out += request(operation, 5, key=key, value=b'new', lifespan=7, idle=9, entry_version=entry_version,
+                                       version=version, flags=flags, message=300, intelligence=3, topology=70000)
+                        out += AFTER + request(GET_WITH_VERSION, key=b'none')
+            # Versions go up, so the right one is hit here.
+            for last in range(2):
+                put = out.count(GOOD) + last
+                out += request(REPLACE_IF_UNMODIFIED, key=b'good', value=b'x', entry_version=put, version=version, flags=flags) + AFTER
+            yield f'all operations, version {version}, flags {flags}', out
+    yield 'conditions met', conditions_met()
+
+
+def conditions_met():
+    """Conditional writes with the right version, the one above, the one below."""
+    out = request(PUT, value=b'one')
+    for version in (0, 2, 1):
+        out += request(REPLACE_IF_UNMODIFIED, value=b'two', entry_version=version, flags=1) + request(GET_WITH_VERSION)
+    for version in (1, 3, 2 + 2 ** 63, 2):
+        out += request(REMOVE_IF_UNMODIFIED, entry_version=version, flags=1) + request(GET_WITH_VERSION)
+    return out + request(PUT, value=b'three') + request(GET_WITH_VERSION)
+
+
+def values():
+    """Values and keys with all bytes, of no bytes and of the most bytes."""
+    every = bytes(range(256))
+    yield 'every byte in a value', request(PUT, value=every) + request(GET) + request(PUT, value=every[::-1], flags=1) + request(REMOVE, flags=1)
+    yield 'line ends in key and value', request(PUT, key=b'\n', value=b'\n\n') + request(GET, key=b'\n') + request(GET, key=b'\n\n')
+    for length in (0, 1, 63, 64):
+        key = b'\n' * length
+        yield f'key of {length}', request(PUT, key=key, value=b'x') + request(GET_WITH_VERSION, key=key) + request(REMOVE, key=key, flags=1)
+    for length in (0, 1, 127, 128, 129, 255, 256):
+        yield f'value of {length}', request(PUT, value=b'\n' * length) + request(GET_WITH_VERSION) + request(PUT, value=b'', flags=1)
+    largest = dict(message=LARGEST_VERSION, key=b'k' * 64, value=b'v' * 256, topology=LARGEST_SECOND, lifespan=LARGEST_SECOND,
+                   idle=LARGEST_SECOND, entry_version=1)
+    yield 'the longest request and reply', (request(PUT, **largest) + request(GET_WITH_VERSION, **largest)
+                                            + request(REPLACE_IF_UNMODIFIED, flags=1, **largest) + request(GET, **largest))
+    yield 'message ids', b''.join(request(PING, message=2 ** bits - less) for bits in range(1, 64) for less in (0, 1))
+    yield 'topologies and lifespans', b''.join(request(PUT, topology=2 ** bits - 1, lifespan=2 ** bits - 1, idle=2 ** bits - 1)
+                                               + request(GET_WITH_VERSION) for bits in range(33))
+
+
+def deadlines():
+    """Deadlines are seen in the TABLE alone."""
+    for second in (0, 1, 0x7fffffff, 0x80000000, LARGEST_SECOND):
+        for lifespan in (0, 1, 127, 128, 0x80000000, LARGEST_SECOND):
+            for flags in (0, 2, 4):
+                yield (f'second {second}, lifespan {lifespan}, flags {flags}',
+                       request(PUT, second, lifespan=lifespan, idle=5, version=12, flags=flags))
+
+
+def many_keys():
+    """The 129th key, and writes to a full table."""
+    fill = b''.join(request(PUT, key=key_name(at), value=b'%d' % at) for at in range(MOST_KEYS))
+    new, held = key_name(MOST_KEYS), key_name(77)
+    look = request(CONTAINS_KEY, key=new) + request(GET_WITH_VERSION, key=held)
+    tries = b''.join(request(operation, key=key, value=b'x', flags=1, entry_version=78) + look
+                     for operation in (PUT, PUT_IF_ABSENT, REPLACE, REPLACE_IF_UNMODIFIED) for key in (new, held))
+    yield '128 keys', fill
+    yield '129 keys', fill + request(PUT, key=new)
+    yield 'writes at 128 keys', fill + tries
+    yield 'room freed and used again', (fill + request(REMOVE, key=key_name(5), flags=1) + request(PUT, key=new)
+                                        + request(PUT, key=key_name(5)) + look)
+    yield 'cleared and filled again', fill + request(CLEAR) + look + fill[::1] + tries
+    yield '300 keys', b''.join(request(PUT, key=key_name(at)) for at in range(300)) + b''.join(request(GET, key=key_name(at)) for at in range(300))
+
+
+def last_versions(bench):
+    """The last version, through a TABLE."""
+    writes = b''.join(request(operation, key=key, value=b'x', flags=1, entry_version=LARGEST_VERSION)
+                      + request(GET_WITH_VERSION, key=key)
+                      for operation in (PUT, PUT_IF_ABSENT, REPLACE, REPLACE_IF_UNMODIFIED, REMOVE_IF_UNMODIFIED, REMOVE, PUT, CLEAR, PUT)
+                      for key in (b'k', b'none'))
+    for last in range(LARGEST_VERSION - 3, LARGEST_VERSION + 1):
+        for held in (1, last):
+            bench.same(f'last version {last}', writes, head_line(last) + entry_line(held))
+        bench.same(f'last version {last}, no entry', writes, head_line(last))
+    full = head_line(LARGEST_VERSION) + b''.join(entry_line(at + 1, key_name(at)) for at in range(MOST_KEYS))
+    got = bench.same('full and no version left', request(PUT, key=b'new') + request(PUT, key=key_name(3)) + writes, full)
+    wanted = error_line(10) + error_line(11)
+    demand(got.out.startswith(wanted), 'full and no version left', f'the second program gives {got.out!r}, the paper {wanted!r}')
+
+
+def plain_files():
+    for maker in (long_lines, sizes, odd_bytes, cut_frames, operations, values, deadlines, many_keys):
+        yield from maker()
+
+
+def part():
+    with Bench() as bench:
+        for case, requests, wanted in line_forms():
+            for table in (ABSENT, head_line(7) + entry_line(5)):
+                got = bench.same(case, requests, table)
+                demand(wanted in (None, got.out), case, f'the second program gives {got.out!r}, the paper {wanted!r}')
+            bench.same(case, requests)
+            bench.same(f'{case}, then a good line', requests + b'\n' + GOOD + AFTER, ABSENT)
+        refusal_files(bench)
+        for case, requests in plain_files():
+            bench.same(case, requests, ABSENT)
+        last_versions(bench)
+        return f'{bench.count} files of corners, same replies and same tables'
+
+
+if __name__ == '__main__':
+    run_part('2 corners', part)

@@ -7,6 +7,8 @@ use crate::window::part;
 use field::put;
 ghost use lib.ListN.{length};
 ghost use mathlib.Core.Path.{_≡_};
+ghost use Rattle.board.specs.Window.{Lies};
+ghost use Rattle.board.specs.Turn.{Loads};
 
 // How loading goes: the window on the file, whether the first line is loaded, whether to go on, and whether all lines were good.
 struct Course {
@@ -16,7 +18,9 @@ struct Course {
     good: bool,
 }
 
-fn course_of(window: Window, begun: bool, on: bool, good: bool) -> Course {
+fn course_of(window: Window, begun: bool, on: bool, good: bool) -> Course
+    ensures { λ r. ⌜ r ≡ record { window = window; begun = begun; on = on; good = good } ⌝ }
+{
     Course {
         window: window,
         begun: begun,
@@ -26,11 +30,14 @@ fn course_of(window: Window, begun: bool, on: bool, good: bool) -> Course {
 }
 
 // Loads the lines in the window, and goes on in the file. At its end the first line has to be there, and nothing to be left.
-fn turn(fd: i32, name: &[u8], input: &mut [u8], t: &mut [u8], c: Course) -> Course {
+fn turn(fd: i32, name: &[u8], input: &mut [u8], t: &mut [u8], c: Course) -> Course
+    requires { ⌜ Lies (now input) (c .window) ⌝ }
+    ensures { λ r. ⌜ Loads c (now (input .entry)) (now (t .entry)) r (now (input .exit)) (now (t .exit)) ⌝ }
+{
     let w = c.window;
     let p = stored::load_lines(window::bytes(input, w), t, c.begun);
     if p.taken == 0 && w.ended && p.begun && w.from == w.held {
-        return course_of(w, true, false, true);
+        return course_of(w, p.begun, false, true);
     }
     if !p.good || p.taken == 0 && w.ended {
         say::broken(name);

@@ -4,6 +4,7 @@ mod say;
 mod serve;
 mod window;
 
+use libc::STDERR_FILENO;
 use window::part;
 ghost use lib.ListN.{length};
 ghost use mathlib.Core.Path.{_≡_};
@@ -56,6 +57,12 @@ fn serve_and_store(fd: i32, requests: &[u8], path: &[u8], name: &[u8], t: &mut [
         say::no_room(name);
         return;
     }
+    if out <= STDERR_FILENO {
+        say::closed();
+        libc::close(out);
+        os::unlink(name);
+        return;
+    }
     if serve::serve_file(fd, requests, t) {
         if keep::store_file(out, t, name, path) {
             return;
@@ -86,10 +93,14 @@ fn main() {
         return;
     }
     let n = os::arg(2, &mut first);
-    let m = os::arg(3, &mut second);
-    match count {
-        3 => serve_fresh(&first[..n]),
-        4 => serve_stored(&first[..n], &second[..m]),
-        _ => say::wrong(),
+    if count == 3 && n > 0 {
+        serve_fresh(&first[..n]);
+        return;
     }
+    let m = os::arg(3, &mut second);
+    if count == 4 && n > 0 && m > 0 {
+        serve_stored(&first[..n], &second[..m]);
+        return;
+    }
+    say::wrong();
 }

@@ -33,9 +33,12 @@ fn failed(what: &[u8], file: &[u8], advice: &[u8]) {
 }
 
 pub(crate) fn wrong() {
-    say(
-        b"board: these arguments are not understood; 'board help' shows which are. Nothing was done.\n",
-    );
+    say(b"board: these arguments are not understood, or a name is empty or too long.\n");
+    say(b"'board help' shows what is understood. Nothing was done.\n");
+}
+
+pub(crate) fn closed() {
+    say(b"board: standard input, output and error have to be open. Nothing was done.\n");
 }
 
 pub(crate) fn no_requests(file: &[u8]) {

@@ -3,6 +3,9 @@ use crate::say;
 use crate::window;
 use crate::window::Window;
 use libc::STDOUT_FILENO;
+ghost use mathlib.Core.Path.{_≡_};
+ghost use Rattle.board.specs.Window.{Lies};
+ghost use Rattle.board.specs.Turn.{Serves};
 
 // How far the file is served: the window on it, whether the rest of a line is to be passed over, whether to go on, and whether all went well.
 struct Course {
@@ -12,7 +15,9 @@ struct Course {
     good: bool,
 }
 
-fn course_of(window: Window, passing: bool, on: bool, good: bool) -> Course {
+fn course_of(window: Window, passing: bool, on: bool, good: bool) -> Course
+    ensures { λ r. ⌜ r ≡ record { window = window; passing = passing; on = on; good = good } ⌝ }
+{
     Course {
         window: window,
         passing: passing,
@@ -22,7 +27,10 @@ fn course_of(window: Window, passing: bool, on: bool, good: bool) -> Course {
 }
 
 // Serves the lines in the window, writes what they give, and goes on in the file.
-fn turn(fd: i32, name: &[u8], input: &mut [u8], t: &mut [u8], out: &mut [u8], c: Course) -> Course {
+fn turn(fd: i32, name: &[u8], input: &mut [u8], t: &mut [u8], out: &mut [u8], c: Course) -> Course
+    requires { ⌜ Lies (now input) (c .window) ⌝ }
+    ensures { λ r. ⌜ Serves c (now (input .entry)) (now (t .entry)) (now (out .entry)) r (now (input .exit)) (now (t .exit)) (now (out .exit)) ⌝ }
+{
     let w = c.window;
     let r = server::serve_lines(window::bytes(input, w), t, out, c.passing, w.ended);
     if !io::write_all(STDOUT_FILENO, window::part(out, 0, r.size)) {

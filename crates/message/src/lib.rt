@@ -126,8 +126,8 @@ impl Reply {
     pub fn value_in(self, s: &[u8]) -> &[u8]
         ensures { λ r. ⌜ now r ≡ partOf (now (s .entry)) (self .value) ⌝ }
     {
-        let p = self.value;
-        field::part(s, p)
+        let v = self.value;
+        field::part(s, v)
     }
 
     pub fn text_in(self, s: &[u8]) -> &[u8]

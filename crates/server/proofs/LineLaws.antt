@@ -3,8 +3,8 @@ use mathlib.Core.Path.{_≡_, refl, sym, ap, _∙_}
 use mathlib.Core.List.{List, [], _∷_, _++_, append-nil}
 use mathlib.Core.Bool.{Bool, true, false, cond, _&&_}
 use mathlib.Core.Option.{Option, none, some}
-use Prim.Native.Nat.{ℕ, suc, _+_, _*_, _-_, _≤_, _<_}
-use native.Mathlib.Nat.{add-zero, zero-add}
+use Prim.Native.Nat.{ℕ, _+_, _*_, _-_, _≤_, _<_}
+use native.Mathlib.Nat.{zero-add}
 use native.Mathlib.Omega.{arith}
 use lib.ListN.{length, take, drop, getD, set, length-append, length-drop, List·getD-eq-default}
 use lib.Seq.{sets, sets-eq, length-sets, length-take-le, take-at, take-all}
@@ -16,7 +16,7 @@ use Rattle.wire.specs.Codec as wire
 use Rattle.wire.specs.Codec.{Valid, Bytes, raw}
 use Rattle.wire.specs.Write.{putAt}
 use Rattle.wire.proofs.Laws.{raw-good}
-use Rattle.wire.proofs.WriteLaws.{put-wrote}
+use Rattle.wire.proofs.WriteLaws.{put-wrote, sets-append}
 use Rattle.hex.specs.Hex.{toHex, fromHex}
 use Rattle.hex.specs.Answer.{encoded, decoded, decodedTo}
 use Rattle.hex.specs.Number.{second}
@@ -50,20 +50,16 @@ use Rattle.line.specs.Turns.{lineRoom}
 use Rattle.server.specs.declared.Lined.the-variants as l
 use Rattle.server.specs.Lines.{asked, Puts, nextOf, frameNext, askedNext, lineNext, Gives, IfSound, Written, Unwritten, Unfed}
 
--- bytes one after the other
-pub sets-append : (a b l : List ℕ) (i : ℕ) → sets l i (a ++ b) ≡ sets (sets l i a) (i + length a) b
-sets-append [] b l i = rw add-zero
-sets-append (x ∷ a) b l i = let e : suc i + length a ≡ i + suc (length a) = omega arith in rw (← e) (sets-append a b (set l i x) (suc i))
-
 pub puts-long : {s old new : List ℕ} {at r : ℕ} → Puts s old new at r → length new ≡ length old
 puts-long {s} {old} {at = at} p = ap length (p .list) ∙ length-sets old at s
 
+-- bytes one after the other
 pub puts-both : {a b old mid new : List ℕ} {at m r : ℕ} → Puts a old mid at m → Puts b mid new m r → Puts (a ++ b) old new at r
 puts-both {a} {b} {old} {at = at} p q =
     record {
       next = omega (arith, p .next, q .next, length-append a b);
       fits = omega (arith, q .fits, puts-long p);
-      list = q .list ∙ rw (p .list, p .next) (sym (sets-append a b old at));
+      list = q .list ∙ rw (p .list, p .next) (sym (sets-append old at a b));
     }
 
 -- what `put_raw` and `encode` leave where there is room

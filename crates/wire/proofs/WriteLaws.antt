@@ -14,7 +14,7 @@ use Rattle.wire.specs.Write.{Room, Wrote, putAt, Sent, written, kept, se
 use Rattle.wire.proofs.Laws.{Laws, never}
 
 -- two writes, one after the other
-sets-append : (l : List ℕ) (i : ℕ) (a b : List ℕ) → sets l i (a ++ b) ≡ sets (sets l i a) (i + length a) b
+pub sets-append : (l : List ℕ) (i : ℕ) (a b : List ℕ) → sets l i (a ++ b) ≡ sets (sets l i a) (i + length a) b
 sets-append l i [] b = rw add-zero
 sets-append l i (x ∷ a) b = sets-append (set l i x) (suc i) a b ∙ rw (suc-add, ← add-suc)
 

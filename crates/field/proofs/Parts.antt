@@ -24,7 +24,8 @@ pub cut : (s : List ℕ) (start len : ℕ) → length s - start ≤ len → take
 cut s start len h =
     take-all (length s - start) (drop start s) (simp length-drop (omega arith)) ∙ sym (take-all len (drop start s) (simp length-drop (omega arith)))
 
-not-whole : {A : Type 0} → OneOf (1 ∷ 2 ∷ []) 0 → A
+-- an answer that is not whole
+pub not-whole : {A : Type 0} → OneOf (1 ∷ 2 ∷ []) 0 → A
 not-whole k = absurd (⊎-elim (λ e. omega arith) (λ e. omega arith) k)
 
 pub number-stops : (r : NumberRead) → OneOf (1 ∷ 2 ∷ []) (tagOf number-read.the-type r) → {B : Type 0} (f : ℕ → ℕ → Read B) → after (asNumber r) f ≡ stopped (asNumber r)

@@ -1,11 +1,11 @@
 -- What reading a reply goes by, field by field. Assumes nothing.
-use mathlib.Core.Path.{_≡_, refl}
+use mathlib.Core.Path.{_≡_}
 use mathlib.Core.List.{List, []}
 use mathlib.Core.Bool.{Bool, cond}
-use Prim.Native.Nat.{ℕ, _+_}
-use native.Mathlib.Nat.{zero-add, add-zero}
+use Prim.Native.Nat.{ℕ}
+use native.Mathlib.Nat.{add-zero}
 use lib.Dec.{eqb}
-use Rattle.wire.specs.Codec.{Read, whole, more, refused, after, Codec, empty, byte, guard, as-type, readAt}
+use Rattle.wire.specs.Codec.{Read, whole, refused, after, Codec, empty, byte, guard, as-type, readAt}
 use Rattle.wire.specs.Number.{vLong}
 use Rattle.wire.specs.Field.{entryVersion, limited}
 use Rattle.wire.proofs.Laws.{after-after, after-same}
@@ -16,16 +16,6 @@ use Rattle.message.specs.Reply.{Reply, Payload, payload, textLimit, noBody, val
 use Rattle.message.specs.declared.Operation.{Operation}
 use Rattle.message.specs.declared.Answer.{Answer}
 use Rattle.reply.specs.Answer.{replyWith}
-
--- at the front of the bytes
-pub at-front : {A : Type 0} (c : Codec A) (s : List ℕ) → readAt c s 0 ≡ c .dec s
-unfolding readAt
-at-front {A} c s = go (c .dec s)
-  where
-    go : (r : Read A) → after r (λ a n. whole a (0 + n)) ≡ r
-    go (whole a n) = rw zero-add
-    go more = refl
-    go (refused k) = refl
 
 -- the bodies, behind a header whose entry version is not read yet
 module _ (s : List ℕ) (at : ℕ) (a : Answer) where

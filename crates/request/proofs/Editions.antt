@@ -1,7 +1,7 @@
 -- What the editions have in common, and the codes of the operations. Assumes nothing.
 use mathlib.Core.Path.{_≡_, refl}
-use mathlib.Core.Option.{Option, some}
-use mathlib.Core.Bool.{Bool, true, false, cond, _&&_}
+use mathlib.Core.Option.{Option}
+use mathlib.Core.Bool.{Bool, true, false, _&&_}
 use Prim.Native.Nat.{ℕ, _≤_, _<_}
 use native.Mathlib.Omega.{arith}
 use lib.Dec.{eqb, lit<, lit≤}
@@ -12,23 +12,19 @@ use Rattle.message.specs.declared.Operation.the-variants.{Put, Get, PutIfAbsent
 use Rattle.message.specs.Operation.{codeOf, findCode, isKnown, known}
 use Rattle.message.specs.Edition.{Edition, editionOf, isServed, served}
 use Rattle.message.specs.Request.{opFits, isVersion, ed}
-
--- what holds of each way out of a test
-either : {A : Type 0} (P : A → Type 0) (t : Bool) {x y : A} → (t ≡ true → P x) → P y → P (cond t x y)
-either P true p q = p refl
-either P false p q = q
+use Rattle.message.proofs.RequestLaws.{pick}
 
 pub has-transaction : (v : ℕ) → ed v .transaction ≡ true
 unfolding editionOf
 has-transaction v =
     let P : Option Edition → Type 0 = λ e. served e .transaction ≡ true in
-    either P (eqb v 10) (λ e. refl) (either P (eqb v 11) (λ e. refl) (either P (eqb v 12) (λ e. refl) refl))
+    pick P (eqb v 10) (λ e. refl) (pick P (eqb v 11) (λ e. refl) (pick P (eqb v 12) (λ e. refl) refl))
 
 has-operation : (v : ℕ) (o : Operation) → ed v .serves o ≡ true
 unfolding editionOf
 has-operation v o =
     let P : Option Edition → Type 0 = λ e. served e .serves o ≡ true in
-    either P (eqb v 10) (λ e. refl) (either P (eqb v 11) (λ e. refl) (either P (eqb v 12) (λ e. refl) refl))
+    pick P (eqb v 10) (λ e. refl) (pick P (eqb v 11) (λ e. refl) (pick P (eqb v 12) (λ e. refl) refl))
 
 -- an operation is judged by its code alone
 and-true : (x : Bool) → (x && true) ≡ x
@@ -42,28 +38,14 @@ pub flags-small : (v : ℕ) → ed v .flags ≤ 7
 unfolding editionOf
 flags-small v =
     let P : Option Edition → Type 0 = λ e. served e .flags ≤ 7 in
-    either P (eqb v 10) (λ e. lit≤ tt) (either P (eqb v 11) (λ e. lit≤ tt) (either P (eqb v 12) (λ e. lit≤ tt) (lit≤ tt)))
+    pick P (eqb v 10) (λ e. lit≤ tt) (pick P (eqb v 11) (λ e. lit≤ tt) (pick P (eqb v 12) (λ e. lit≤ tt) (lit≤ tt)))
 
 pub version-small : (v : ℕ) → isVersion v ≡ true → v < 256
 unfolding editionOf
 version-small v =
     let P : Option Edition → Type 0 = λ e. isServed e ≡ true → v < 256 in
-    either P (eqb v 10) (λ e s. omega (arith, eqb-true v 10 e))
-    (either P (eqb v 11) (λ e s. omega (arith, eqb-true v 11 e)) (either P (eqb v 12) (λ e s. omega (arith, eqb-true v 12 e)) (λ s. never (cc))))
-
-pub code-known : (o : Operation) → findCode (codeOf o) ≡ some o
-unfolding findCode
-code-known Put = refl
-code-known Get = refl
-code-known PutIfAbsent = refl
-code-known Replace = refl
-code-known ReplaceIfUnmodified = refl
-code-known Remove = refl
-code-known RemoveIfUnmodified = refl
-code-known ContainsKey = refl
-code-known GetWithVersion = refl
-code-known Clear = refl
-code-known Ping = refl
+    pick P (eqb v 10) (λ e s. omega (arith, eqb-true v 10 e))
+    (pick P (eqb v 11) (λ e s. omega (arith, eqb-true v 11 e)) (pick P (eqb v 12) (λ e s. omega (arith, eqb-true v 12 e)) (λ s. never (cc))))
 
 pub code-small : (o : Operation) → codeOf o < 256
 code-small Put = lit< tt

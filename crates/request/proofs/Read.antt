@@ -3,8 +3,8 @@ use mathlib.Core.Path.{_≡_, refl, sym, _∙_}
 use mathlib.Core.List.{List, [], _∷_}
 use mathlib.Core.Bool.{cond, _&&_}
 use mathlib.Core.Logic.{⊎-elim}
-use Prim.Native.Nat.{ℕ, zero, suc, _+_}
-use native.Mathlib.Nat.{zero-add, add-zero}
+use Prim.Native.Nat.{ℕ, zero, suc}
+use native.Mathlib.Nat.{add-zero}
 use native.Mathlib.Omega.{arith}
 use lib.Dec.{eqb, leb}
 use borrow.Author.Tests.{ne-eqb, lt-leb}
@@ -14,7 +14,7 @@ use Rattle.wire.specs.Codec.{Read, whole, more, refused, after, Codec, readAt, 
 use Rattle.wire.specs.Number.{vInt, vLong}
 use Rattle.wire.specs.Field.{entryVersion, limited}
 use Rattle.wire.proofs.Laws.{after-after, and-false}
-use Rattle.wire.proofs.At.{at-seq, at-guard, at-type, at-cond}
+use Rattle.wire.proofs.At.{at-front, at-seq, at-guard, at-type, at-cond}
 use Rattle.field.specs.Answer.{limitedText, asNumber, stopped}
 use Rattle.field.specs.declared.NumberRead.{NumberRead}
 use Rattle.field.specs.declared.NumberRead.the-variants as n
@@ -29,16 +29,6 @@ use Rattle.request.specs.declared.CheckedRead.{CheckedRead}
 use Rattle.request.specs.declared.CheckedRead.the-variants as c
 use Rattle.request.proofs.CheckedRead as checked-read
 use Rattle.request.proofs.Editions.{has-transaction, op-known}
-
--- reading at the front
-after-front : {A : Type 0} (r : Read A) → after r (λ a n. whole a (0 + n)) ≡ r
-after-front (whole a n) = rw zero-add
-after-front more = refl
-after-front (refused k) = refl
-
-pub at-front : {A : Type 0} (c : Codec A) (s : List ℕ) → readAt c s 0 ≡ c .dec s
-unfolding readAt
-at-front c s = after-front (c .dec s)
 
 after-only : {A : Type 0} (r : Read A) → after r (λ a n. whole a n) ≡ r
 after-only (whole a n) = refl

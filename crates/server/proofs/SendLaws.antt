@@ -49,9 +49,6 @@ use Rattle.server.specs.declared.Answer.{Answer}
 use Rattle.server.specs.Answer.{Says, Sends}
 use Rattle.server.specs.Act.{valueShown, entryShown, Planned}
 
-pub count : {m n : ℕ} → written m ≡ written n → m ≡ n
-count e = cc
-
 -- a message that fits is written, and its bytes are the pieces sent
 module _ {A : Type 0} (c : Codec A) (a : A) {x : wire.Sent} {old new : List ℕ} {ps : List Piece} {n : ℕ} {v : stream.Verdict} {r : Answer} where
   pub sent : (x, new) ≡ send c a old → Valid c a → length (c .enc a) ≤ room → room ≤ length old → flat ps ≡ c .enc a

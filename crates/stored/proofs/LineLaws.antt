@@ -19,7 +19,7 @@ use Rattle.message.specs.Request.{keyLimit, valueLimit}
 use Rattle.message.proofs.Most.{Most, type-most, seq-most, guard-most, byte-most, big-most, limited-most}
 use Rattle.map.specs.State.{Entry, State}
 use Rattle.map.specs.Table.{Each, IsTable}
-use Rattle.table.proofs.Order.{each-both}
+use Rattle.map.proofs.Each.{each-both}
 use Rattle.hex.specs.Hex.{digitOf, toHex, fromHex}
 use Rattle.hex.proofs.HexLaws.{to-from, from-to}
 use Rattle.hex.proofs.Digits.{of-decimal, of-letter}
@@ -62,9 +62,9 @@ entry-good form1 e hn hd hk bk hv bv =
 -- each entry of a table has a written form
 pub table-good : (f : Form) (st : State) → IsTable st → Each (λ e. Valid (entryLine f) e) (st .entries)
 table-good f st t =
-    each-both (st .entries)
+    each-both _ _ _
     (λ e h i. entry-good f e (omega (arith, i .1, t .last)) (omega (arith, h .deadline)) (h .key) (bytes-are _ (h .keyBytes)) (h .value) (bytes-are _ (h .valueBytes)))
-    (t .sizes) (t .issued)
+    (st .entries) (t .sizes) (t .issued)
 
 pub head-laws : (f : Form) → Laws (headLine f)
 unfolding headLine

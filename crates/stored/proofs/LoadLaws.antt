@@ -1,11 +1,9 @@
 -- Reading a line: its fields one after another, and what the digits of a line say. Assumes nothing.
 use mathlib.Core.Path.{_≡_, refl, sym, ap, subst, _∙_}
 use mathlib.Core.List.{List, [], _∷_, _++_}
-use mathlib.Core.Logic.{⊎-elim}
 use mathlib.Core.Bool.{Bool, true, false, cond}
 use mathlib.Core.Option.{Option, none, some}
 use Prim.Native.Nat.{ℕ, _+_, _-_, _≤_, _<_}
-use native.Mathlib.Nat.{zero-add}
 use native.Mathlib.Omega.{arith}
 use types.Run.{OneOf}
 use denote.Enum.Declared.{tagOf}
@@ -16,10 +14,11 @@ use borrow.Author.Tests.{leb-false}
 use Rattle.wire.specs.Codec.{Read, whole, more, refused, after, Codec, Bytes, byte, readAt}
 use Rattle.wire.specs.Field.{bigEndian, limited}
 use Rattle.wire.proofs.Laws.{Laws, never, after-after}
-use Rattle.wire.proofs.At.{at-seq, at-type, at-guard, at-cond}
+use Rattle.wire.proofs.At.{at-front, at-seq, at-type, at-guard, at-cond}
 use Rattle.message.specs.Request.{keyLimit, valueLimit}
 use Rattle.message.proofs.Most.{Most}
 use Rattle.field.specs.Answer.{stopped}
+use Rattle.field.proofs.Parts.{not-whole}
 use Rattle.hex.specs.Hex.{fromHex}
 use Rattle.hex.specs.Answer.{decodedTo, decoded}
 use Rattle.hex.specs.declared.Decoded.{Decoded}
@@ -30,15 +29,6 @@ use Rattle.stored.specs.File.{form1, entryLine, headLine}
 use Rattle.stored.specs.Answer.{exactly, readLine, headLoaded, lineLoaded, loaded}
 use Rattle.stored.proofs.LineLaws.{entry-laws, entry-most, head-laws, head-most, bytes-read}
 
-front : {A : Type 0} (r : Read A) → after r (λ a n. whole a (0 + n)) ≡ r
-front (whole a n) = ap (whole a) (zero-add n)
-front more = refl
-front (refused k) = refl
-
-read-front : {A : Type 0} (c : Codec A) (s : List ℕ) → c .dec s ≡ readAt c s 0
-unfolding readAt
-read-front c s = sym (front (c .dec s))
-
 -- what stops a field stops the line
 pub stopped-none : {A B : Type 0} (n : ℕ) (r : Read A) → exactly {A = B} n (stopped r) ≡ none
 stopped-none n (whole a m) = refl
@@ -48,17 +38,13 @@ stopped-none n (refused k) = refl
 pub head-at : (s : List ℕ) → headLine form1 .dec s
     ≡ after (readAt byte s 0) (λ b i. cond (eqb b 0x01) (after (readAt (bigEndian 8) s i) (λ n k. whole n k)) (refused 17))
 unfolding headLine
-head-at s = read-front (headLine form1) s ∙ simp (at-type, at-seq, at-guard, after-after, at-cond)
+head-at s = sym (at-front (headLine form1) s) ∙ simp (at-type, at-seq, at-guard, after-after, at-cond)
 
 pub entry-at : (s : List ℕ) → entryLine form1 .dec s
     ≡ after (readAt (bigEndian 8) s 0) (λ n i. after (readAt (bigEndian 8) s i) (λ d j. after (readAt (limited keyLimit) s j)
     (λ k l. after (readAt (limited valueLimit) s l) (λ v m. whole (record { key = k; value = v; version = n; deadline = d }) m))))
 unfolding entryLine
-entry-at s = read-front (entryLine form1) s ∙ simp (at-type, at-seq, after-after)
-
--- the digits of a line
-not-bytes : {X : Type 0} → OneOf (1 ∷ 2 ∷ []) 0 → X
-not-bytes k = absurd (⊎-elim (λ e. omega arith) (λ e. omega arith) k)
+entry-at s = sym (at-front (entryLine form1) s) ∙ simp (at-type, at-seq, after-after)
 
 -- the bytes that were decoded, as a part of the list
 pub record Digits {A : Type 0} (c : Codec A) (s new : List ℕ) (n : ℕ) : Type 0 where
@@ -100,7 +86,7 @@ module _ {A : Type 0} (c : Codec A) (s old new : List ℕ) where
     unfolding readLine
     decoded-none r bs true q p k e =
         let x : r ≡ d.Bytes (length bs) = ap (λ (x : Decoded × List ℕ). x .0) e in
-        not-bytes (subst (λ (y : Decoded). OneOf (1 ∷ 2 ∷ []) (tagOf decoded-type.the-type y)) x k)
+        not-whole (subst (λ (y : Decoded). OneOf (1 ∷ 2 ∷ []) (tagOf decoded-type.the-type y)) x k)
     decoded-none r bs false q p k e = rw p (too-long bs (to-from s bs p .1) (leb-false (length bs) (length old) q))
 
     digits-none : (r : Decoded) → OneOf (1 ∷ 2 ∷ []) (tagOf decoded-type.the-type r) → (r, new) ≡ decoded s old → readLine c s ≡ none

@@ -10,6 +10,7 @@ use lib.Dec.{eqb}
 use borrow.Author.Tests.{eqb-true, eqb-false}
 use Rattle.message.specs.Request.{keyLimit, valueLimit}
 use Rattle.wire.specs.Codec.{isBytes}
+use Rattle.wire.proofs.Laws.{never}
 use Rattle.map.specs.State.{Entry, State, sameList}
 use Rattle.map.specs.Step.{mostKeys, lastVersion}
 use Rattle.map.specs.Table.{Each, Pairs, Sizes, OtherKey, OtherVersion, Issued, IsTable, Ascending}
@@ -29,13 +30,10 @@ decNot : {P : Type 0} → Dec P → Dec (P → ⊥)
 decNot (yes p) = no (λ n. n p)
 decNot (no n) = yes n
 
-clash : {X : Type 0} → _≡_ {A = ℕ} 0 1 → X
-clash e = absurd (omega arith)
-
 decBool : (a b : Bool) → Dec (a ≡ b)
 decBool true true = yes refl
-decBool true false = no (λ e. clash (cc))
-decBool false true = no (λ e. clash (cc))
+decBool true false = no (λ e. never (cc))
+decBool false true = no (λ e. never (cc))
 decBool false false = yes refl
 
 decEq : (a b : ℕ) → Dec (a ≡ b)

@@ -22,7 +22,7 @@ use Rattle.table.specs.Change.{Changed, Left, made, started}
 use Rattle.table.specs.Write.{put, digits, Written}
 use Rattle.table.specs.Form.{zeros, rowOf, withRow, withRows, form}
 use Rattle.table.proofs.Lists.{length-upto, getD-upto, upto-ext, lt-or-ge}
-use Rattle.table.proofs.Order.{each-both}
+use Rattle.map.proofs.Each.{each-both}
 use Rattle.table.proofs.Parts.{length-put, bytes-put}
 use Rattle.table.proofs.Restores.{started-is}
 use Rattle.table.proofs.RowLaws.{SameRow, be8-same, length-digits, state-is, length-entries, count-most}
@@ -67,7 +67,7 @@ record Kept (e : Entry) : Type 0 where
 
 kept : (st : State) → IsTable st → Each Kept (st .entries)
 kept st h =
-    each-both (st .entries) (λ e s i. record { sizes = s; version = omega (arith, i .1, h .last) }) (h .sizes) (h .issued)
+    each-both _ _ _ (λ e s i. record { sizes = s; version = omega (arith, i .1, h .last) }) (st .entries) (h .sizes) (h .issued)
 
 row-held : (e : Entry) → Kept e → Held 352 (rowOf e)
 unfolding rowOf

@@ -19,7 +19,8 @@ use Rattle.table.specs.Found.{entryAt, FoundIs}
 use Rattle.table.specs.declared.Found.the-variants.{Absent}
 use Rattle.table.specs.Change.{Left, added, removed, cleared}
 use Rattle.table.specs.Write.{grown, shrunk}
-use Rattle.table.proofs.Order.{each-all, each-map, each-less, each-more, pairs-less, pairs-more}
+use Rattle.map.proofs.Each.{each-map, each-add, pairs-add}
+use Rattle.table.proofs.Order.{each-all, each-less, pairs-less}
 use Rattle.table.proofs.Answers.{room}
 use Rattle.table.proofs.Keys.{same-other}
 
@@ -60,10 +61,10 @@ unfolding entry
 table-more st k v d h room left z other =
     record {
       few = omega (arith, length-append (st .entries) (entry k v (suc (st .last)) d ∷ []));
-      keys = pairs-more OtherKey (st .entries) _ (h .keys) other;
-      sizes = each-more Sizes (st .entries) _ (h .sizes) z;
-      versions = pairs-more OtherVersion (st .entries) _ (h .versions) (each-map (st .entries) (λ e i q. omega (arith, i .1)) (h .issued));
-      issued = each-more (Issued (suc (st .last))) (st .entries) _ (each-map (st .entries) (λ e i. (i .0, omega (arith, i .1))) (h .issued)) (omega arith, omega arith);
+      keys = pairs-add _ OtherKey (st .entries) (h .keys) other;
+      sizes = each-add _ Sizes (st .entries) (h .sizes) z;
+      versions = pairs-add _ OtherVersion (st .entries) (h .versions) (each-map _ _ (λ e i q. omega (arith, i .1)) (st .entries) (h .issued));
+      issued = each-add _ (Issued (suc (st .last))) (st .entries) (each-map _ _ (λ e i. (i .0, omega (arith, i .1))) (st .entries) (h .issued)) (omega arith, omega arith);
       last = omega arith;
     }
 

@@ -5,28 +5,15 @@ use mathlib.Core.Option.{none, some}
 use mathlib.Core.List.{List, [], _∷_, _++_}
 use Prim.Native.Nat.{ℕ, zero, suc, _<_}
 use native.Mathlib.Omega.{arith}
-use lib.Dec.{eqb}
 use lib.ListN.{length, take, drop, getD}
-use borrow.Author.Tests.{eqb-true, eq-eqb}
-use Rattle.wire.proofs.Laws.{never, both}
+use Rattle.wire.proofs.Laws.{never}
 use Rattle.map.specs.State.{Entry, sameList, find, without, hasKey}
 use Rattle.map.specs.Table.{Each, Pairs, OtherKey}
+use Rattle.map.proofs.Laws.{same-true, same-refl}
 use Rattle.table.specs.Memory.{entry, stateOf}
 use Rattle.table.specs.Found.{entryAt, FoundIs}
 use Rattle.table.proofs.Order.{each-at}
 use Rattle.table.specs.declared.Found.the-variants.{At, Absent}
-
-pub same-true : (xs ys : List ℕ) → sameList xs ys ≡ true → xs ≡ ys
-unfolding sameList
-same-true [] [] e = refl
-same-true [] (y ∷ ys) e = never (cc)
-same-true (x ∷ xs) [] e = never (cc)
-same-true (x ∷ xs) (y ∷ ys) e = let p = both (eqb x y) (sameList xs ys) e in cc (eqb-true x y (p .0), same-true xs ys (p .1))
-
-pub same-refl : (xs : List ℕ) → sameList xs xs ≡ true
-unfolding sameList
-same-refl [] = refl
-same-refl (x ∷ xs) = rw (eq-eqb x x refl) (same-refl xs)
 
 pub same-other : (xs ys : List ℕ) → (xs ≡ ys → ⊥) → sameList xs ys ≡ false
 same-other xs ys h = go (sameList xs ys) refl

@@ -21,7 +21,8 @@ use Rattle.table.specs.Bytes.{be8}
 use Rattle.table.specs.Found.{entryAt}
 use Rattle.table.specs.Change.{Changed, Left, started, newest, fitting, next, restored}
 use Rattle.table.specs.Write.{extended}
-use Rattle.table.proofs.Order.{each-map, each-at, each-more, pairs-more, to-newest}
+use Rattle.map.proofs.Each.{each-map, each-add, pairs-add}
+use Rattle.table.proofs.Order.{each-at, to-newest}
 use Rattle.table.proofs.RowLaws.{length-entries}
 use Rattle.table.proofs.SoundLaws.{version-is}
 use Rattle.table.proofs.Answers.{Answers, taken, left}
@@ -217,18 +218,18 @@ restored-table k v n d t s h bk bv e =
     let r = restored-says k v n d t s e in
     let es : List Entry = stateOf t .entries in
     let old = h .table in
-    let low : Each (λ e. e .version < n) es = each-map es (λ e l. omega (arith, r .follows .above)) (to-newest es (h .form .order)) in
+    let low : Each (λ e. e .version < n) es = each-map _ _ (λ e l. omega (arith, r .follows .above)) es (to-newest es (h .form .order)) in
     subst (λ (x : State). IsTable x × Ascending (x .entries)) (sym (r .same)) (
       record {
         few = omega (arith, length-append es (entry k v n d ∷ []), r .follows .room);
-        keys = pairs-more OtherKey es _ (old .keys) (lacks k es (r .follows .absent));
-        sizes = each-more Sizes es _ (old .sizes)
+        keys = pairs-add _ OtherKey es (old .keys) (lacks k es (r .follows .absent));
+        sizes = each-add _ Sizes es (old .sizes)
             (record { key = r .fits .key; value = r .fits .value; keyBytes = is-bytes k bk; valueBytes = is-bytes v bv; deadline = r .fits .deadline });
-        versions = pairs-more OtherVersion es _ (old .versions) (each-map es (λ e l q. omega arith) low);
-        issued = each-more (Issued (stateOf t .last)) es _ (old .issued) (omega (arith, r .follows .above), r .follows .most);
+        versions = pairs-add _ OtherVersion es (old .versions) (each-map _ _ (λ e l q. omega arith) es low);
+        issued = each-add _ (Issued (stateOf t .last)) es (old .issued) (omega (arith, r .follows .above), r .follows .most);
         last = old .last;
       },
-      pairs-more _ es _ (h .form .order) low,
+      pairs-add _ _ es (h .form .order) low,
     )
 
 pub restored-sound : (k v : List ℕ) (n d : ℕ) (t u : List ℕ) (s : State) → Sound t → Bytes k → Bytes v → restored k v n d t ≡ some s

@@ -15,7 +15,8 @@ use Rattle.table.specs.Memory.{size, rowAt, entry, entryOf, countOf, ent
 use Rattle.table.specs.Change.{Changed, newest}
 use Rattle.table.specs.Write.{put, digits, Written, grown, extended, shrunk}
 use Rattle.table.proofs.Lists.{removeAt, lt-or-ge, upto-more, upto-remove}
-use Rattle.table.proofs.Order.{each-map, pairs-less, pairs-more, to-newest}
+use Rattle.map.proofs.Each.{each-map, pairs-add}
+use Rattle.table.proofs.Order.{pairs-less, to-newest}
 use Rattle.table.proofs.Parts.{put-none, part-before, part-put, length-part, getD-part, length-put, put-before, put-in}
 use Rattle.table.proofs.RowLaws.{length-digits, length-put8, be8-put, put8-after, be8-after, be8-before, SameRow, row-same, state-is, entries-are, last-is}
 
@@ -93,7 +94,7 @@ module _ (t u row k v : List ℕ) (d n x y : ℕ) (count : n ≡ countOf t) (roo
               long = p .long;
               counted = omega (arith, p .count, p .few);
               lengths = lengths-more (s .form .lengths);
-              order = subst (λ (st : State). Ascending (st .entries)) (sym state-more) (pairs-more _ (stateOf t .entries) _ (s .form .order) (above s));
+              order = subst (λ (st : State). Ascending (st .entries)) (sym state-more) (pairs-add _ _ (stateOf t .entries) (s .form .order) (above s));
             };
       }
 
@@ -105,7 +106,7 @@ appended t u row k v d n count room width w p =
     let e : be8 t 8 + 1 ≡ suc (stateOf t .last) = add-one (be8 t 8) ∙ ap suc (sym l) in
     subst (λ (x : ℕ). Changed t u (record { entries = stateOf t .entries ++ (entry k v x d ∷ []); last = x })) e
     (more t u row k v d n _ _ count room width w p
-    (λ s. each-map (stateOf t .entries) (λ e h. omega (arith, h .1)) (s .table .issued)))
+    (λ s. each-map _ _ (λ e h. omega (arith, h .1)) (stateOf t .entries) (s .table .issued)))
 
 -- a row more, with the last version kept
 pub put-back : (t u row k v : List ℕ) (d n x : ℕ) → n ≡ countOf t → n < mostKeys → length row ≡ 352 → Written row k v x d
@@ -114,7 +115,7 @@ pub put-back : (t u row k v : List ℕ) (d n x : ℕ) → n ≡ countOf t → n 
 put-back t u row k v d n x count room width w p h =
     subst (λ (y : ℕ). Changed t u (record { entries = stateOf t .entries ++ (entry k v x d ∷ []); last = y })) (sym (last-is t (p .old)))
     (more t u row k v d n x _ count room width w p
-    (λ s. each-map (stateOf t .entries) (λ e l. omega arith) (to-newest (stateOf t .entries) (s .form .order))))
+    (λ s. each-map _ _ (λ e l. omega arith) (stateOf t .entries) (to-newest (stateOf t .entries) (s .form .order))))
 
 -- a row less
 module _ (t u : List ℕ) (i n : ℕ) (count : n ≡ countOf t) (most : n ≤ mostKeys) (inside : i < n)

@@ -3,7 +3,7 @@ use mathlib.Core.Path.{_≡_, refl}
 use mathlib.Core.List.{List, []}
 use mathlib.Core.Bool.{Bool, true, false, cond}
 use Prim.Native.Nat.{ℕ, _+_, _-_, _≤_, _<_}
-use native.Mathlib.Nat.{add-assoc}
+use native.Mathlib.Nat.{add-assoc, zero-add}
 use native.Mathlib.Omega.{arith}
 use native.Mathlib.Decide.{decLt}
 use lib.ListN.{length, take, drop, length-drop, drop-of-length-le}
@@ -11,6 +11,16 @@ use lib.Seq.{drop-drop}
 use lib.Dec.{leb}
 use Rattle.wire.specs.Codec.{Read, whole, more, refused, after, Codec, raw, guard, seq, as-type, readAt}
 use Rattle.wire.proofs.Laws.{Laws, never, after-same, after-after, after-whole, sized}
+
+-- at the front
+pub at-front : {A : Type 0} (c : Codec A) (s : List ℕ) → readAt c s 0 ≡ c .dec s
+unfolding readAt
+at-front {A} c s = go (c .dec s)
+  where
+    go : (r : Read A) → after r (λ a n. whole a (0 + n)) ≡ r
+    go (whole a n) = rw zero-add
+    go more = refl
+    go (refused k) = refl
 
 pub at-cond : {A B : Type 0} (t : Bool) (x y : Read A) (f : A → ℕ → Read B) → after (cond t x y) f ≡ cond t (after x f) (after y f)
 at-cond true x y f = refl

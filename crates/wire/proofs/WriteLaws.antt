@@ -67,7 +67,7 @@ module _ {A : Type 0} (c : Codec A) (a : A) (at : ℕ) (old : List ℕ) where
 kept-none : {X : Type 0} {k n : ℕ} → kept k ≡ written n → X
 kept-none e = never (cc)
 
-count : {m n : ℕ} → written m ≡ written n → m ≡ n
+pub count : {m n : ℕ} → written m ≡ written n → m ≡ n
 count e = cc
 
 module _ {A : Type 0} (c : Codec A) (a : A) (old : List ℕ) where

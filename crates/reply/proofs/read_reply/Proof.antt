@@ -2,7 +2,7 @@
 use mathlib.Core.Path.{_∙_}
 use Rattle.wire.specs.Codec.{refuse}
 use Rattle.message.specs.Reply.{reply}
-use Rattle.reply.proofs.ReadLaws.{at-front}
+use Rattle.wire.proofs.At.{at-front}
 use borrow.Author.Needs.{needs}
 use Rattle.reply.proofs.read_reply.Statement.{statement}
 use Rattle.reply.proofs.read_reply.Tie as tie

@@ -2,7 +2,7 @@
 use mathlib.Core.Path.{refl, sym, ap, _∙_}
 use Rattle.wire.proofs.Laws.{never}
 use Rattle.message.specs.Answer.{asSent}
-use Rattle.server.proofs.SendLaws.{count}
+use Rattle.wire.proofs.WriteLaws.{count}
 use borrow.Author.Needs.{needs}
 use Rattle.server.proofs.act.ended.Statement.{statement}
 use Rattle.server.proofs.act.ended.Tie as tie

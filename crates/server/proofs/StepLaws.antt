@@ -1,20 +1,21 @@
 -- What a step of the map makes of an answer and of the table. Assumes nothing.
 use mathlib.Core.Path.{_≡_, refl, ap₂, _∙_}
 use mathlib.Core.List.{List, [], _∷_}
-use mathlib.Core.Bool.{Bool, true, false}
-use mathlib.Core.Option.{some}
+use mathlib.Core.Bool.{Bool, true, false, cond}
+use mathlib.Core.Option.{Option, some}
 use Prim.Native.Nat.{ℕ, suc, _≤_, _<_}
 use native.Mathlib.Omega.{arith}
 use lib.ListN.{length, length-append}
-use borrow.Author.Tests.{lt-ltb, le-ltb, le-leb, eq-eqb}
+use lib.Dec.{ltb}
+use borrow.Author.Tests.{lt-ltb, le-ltb, le-leb, eq-eqb, ltb-true}
 use Rattle.wire.specs.Codec.{Read, Valid}
 use Rattle.wire.proofs.Laws.{never}
 use Rattle.message.specs.Request.{keyLimit, valueLimit, Request, request, isEmpty}
 use Rattle.message.proofs.Sizes.{small}
-use Rattle.map.specs.State.{State, without, hasKey}
+use Rattle.map.specs.State.{Entry, State, without, hasKey}
 use Rattle.map.specs.Table.{Sizes, Issued, OtherKey, OtherVersion, IsTable}
 use Rattle.map.specs.Step as map
-use Rattle.map.specs.Step.{Context, Change, Outcome, answered, mostKeys, lastVersion, deadline, entry, stored, full, planned, answer, act, step}
+use Rattle.map.specs.Step.{Context, Change, Outcome, answered, mostKeys, lastVersion, deadline, entry, stored, isNone, held, full, planned, answer, act, step}
 use Rattle.map.specs.Reply.{flat, pieces}
 use Rattle.map.proofs.Each.{each-without, pairs-without}
 use Rattle.map.proofs.Keeps.{keeps-table}
@@ -30,9 +31,10 @@ use Rattle.stream.specs.Serve.{effect, errorPieces, onStep, served}
 use Rattle.stream.specs.Stream as stream-of
 use Rattle.stream.specs.Stream.{Done, Does, Serves}
 use Rattle.stream.proofs.Sounds.{is-sound, sound-is}
+use Rattle.plan.specs.Plan.{isFull, refusalOf}
 use Rattle.server.specs.declared.Answer.{Answer}
 use Rattle.server.specs.Answer.{callOf, doneOf, Says, Sends}
-use Rattle.server.specs.Act.{at, less}
+use Rattle.server.specs.Act.{at, less, after}
 
 -- what is sent, with the table that is left
 pub does : {ps : _} {n : ℕ} {v : stream.Verdict} {old new : List ℕ} {a : Answer} {o : _} {t t′ : List ℕ}
@@ -74,6 +76,10 @@ module _ (c : Context) (q : Request) (t : List ℕ) (s : Sound t) (v : Valid req
   unfolding onStep
   does-answered e w d = let l = sound-after e d in rw e (does w l)
 
+-- the refusal of a store, by its two tests
+abbrev number : Bool → Bool → ℕ
+number full left = cond full 10 (cond left 0 11)
+
 -- the step of a request without a name
 module _ (c : Context) (q : Request) (st : State) where
   pub step-named : isEmpty (q .name) ≡ false → step c q st ≡ map.refused 9
@@ -84,18 +90,47 @@ module _ (c : Context) (q : Request) (st : State) where
   unfolding step
   step-acts e p = rw (e, p)
 
-  -- a store: refused, or answered
-  pub store-full : full q st ≡ true → act c q st (answer q st) map.store ≡ map.refused 10
-  unfolding act
-  store-full e = rw e
+  -- the change that is planned, by what the code holds: it is refused, or it is made
+  module _ (o : Option Entry) (n : isNone o ≡ isNone (held q st)) where
+    full-same : isFull st o ≡ full q st
+    unfolding isFull full
+    full-same = rw n
 
-  pub store-ended : full q st ≡ false → lastVersion ≤ st .last → act c q st (answer q st) map.store ≡ map.refused 11
-  unfolding act
-  store-ended e l = rw (e, le-ltb (st .last) lastVersion l)
+    pub act-refused : (d : Change) → (refusalOf st o d ≡ 0 → ⊥) → (act c q st (answer q st) d ≡ map.refused (refusalOf st o d)) × (refusalOf st o d ≤ 11)
+    unfolding refusalOf act
+    act-refused map.keep h = absurd (h refl)
+    act-refused map.drop h = absurd (h refl)
+    act-refused map.empty h = absurd (h refl)
+    act-refused map.store h = rw full-same (go (full q st) (ltb (st .last) lastVersion) (rw full-same at h))
+      where
+        go : (x y : Bool) → (number x y ≡ 0 → ⊥)
+            → (cond x (map.refused 10) (cond y (answered (answer q st) (stored c q st)) (map.refused 11)) ≡ map.refused (number x y)) × (number x y ≤ 11)
+        go true y h = (refl, omega arith)
+        go false true h = absurd (h refl)
+        go false false h = (refl, omega arith)
 
-  pub store-done : full q st ≡ false → st .last < lastVersion → act c q st (answer q st) map.store ≡ answered (answer q st) (stored c q st)
-  unfolding act
-  store-done e l = rw (e, lt-ltb (st .last) lastVersion l)
+    pub act-made : (d : Change) → refusalOf st o d ≡ 0 → act c q st (answer q st) d ≡ answered (answer q st) (after c q st d)
+    unfolding refusalOf act
+    act-made map.keep e = refl
+    act-made map.drop e = refl
+    act-made map.empty e = refl
+    act-made map.store e = go (full q st) (ltb (st .last) lastVersion) (rw full-same at e)
+      where
+        go : (x y : Bool) → number x y ≡ 0
+            → cond x (map.refused 10) (cond y (answered (answer q st) (stored c q st)) (map.refused 11)) ≡ answered (answer q st) (stored c q st)
+        go true y e = absurd (omega arith)
+        go false true e = refl
+        go false false e = absurd (omega arith)
+
+-- a store that is not refused has a version left
+pub version-left : (st : State) (o : Option Entry) → refusalOf st o map.store ≡ 0 → st .last < lastVersion
+unfolding refusalOf
+version-left st o e = go (isFull st o) (ltb (st .last) lastVersion) refl e
+  where
+    go : (x y : Bool) → ltb (st .last) lastVersion ≡ y → number x y ≡ 0 → st .last < lastVersion
+    go true y z e = absurd (omega arith)
+    go false true z e = ltb-true (st .last) lastVersion z
+    go false false z e = absurd (omega arith)
 
 -- a name
 pub named : (s : List ℕ) → (length s ≡ 0 → ⊥) → isEmpty s ≡ false

@@ -9,9 +9,9 @@ use native.Mathlib.Numerals.{add-one}
 use native.Mathlib.Omega.{arith}
 use lib.ListN.{length, take, drop, getD, length-drop}
 use lib.Seq.{take-all, drop-cons, drop-drop, drop-length}
-use lib.Dec.{ltb}
+use lib.Dec.{eqb, ltb}
 use borrow.Author.Tests.{lt-ltb, le-ltb, ne-eqb, eq-eqb, ltb-true}
-use Rattle.wire.proofs.Laws.{both as wire-both}
+use Rattle.wire.proofs.Laws.{never, both as wire-both}
 use Rattle.map.specs.State.{State}
 use Rattle.line.specs.Line.{longest, Given, lineStep}
 use Rattle.line.specs.Feed.{lineEnd, Turn, turn, ended, turnOf}
@@ -19,7 +19,7 @@ use Rattle.line.specs.Turns.{lineRoom, both, Turns, full, done, then}
 use Rattle.table.specs.Memory.{stateOf}
 use Rattle.stream.specs.Sound.{isSound}
 use Rattle.stream.proofs.Sounds.{is-sound}
-use Rattle.server.specs.Lines.{Puts, Gives, Counts, TurnDone, TurnsDone}
+use Rattle.server.specs.Lines.{isDue, Puts, Gives, Counts, TurnDone, TurnsDone}
 use Rattle.server.specs.declared.Fed.{Fed}
 use Rattle.server.specs.declared.lines.Turned.{Turned}
 use Rattle.server.proofs.LineLaws.{puts-both}
@@ -60,43 +60,54 @@ open-none s i o h =
     let z : lineEnd (drop i s) ≡ 0 = rw (p, drop-length s) end-none in
     omega (arith, o .end)
 
+pub end-most : (s : List ℕ) → lineEnd s ≤ length s
+unfolding lineEnd
+end-most [] = omega arith
+end-most (b ∷ s) = go (eqb b 0x0a) (end-most s)
+  where
+    go : (x : Bool) → lineEnd s ≤ length s → cond x 0 (suc (lineEnd s)) ≤ suc (length s)
+    go true h = omega arith
+    go false h = omega arith
+
+all-left : (s : List ℕ) {end : ℕ} → end ≡ lineEnd s → length s ≤ end → end ≡ length s
+all-left s e h = omega (arith, end-most s)
+
 -- a turn, by the tests that the code makes
 module _ {p : Bool} (last : Bool) (s : List ℕ) (st : State) {end : ℕ} (e : end ≡ lineEnd s) where
   pub turn-passed : p ≡ true → end < length s → turnOf p last s st ≡ turn (end + 1) [] false st
   unfolding turnOf
   turn-passed b h = rw (b, e, lt-ltb (lineEnd s) (length s) (omega arith))
 
-  pub turn-passing : p ≡ true → length s ≤ end → turnOf p last s st ≡ turn (length s) [] true st
+  pub turn-passing : p ≡ true → length s ≤ end → turnOf p last s st ≡ turn end [] true st
   unfolding turnOf
-  turn-passing b h = rw (b, le-ltb (lineEnd s) (length s) (omega arith))
+  turn-passing b h = rw (b, all-left s e h, le-ltb (lineEnd s) (length s) (omega arith))
+
+  pub turn-more : p ≡ false → isDue end (length s) last ≡ false → turnOf p last s st ≡ turn 0 [] false st
+  unfolding turnOf isDue
+  turn-more b d = rw b (go (ltb (lineEnd s) (length s)) (ltb longest (length s)) (last && ltb 0 (length s)) _ _ _ (rw e at d))
+    where
+      go : (x y z : Bool) (u v w : Turn) → cond x true (cond y true z) ≡ false → cond x u (cond y v (cond z w (turn 0 [] false st))) ≡ turn 0 [] false st
+      go true y z u v w d = never (cc)
+      go false true z u v w d = never (cc)
+      go false false true u v w d = never (cc)
+      go false false false u v w d = refl
 
   pub turn-line : p ≡ false → end < length s → turnOf p last s st ≡ turn (end + 1) (ended (lineStep (take end s) st)) false (lineStep (take end s) st .state)
   unfolding turnOf
   turn-line b h = rw (b, e, lt-ltb (lineEnd s) (length s) (omega arith))
 
-  pub turn-long : p ≡ false → length s ≤ end → longest < length s → turnOf p last s st ≡ turn (length s) (ended (lineStep s st)) true (lineStep s st .state)
-  unfolding turnOf
-  turn-long b h l = rw (b, le-ltb (lineEnd s) (length s) (omega arith), lt-ltb longest (length s) l)
-
-  pub turn-more : p ≡ false → length s ≤ end → length s ≤ longest → last && ltb 0 (length s) ≡ false → turnOf p last s st ≡ turn 0 [] false st
-  unfolding turnOf
-  turn-more b h l f = rw (b, le-ltb (lineEnd s) (length s) (omega arith), le-ltb longest (length s) l, f)
-
-  pub turn-last : p ≡ false → length s ≤ end → length s ≤ longest → last && ltb 0 (length s) ≡ true
-      → turnOf p last s st ≡ turn (length s) (ended (lineStep s st)) false (lineStep s st .state)
-  unfolding turnOf
-  turn-last b h l f = rw (b, le-ltb (lineEnd s) (length s) (omega arith), le-ltb longest (length s) l, f)
-
--- whether the piece is the last one, and holds a byte
-pub not-last : (last : Bool) (n : ℕ) → last ≡ false → last && ltb 0 n ≡ false
-not-last last n e = rw e
-
-pub some-last : (last : Bool) (n : ℕ) → last ≡ true → (n ≡ 0 → ⊥) → last && ltb 0 n ≡ true
-some-last last n e h = rw (e, lt-ltb 0 n (omega arith))
-
-pub empty-last : (last : Bool) (n : ℕ) → n ≡ 0 → last && ltb 0 n ≡ false
-empty-last true n e = rw e
-empty-last false n e = refl
+  pub turn-rest : p ≡ false → isDue end (length s) last ≡ true → length s ≤ end
+      → turnOf p last s st ≡ turn end (ended (lineStep (take end s) st)) (ltb longest end) (lineStep (take end s) st .state)
+  unfolding turnOf isDue
+  turn-rest b d h =
+      let o = le-ltb (lineEnd s) (length s) (omega arith) in
+      rw (b, all-left s e h, take-all (length s) s (omega arith), o) (go (ltb longest (length s)) (last && ltb 0 (length s)) (lineStep s st) (rw (e, o) at d))
+    where
+      go : (y z : Bool) (g : Given) → cond y true z ≡ true
+          → cond y (turn (length s) (ended g) true (g .state)) (cond z (turn (length s) (ended g) false (g .state)) (turn 0 [] false st)) ≡ turn (length s) (ended g) y (g .state)
+      go true z g d = refl
+      go false true g d = refl
+      go false false g d = never (cc)
 
 -- a turn that gives nothing, and one that gives a line
 pub quiet : {x : Turn} {n : ℕ} {p : Bool} {t old : List ℕ} {at : ℕ} {r : Turned} → x ≡ turn n [] p (stateOf t) → isSound t ≡ true → at ≤ length old → Counts n at p r

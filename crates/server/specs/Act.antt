@@ -18,7 +18,7 @@ use Rattle.table.specs.Memory.{stateOf, Sound}
 use Rattle.stream.specs.Serve.{room, served, onStep}
 use Rattle.stream.specs.Stream.{Done, Does}
 use Rattle.plan.specs.declared.Held.{Held}
-use Rattle.plan.specs.Plan.{Holds}
+use Rattle.plan.specs.Plan.{Holds, heldEntry, refusalOf}
 use Rattle.server.specs.declared.Answer.{Answer}
 use Rattle.server.specs.Answer.{Sends}
 
@@ -57,9 +57,21 @@ pub record Given (t out : List ℕ) (now : ℕ) : Type 0 where
   pub room : room ≤ length out
   pub second : now < 0x1_0000_0000
 
--- the step of the request makes the change
-abbrev pub Acts : List ℕ → Request → ℕ → map.Change → Type 0
-Acts t q second d = map.step (at second) q (stateOf t) ≡ map.act (at second) q (stateOf t) (map.answer q (stateOf t)) d
+-- the state that a change leaves which is not refused
+abbrev pub after : Context → Request → State → map.Change → State
+after c q st map.keep = st
+after c q st map.store = map.stored c q st
+after c q st map.drop = map.dropped q st
+after c q st map.empty = map.emptied st
+
+-- the step of a well-formed request on a sound table makes the change, and is not refused
+pub record Agreed (t : List ℕ) (q : Request) (second : ℕ) (held : Held) (d : map.Change) : Type 0 where
+  pub sound : Sound t
+  pub valid : Valid request q
+  pub holds : Holds t (q .args .key) held
+  pub within : second < 0x1_0000_0000
+  pub free : refusalOf (stateOf t) (heldEntry held) d ≡ 0
+  pub step : map.step (at second) q (stateOf t) ≡ map.answered (map.answer q (stateOf t)) (after (at second) q (stateOf t) d)
 
 -- the map's reply to the request is sent
 abbrev pub Replies : List ℕ → Request → ℕ → List ℕ → List ℕ → Answer → Type 0

@@ -1,7 +1,7 @@
 -- What the functions that serve lines of a file answer, and what they leave of what they were lent.
 use mathlib.Core.Path.{_≡_}
 use mathlib.Core.List.{List}
-use mathlib.Core.Bool.{Bool, true, false, cond}
+use mathlib.Core.Bool.{Bool, true, false, cond, _&&_}
 use mathlib.Core.Option.{Option, none, some}
 use Prim.Native.Nat.{ℕ, _+_, _≤_, _<_}
 use lib.ListN.{length, take}
@@ -13,7 +13,7 @@ use Rattle.message.specs.Request.{Request, request}
 use Rattle.map.specs.State.{State}
 use Rattle.map.specs.Step as map
 use Rattle.map.specs.Step.{Outcome, answered, step}
-use Rattle.line.specs.Line.{Asks, asks, Given, onOutcome, onFrame, lineStep}
+use Rattle.line.specs.Line.{longest, Asks, asks, Given, onOutcome, onFrame, lineStep}
 use Rattle.line.specs.Feed.{Turn, ended}
 use Rattle.line.specs.Turns.{Turns, lineRoom}
 use Rattle.table.specs.Memory.{stateOf}
@@ -84,6 +84,10 @@ GivesFrame a old new at r t left =
 
 abbrev pub GivesLine : List ℕ → List ℕ → List ℕ → ℕ → ℕ → List ℕ → List ℕ → Type 0
 GivesLine line old new at r t left = Gives (lineStep line (stateOf t)) (lineNext line (stateOf t)) old new at r t left
+
+-- a line is to be served: its end is there, it is longer than a line may be, or nothing comes behind its bytes
+unfoldable pub isDue : ℕ → ℕ → Bool → Bool
+isDue end n last = cond (ltb end n) true (cond (ltb longest n) true (last && ltb 0 n))
 
 -- the answer of a turn has these parts
 pub record Counts (n m : ℕ) (p : Bool) (r : Turned) : Type 0 where

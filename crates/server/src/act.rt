@@ -28,9 +28,9 @@ ghost use Rattle.table.specs.Change as table;
 ghost use Rattle.stream.specs.Sound.{isSound};
 ghost use Rattle.stream.specs.Serve as stream;
 ghost use Rattle.stream.specs.Stream.{Serves};
-ghost use Rattle.plan.specs.Plan.{Holds, heldAt};
+ghost use Rattle.plan.specs.Plan.{asChange, Holds, heldAt};
 ghost use Rattle.server.specs.Answer.{asVerdict, callOf, doneOf, Says, Sends};
-ghost use Rattle.server.specs.Act.{at, valueShown, entryShown, less, Planned, Given, Acts, Replies, Performs};
+ghost use Rattle.server.specs.Act.{at, valueShown, entryShown, less, after, Planned, Agreed, Given, Replies, Performs};
 
 // Nothing taken and nothing sent.
 pub(crate) fn still(v: Verdict) -> Answer
@@ -143,45 +143,30 @@ fn deadline(h: Head, second: Second) -> Second
     Second(second.0 + h.lifespan)
 }
 
-fn is_full(t: &[u8], held: Held) -> bool
-    ensures { λ r. ⌜ ((q : message.Request) → Holds (now (t .entry)) (q .args .key) held → r ≡ map.full q (stateOf (now (t .entry)))) ⌝ }
+// Makes the change that is planned. A store adds the request's entry in place of the row held.
+fn change(input: &[u8], r: Request, t: &mut [u8], second: Second, c: Change, held: Held)
+    requires { ⌜ Agreed (now t) (requestIn (now input) r) (second .0) held (asChange c) ⌝ }
+    ensures { λ _. ⌜ table.Changed (now (t .entry)) (now (t .exit)) (after (at (second .0)) (requestIn (now (input .entry)) r) (stateOf (now (t .entry))) (asChange c)) ⌝ }
 {
-    let Held::Absent = held else {
-        return false;
-    };
-    Table::KEYS <= table::count(t)
+    match c {
+        Change::Keep => {}
+        Change::Store => {
+            drop_row(t, held);
+            table::add(
+                t,
+                r.key_in(input),
+                r.value_in(input),
+                deadline(r.head, second),
+            );
+        }
+        Change::Drop => drop_row(t, held),
+        Change::Empty => {
+            table::clear(t);
+        }
+    }
 }
 
-// The request's entry, where a key and a version are left for it. The reply comes first, since an old value stands in the table.
-fn store(
-    input: &[u8],
-    r: Request,
-    n: usize,
-    t: &mut [u8],
-    second: Second,
-    out: &mut [u8],
-    status: u8,
-    held: Held,
-) -> Answer
-    requires { ⌜ Given (now t) (now out) (second .0) ⌝ }
-    requires { ⌜ Planned (now t) (requestIn (now input) r) held status ⌝ }
-    requires { ⌜ Acts (now t) (requestIn (now input) r) (second .0) map.store ⌝ }
-    ensures { λ a. ⌜ Performs (now (t .entry)) (requestIn (now (input .entry)) r) (second .0) n (now (out .entry)) (doneOf a (now (out .exit)) (now (t .exit))) ⌝ }
-{
-    let h = r.head;
-    if is_full(t, held) {
-        return refuse(out, h.id, 10, n);
-    }
-    if Table::LAST_VERSION <= table::last(t).0 {
-        return refuse(out, h.id, 11, n);
-    }
-    let a = respond(out, t, h, status, held, n);
-    drop_row(t, held);
-    table::add(t, r.key_in(input), r.value_in(input), deadline(h, second));
-    a
-}
-
-// A request that was read, which took n bytes.
+// A request that was read, which took n bytes. The reply comes before the change, since an old value stands in the table.
 pub(crate) fn perform(
     input: &[u8],
     r: Request,
@@ -202,22 +187,14 @@ pub(crate) fn perform(
     let op = h.op;
     let asked = h.entry;
     let p = plan::plan_of(op, asked, held);
-    let status = p.status;
     let c = p.change;
-    match c {
-        Change::Keep => respond(out, t, h, status, held, n),
-        Change::Store => store(input, r, n, t, second, out, status, held),
-        Change::Drop => {
-            let a = respond(out, t, h, status, held, n);
-            drop_row(t, held);
-            a
-        }
-        Change::Empty => {
-            let a = respond(out, t, h, status, held, n);
-            table::clear(t);
-            a
-        }
+    let k = plan::refusal_of(t, c, held);
+    if k != 0 {
+        return refuse(out, h.id, k, n);
     }
+    let a = respond(out, t, h, p.status, held, n);
+    change(input, r, t, second, c, held);
+    a
 }
 
 // The request at the front of the input.

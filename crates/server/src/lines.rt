@@ -23,7 +23,7 @@ ghost use Rattle.line.specs.Feed.{lineEnd, turnOf};
 ghost use Rattle.line.specs.Turns.{lineRoom};
 ghost use Rattle.table.specs.Memory.{stateOf};
 ghost use Rattle.stream.specs.Sound.{isSound};
-ghost use Rattle.server.specs.Lines.{asked, Formed, Puts, GivesReply, GivesFrame, GivesLine, Counts, TurnDone, TurnsDone};
+ghost use Rattle.server.specs.Lines.{asked, isDue, Formed, Puts, GivesReply, GivesFrame, GivesLine, Counts, TurnDone, TurnsDone};
 
 // What reading the form of a line finds: its second and so many bytes, or another form.
 enum Form {
@@ -172,6 +172,22 @@ fn counts(taken: usize, size: usize, passing: bool) -> Turned
     }
 }
 
+// Whether a line is to be served: its end is there, it is too long already, or nothing comes behind its bytes.
+fn is_due(end: usize, len: usize, last: bool) -> bool
+    ensures { λ r. ⌜ r ≡ isDue end len last ⌝ }
+{
+    if end < len {
+        return true;
+    }
+    if Fed::LONGEST < len {
+        return true;
+    }
+    if last {
+        return 0 < len;
+    }
+    false
+}
+
 // One turn on what is left of a piece.
 fn turn(s: &[u8], t: &mut [u8], out: &mut [u8], at: usize, passing: bool, last: bool) -> Turned
     requires { ⌜ isSound (now t) ≡ true ⌝ }
@@ -183,24 +199,16 @@ fn turn(s: &[u8], t: &mut [u8], out: &mut [u8], at: usize, passing: bool, last: 
         if end < s.len() {
             return counts(end + 1, at, false);
         }
-        return counts(s.len(), at, true);
+        return counts(end, at, true);
     }
+    if !is_due(end, s.len(), last) {
+        return counts(0, at, false);
+    }
+    let n = line_sound(&s[..end], t, out, at);
     if end < s.len() {
-        let n = line_sound(&s[..end], t, out, at);
         return counts(end + 1, n, false);
     }
-    if Fed::LONGEST < s.len() {
-        let n = line_sound(s, t, out, at);
-        return counts(s.len(), n, true);
-    }
-    if !last {
-        return counts(0, at, false);
-    }
-    if s.len() == 0 {
-        return counts(0, at, false);
-    }
-    let n = line_sound(s, t, out, at);
-    counts(s.len(), n, false)
+    counts(end, n, Fed::LONGEST < end)
 }
 
 // Turns one after the other, as long as there is room for a line.

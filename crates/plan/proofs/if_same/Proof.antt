@@ -1,24 +1,23 @@
--- `plan::if_same` meets its contract: the version of the row held is that of the entry found. Assumes nothing.
+-- `plan::if_same` meets its contract: the versions are compared. Assumes nothing.
 use borrow.Author.Tests.{eq-eqb, ne-eqb}
-use Rattle.plan.proofs.PlanLaws.{row-found, row-held, none-held}
 use borrow.Author.Needs.{needs}
 use Rattle.plan.proofs.if_same.Statement.{statement}
 use Rattle.plan.proofs.if_same.Tie as tie
 
 returns : tie.Need-returns
-returns c t k h =
+returns c =
     let i = c .before in
     let e = i .before .before .before .before .held .given .1 in
-    rw (row-held t k e h, ← (row-found t k e h .1), eq-eqb _ _ (i .if1 .taken)) (c .planned .ensures)
+    rw (e, eq-eqb _ _ (i .if1 .taken)) (c .planned .ensures)
 
 returns-2 : tie.Need-returns-2
-returns-2 c t k h =
+returns-2 c =
     let i = c .before in
     let e = i .before .before .before .before .held .given .1 in
-    rw (row-held t k e h, ← (row-found t k e h .1), ne-eqb _ _ (i .if1 .left)) (c .planned2 .ensures)
+    rw (e, ne-eqb _ _ (i .if1 .left)) (c .planned2 .ensures)
 
 returns-3 : tie.Need-returns-3
-returns-3 c t k h = rw (none-held t k (c .before .enum-told .given .1) h) (c .planned3 .ensures)
+returns-3 c = rw (c .before .enum-told .given .1) (c .planned3 .ensures)
 
 pub if-same-spec : {M : Type 1} → statement M
 if-same-spec =

@@ -1,83 +1,90 @@
 -- `plan::plan_of` meets its contract: each arm is a row of the map's plan. Assumes nothing.
 use mathlib.Core.Path.{refl, _∙_}
 use Rattle.message.specs.declared.Operation.the-variants as o
+use mathlib.Core.Option.{Option}
+use Rattle.map.specs.State.{Entry}
 use Rattle.map.specs.Step as map
-use Rattle.plan.specs.Plan.{heldAt}
+use Rattle.plan.specs.Plan.{heldEntry}
 use Rattle.plan.proofs.PlanLaws.{held-plan, any-plan, same-plan}
 use borrow.Author.Needs.{needs}
 use Rattle.plan.proofs.plan_of.Statement.{statement}
 use Rattle.plan.proofs.plan_of.Tie as tie
 
+abbrev held : tie.Start → Option Entry
+held s = heldEntry (s .args .held)
+
 returns : tie.Need-returns
 unfolding map.plan
-returns c t k h =
+returns c =
     let p = c .before .before .before .before in
-    rw (c .enum-told .given .1) (any-plan (map.plan o.Put (p .before .args .asked .0)) (p .planned .ensures) (λ e. p .planned .ensures) (heldAt t k))
+    rw (c .enum-told .given .1) (any-plan (map.plan o.Put (p .before .args .asked .0)) (p .planned .ensures) (λ e. p .planned .ensures) (held (p .before)))
 
 returns-2 : tie.Need-returns-2
 unfolding map.plan
-returns-2 c t k h =
+returns-2 c =
     let a = c .before in
     let p = a .before .before .before in
     rw (a .before .enum-told2 .given .1)
-    (c .if-held .ensures t k h ∙ held-plan (map.plan o.PutIfAbsent (p .before .before .before .args .asked .0)) (p .before .before .planned .ensures) (λ e. a .planned4 .ensures) (heldAt t k))
+    (c .if-held .ensures ∙ held-plan (map.plan o.PutIfAbsent (p .before .before .before .args .asked .0)) (p .before .before .planned .ensures) (λ e. a .planned4 .ensures) (held (p .before .before .before)))
 
 returns-3 : tie.Need-returns-3
 unfolding map.plan
-returns-3 c t k h =
+returns-3 c =
     let a = c .before in
     let p = a .before .before .before in
     rw (a .before .enum-told3 .given .1)
-    (c .if-held2 .ensures t k h ∙ held-plan (map.plan o.Replace (p .before .before .before .args .asked .0)) (a .planned5 .ensures) (λ e. p .before .before .planned .ensures) (heldAt t k))
+    (c .if-held2 .ensures ∙ held-plan (map.plan o.Replace (p .before .before .before .args .asked .0)) (a .planned5 .ensures) (λ e. p .before .before .planned .ensures) (held (p .before .before .before)))
 
 returns-4 : tie.Need-returns-4
 unfolding map.plan
-returns-4 c t k h =
-    let v = c .before .before .before .before .before .before .args .asked .0 in
-    rw (c .before .enum-told4 .given .1) (c .if-same .ensures t k h ∙ same-plan (map.plan o.ReplaceIfUnmodified v) v map.store refl (λ e. refl) (heldAt t k))
+returns-4 c =
+    let s = c .before .before .before .before .before .before in
+    let v = s .args .asked .0 in
+    rw (c .before .enum-told4 .given .1) (c .if-same .ensures ∙ same-plan (map.plan o.ReplaceIfUnmodified v) v map.store refl (λ e. refl) (held s))
 
 returns-5 : tie.Need-returns-5
 unfolding map.plan
-returns-5 c t k h =
+returns-5 c =
     let a = c .before in
     let p = a .before .before .before in
     rw (a .before .enum-told5 .given .1)
-    (c .if-held3 .ensures t k h ∙ held-plan (map.plan o.Remove (p .before .before .before .args .asked .0)) (p .planned3 .ensures) (λ e. a .planned6 .ensures) (heldAt t k))
+    (c .if-held3 .ensures ∙ held-plan (map.plan o.Remove (p .before .before .before .args .asked .0)) (p .planned3 .ensures) (λ e. a .planned6 .ensures) (held (p .before .before .before)))
 
 returns-6 : tie.Need-returns-6
 unfolding map.plan
-returns-6 c t k h =
-    let v = c .before .before .before .before .before .before .args .asked .0 in
-    rw (c .before .enum-told6 .given .1) (c .if-same2 .ensures t k h ∙ same-plan (map.plan o.RemoveIfUnmodified v) v map.drop refl (λ e. refl) (heldAt t k))
+returns-6 c =
+    let s = c .before .before .before .before .before .before in
+    let v = s .args .asked .0 in
+    rw (c .before .enum-told6 .given .1) (c .if-same2 .ensures ∙ same-plan (map.plan o.RemoveIfUnmodified v) v map.drop refl (λ e. refl) (held s))
 
 returns-7 : tie.Need-returns-7
 unfolding map.plan
-returns-7 c t k h =
+returns-7 c =
     let p = c .before .before .before in
     rw (c .before .enum-told7 .given .1)
-    (c .if-held4 .ensures t k h ∙ held-plan (map.plan o.Get (p .before .before .before .args .asked .0)) (p .planned3 .ensures) (λ e. p .before .planned2 .ensures) (heldAt t k))
+    (c .if-held4 .ensures ∙ held-plan (map.plan o.Get (p .before .before .before .args .asked .0)) (p .planned3 .ensures) (λ e. p .before .planned2 .ensures) (held (p .before .before .before)))
 
 returns-8 : tie.Need-returns-8
 unfolding map.plan
-returns-8 c t k h =
+returns-8 c =
     let p = c .before .before .before in
     rw (c .before .enum-told8 .given .1)
-    (c .if-held5 .ensures t k h ∙ held-plan (map.plan o.GetWithVersion (p .before .before .before .args .asked .0)) (p .planned3 .ensures) (λ e. p .before .planned2 .ensures) (heldAt t k))
+    (c .if-held5 .ensures ∙ held-plan (map.plan o.GetWithVersion (p .before .before .before .args .asked .0)) (p .planned3 .ensures) (λ e. p .before .planned2 .ensures) (held (p .before .before .before)))
 
 returns-9 : tie.Need-returns-9
 unfolding map.plan
-returns-9 c t k h =
+returns-9 c =
     let p = c .before .before .before in
     rw (c .before .enum-told9 .given .1)
-    (c .if-held6 .ensures t k h ∙ held-plan (map.plan o.ContainsKey (p .before .before .before .args .asked .0)) (p .planned3 .ensures) (λ e. p .before .planned2 .ensures) (heldAt t k))
+    (c .if-held6 .ensures ∙ held-plan (map.plan o.ContainsKey (p .before .before .before .args .asked .0)) (p .planned3 .ensures) (λ e. p .before .planned2 .ensures) (held (p .before .before .before)))
 
 returns-10 : tie.Need-returns-10
 unfolding map.plan
-returns-10 c t k h = rw (c .before .enum-told10 .given .1) (c .planned7 .ensures)
+returns-10 c = rw (c .before .enum-told10 .given .1) (c .planned7 .ensures)
 
 returns-11 : tie.Need-returns-11
 unfolding map.plan
-returns-11 c t k h = rw (c .enum-told11 .given .1) (c .before .before .before .planned2 .ensures)
+returns-11 c = rw (c .enum-told11 .given .1) (c .before .before .before .planned2 .ensures)
 
 pub plan-of-spec : {M : Type 1} → statement M
 plan-of-spec =

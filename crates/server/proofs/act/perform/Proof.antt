@@ -1,17 +1,16 @@
 -- `server::act::perform` meets its contract: a step of the map, by what is planned. Assumes nothing.
-use mathlib.Core.Path.{_≡_, sym, ap}
+use mathlib.Core.Path.{_≡_, sym, ap, subst, _∙_}
+use Prim.Native.Nat.{_≤_}
 use native.Mathlib.Omega.{arith}
-use borrow.Author.Tests.{eq-eqb}
 use Rattle.message.specs.Request.{Request, requestIn}
 use Rattle.message.proofs.Sizes.{request-small}
 use Rattle.map.specs.Step as map
 use Rattle.map.specs.State.{State}
-use Rattle.table.specs.Memory as memory
 use Rattle.table.specs.Memory.{stateOf}
-use Rattle.table.specs.Change.{cleared}
-use Rattle.plan.specs.Plan.{asPlan, asChange, Holds}
-use Rattle.server.specs.Act.{Planned, Acts}
-use Rattle.server.proofs.StepLaws.{does-refused, does-answered, step-named, step-acts, named, unnamed, same-table}
+use Rattle.plan.specs.Plan.{asPlan, asChange, heldEntry, refusalOf, Holds}
+use Rattle.plan.proofs.PlanLaws.{plan-held, none-same}
+use Rattle.server.specs.Act.{at, after, Planned, Agreed}
+use Rattle.server.proofs.StepLaws.{does-refused, does-answered, step-named, step-acts, act-refused, act-made, named, unnamed}
 use borrow.Author.Needs.{needs}
 use Rattle.server.proofs.act.perform.Statement.{statement}
 use Rattle.server.proofs.act.perform.Tie as tie
@@ -39,70 +38,81 @@ returns c =
     let s = begin (i .before) in
     does-refused (asked s) (step-named _ _ _ (rw (← (n .ensures)) (named (n .result .now) (i .if1 .taken)))) (w .refuse .ensures)
 
-abbrev before : tie.After-plan-of → tie.Start
-before c = begin (c .before .before .before .before .before .before)
+-- what is held, what is planned, and whether it is refused
+module _ (c : tie.After-refusal-of) where
+  abbrev found : tie.After-held-in
+  found = c .before .before .before .before
 
--- what is held, and what is planned
-holds : (c : tie.After-plan-of) → let s = before c in Holds (s .args .t .now) (asked s .args .key) (c .before .before .held-in .result)
-holds c = let h = c .before .before in rw (h .before .key-in .ensures) at (h .held-in .ensures)
+  abbrev start : tie.Start
+  start = begin (found .before .before .before .before)
 
-planned : (c : tie.After-plan-of) → let s = before c in map.planned (asked s) (state s) ≡ asPlan (c .plan-of .result)
-unfolding map.planned map.held
-planned c = let s = before c in sym (c .plan-of .ensures (s .args .t .now) (asked s .args .key) (holds c))
+  abbrev change : map.Change
+  change = asChange (c .before .before .plan-of .result .change)
 
-given : (c : tie.After-plan-of) → let s = before c in Planned (s .args .t .now) (asked s) (c .before .before .held-in .result) (c .plan-of .result .status)
-given c = let s = before c in record { sound = s .pre .0 .sound; valid = s .pre .1; holds = holds c; status = rw (planned c) }
+  holds : Holds (start .args .t .now) (asked start .args .key) (found .held-in .result)
+  holds = subst (λ k. Holds (start .args .t .now) k (found .held-in .result)) (found .before .key-in .ensures) (found .held-in .ensures)
 
-acts : (c : tie.After-plan-of) (d : map.Change) → asChange (c .plan-of .result .change) ≡ d → let s = before c in
-    Acts (s .args .t .now) (asked s) (s .args .second .0) d
-acts c d e =
-    let i = c .before .before .before .before .before in
-    let n = i .before .name-in in
-    step-acts _ _ _ (rw (← (n .ensures)) (unnamed (n .result .now) (i .if1 .left))) (rw (planned c) e)
+  planned : map.planned (asked start) (state start) ≡ asPlan (c .before .before .plan-of .result)
+  unfolding map.planned map.held
+  planned = sym (c .before .before .plan-of .ensures ∙ plan-held _ _ _ _ (found .held-in .result) holds)
+
+  given : Planned (start .args .t .now) (asked start) (found .held-in .result) (c .before .before .plan-of .result .status)
+  given = record { sound = start .pre .0 .sound; valid = start .pre .1; holds = holds; status = rw planned }
+
+  acts : map.step (at (start .args .second .0)) (asked start) (state start)
+      ≡ map.act (at (start .args .second .0)) (asked start) (state start) (map.answer (asked start) (state start)) change
+  acts =
+      let i = found .before .before .before in
+      let n = i .before .name-in in
+      step-acts _ _ _ (rw (← (n .ensures)) (unnamed (n .result .now) (i .if1 .left))) (rw planned)
+
+  same : map.isNone (heldEntry (found .held-in .result)) ≡ map.isNone (map.held (asked start) (state start))
+  unfolding map.held
+  same = none-same _ _ (found .held-in .result) holds
+
+  refused : (c .refusal-of .result ≡ 0 → ⊥)
+      → (map.step (at (start .args .second .0)) (asked start) (state start) ≡ map.refused (c .refusal-of .result)) × (c .refusal-of .result ≤ 11)
+  refused h =
+      let e = c .refusal-of .ensures in
+      let z = act-refused _ _ _ _ same change (λ n. h (e ∙ n)) in
+      (acts ∙ z .0 ∙ ap map.refused (sym e), omega (arith, e, z .1))
+
+  agreed : c .refusal-of .result ≡ 0 → Agreed (start .args .t .now) (asked start) (start .args .second .0) (found .held-in .result) change
+  agreed z =
+      let e = sym (c .refusal-of .ensures) ∙ z in
+      record {
+        sound = start .pre .0 .sound;
+        valid = start .pre .1;
+        holds = holds;
+        within = start .pre .0 .second;
+        free = e;
+        step = acts ∙ act-made _ _ _ _ same change e;
+      }
+
+refuse-requires-2 : tie.Need-refuse-requires-2
+refuse-requires-2 c κs =
+    let i = c .before in
+    let s = start (i .before) in
+    (s .pre .0 .room, (request-small (asked s) (s .pre .1) .id, (omega (arith, i .if2 .taken), refused (i .before) (i .if2 .taken) .1)))
 
 returns-2 : tie.Need-returns-2
-unfolding map.act
 returns-2 c =
     let w = c .before .before in
-    let k = w .before .before .before in
-    let p = k .before .before in
-    let s = before p in
-    let q = asked s in
-    does-answered _ q _ (s .pre .0 .sound) (s .pre .1) (s .pre .0 .second) (acts p map.keep (ap asChange (k .enum-told .given .1)))
-    (w .respond .ensures (q .name) (q .args .key) (q .args .value) (given p)) (same-table (s .args .t .now))
+    let i = w .before .before in
+    does-refused (asked (start (i .before))) (refused (i .before) (i .if2 .taken) .0) (w .refuse2 .ensures)
 
-store-requires : tie.Need-store-requires
-store-requires c κs =
-    let k = c .before .before in
-    let p = k .before .before in
-    (before p .pre .0, (given p, acts p map.store (ap asChange (k .enum-told2 .given .1))))
+change-requires : tie.Need-change-requires
+change-requires c κs = let i = c .before .before .before .before .before .before in agreed (i .before) (i .if2 .left)
 
 returns-3 : tie.Need-returns-3
-returns-3 c = c .before .before .before .before .store .ensures
-
-returns-4 : tie.Need-returns-4
-unfolding map.act map.dropped
-returns-4 c =
+returns-3 c =
     let d = c .before .before in
     let w = d .before .before .before .before in
-    let k = w .before .before .before in
-    let p = k .before .before in
-    let s = before p in
+    let i = w .before .before .before in
+    let s = start (i .before) in
     let q = asked s in
-    does-answered _ q _ (s .pre .0 .sound) (s .pre .1) (s .pre .0 .second) (acts p map.drop (ap asChange (k .enum-told3 .given .1)))
-    (w .respond2 .ensures (q .name) (q .args .key) (q .args .value) (given p)) (d .drop-row .ensures (q .args .key) (s .pre .0 .sound) (holds p))
-
-returns-5 : tie.Need-returns-5
-unfolding map.act map.emptied cleared
-returns-5 c =
-    let d = c .before .before in
-    let w = d .before .before .before .before in
-    let k = w .before .before .before in
-    let p = k .before .before in
-    let s = before p in
-    let q = asked s in
-    does-answered _ q _ (s .pre .0 .sound) (s .pre .1) (s .pre .0 .second) (acts p map.empty (ap asChange (k .enum-told4 .given .1)))
-    (w .respond3 .ensures (q .name) (q .args .key) (q .args .value) (given p)) (rw (eq-eqb _ memory.size (s .pre .0 .sound .form .long)) at (d .clear .ensures .1))
+    does-answered _ q _ (s .pre .0 .sound) (s .pre .1) (s .pre .0 .second) (agreed (i .before) (i .if2 .left) .step)
+    (w .respond .ensures (q .name) (q .args .key) (q .args .value) (given (i .before))) (d .change .ensures)
 
 pub perform-spec : {M : Type 1} → statement M
 perform-spec =
@@ -115,25 +125,13 @@ perform-spec =
     (λ c κs. search needs)
     (λ c κs. search needs)
     (λ c κs. search needs)
-    (λ c. search needs)
     (λ c κs. search needs)
-    (λ c. search needs)
-    store-requires
-    (λ c. search needs)
-    (λ c κs. search needs)
-    (λ c κs. search needs)
-    (λ c. search needs)
-    (λ c κs. search needs)
-    (λ c κs. search needs)
+    refuse-requires-2
     (λ c. search needs)
     (λ c. search needs)
     returns-2
+    (λ c κs. search needs)
+    change-requires
     (λ c. search needs)
     (λ c. search needs)
-    returns-3
-    (λ c. search needs)
-    (λ c. search needs)
-    returns-4
-    (λ c. search needs)
-    (λ c. search needs)
-    returns-5)
+    returns-3)

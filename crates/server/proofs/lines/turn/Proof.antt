@@ -1,70 +1,63 @@
 -- `server::lines::turn` meets its contract: each case of a turn. Assumes nothing.
-use mathlib.Core.Path.{sym}
+use mathlib.Core.Path.{_≡_, sym, _∙_}
+use mathlib.Core.Bool.{true, false}
 use native.Mathlib.Omega.{arith}
 use lib.ListN.{length}
 use lib.Seq.{length-take-le}
 use borrow.Author.Tests.{not-true, not-false}
-use Rattle.server.proofs.TurnLaws.{turn-passed, turn-passing, turn-line, turn-long, turn-more, turn-last, not-last, some-last, empty-last, quiet, spoke}
+use Rattle.server.specs.Lines.{isDue}
+use Rattle.server.proofs.TurnLaws.{end-most, turn-passed, turn-passing, turn-line, turn-rest, turn-more, quiet, spoke}
 use borrow.Author.Needs.{needs}
 use Rattle.server.proofs.lines.turn.Statement.{statement}
 use Rattle.server.proofs.lines.turn.Tie as tie
+
+abbrev begin : tie.After-line-end → tie.Start
+begin c = c .before .before .before .before
 
 returns : tie.Need-returns
 returns c =
     let d = c .before in
     let l = d .before .before in
-    let s = l .before .before .before .before in
-    quiet (turn-passed _ _ _ (l .line-end .ensures) (d .before .if1 .taken) (d .if2 .taken)) (s .pre .0) (omega arith) (c .counts .ensures)
+    quiet (turn-passed _ _ _ (l .line-end .ensures) (d .before .if1 .taken) (d .if2 .taken)) (begin l .pre .0) (omega arith) (c .counts .ensures)
 
 returns-2 : tie.Need-returns-2
 returns-2 c =
     let d = c .before in
     let l = d .before .before in
-    let s = l .before .before .before .before in
-    quiet (turn-passing _ _ _ (l .line-end .ensures) (d .before .if1 .taken) (d .if2 .left)) (s .pre .0) (omega arith) (c .counts2 .ensures)
-
-slice-aggregate-line-sound : tie.Need-slice-aggregate-line-sound
-slice-aggregate-line-sound c = sym (length-take-le _ _ (omega arith))
+    quiet (turn-passing _ _ _ (l .line-end .ensures) (d .before .if1 .taken) (d .if2 .left)) (begin l .pre .0) (omega arith) (c .counts2 .ensures)
 
 returns-3 : tie.Need-returns-3
 returns-3 c =
-    let d = c .before in
-    let w = d .before .before .before .before in
-    let i = w .before .before .before .before in
-    spoke (turn-line _ _ _ (i .before .before .line-end .ensures) (i .before .if1 .left) (i .if3 .taken)) (w .line-sound .ensures) (c .counts3 .ensures)
+    let i = c .before in
+    let d = i .before in
+    let l = d .before .before in
+    quiet (turn-more _ _ _ (l .line-end .ensures) (d .before .if1 .left) (sym (d .is-due .ensures) ∙ not-true _ (i .if3 .taken))) (begin l .pre .0) (omega arith) (c .counts3 .ensures)
+
+-- a line that is due
+due : (c : tie.Else3) → let d = c .before in isDue (d .before .before .line-end .result) (length (begin (d .before .before) .args .s .now)) (begin (d .before .before) .args .last) ≡ true
+due c = sym (c .before .is-due .ensures) ∙ not-false _ (c .if3 .left)
+
+slice-aggregate-line-sound : tie.Need-slice-aggregate-line-sound
+slice-aggregate-line-sound c =
+    let l = c .before .before .before .before in
+    sym (length-take-le _ _ (omega (arith, l .line-end .ensures, end-most (begin l .args .s .now))))
 
 returns-4 : tie.Need-returns-4
 returns-4 c =
-    let d = c .before in
-    let w = d .before .before .before .before in
-    let i = w .before .before .before in
-    let e = i .before in
-    spoke (turn-long _ _ _ (e .before .before .line-end .ensures) (e .before .if1 .left) (e .if3 .left) (i .if4 .taken)) (w .line-sound2 .ensures) (c .counts4 .ensures)
+    let i = c .before in
+    let w = i .before .before .before .before .before in
+    let d = w .before .before .before .before .before in
+    let l = d .before .before in
+    spoke (turn-line _ _ _ (l .line-end .ensures) (d .before .if1 .left) (i .if4 .taken)) (w .line-sound .ensures) (c .counts4 .ensures)
 
 returns-5 : tie.Need-returns-5
 returns-5 c =
-    let d = c .before in
-    let e = d .before .before in
-    let l = e .before .before in
-    let s = l .before .before .before .before in
-    quiet (turn-more _ _ _ (l .line-end .ensures) (e .before .if1 .left) (e .if3 .left) (d .before .if4 .left) (not-last (s .args .last) (length (s .args .s .now)) (not-true _ (d .if5 .taken)))) (s .pre .0) (omega arith) (c .counts5 .ensures)
-
-returns-6 : tie.Need-returns-6
-returns-6 c =
-    let d = c .before in
-    let e = d .before .before .before in
-    let l = e .before .before in
-    let s = l .before .before .before .before in
-    quiet (turn-more _ _ _ (l .line-end .ensures) (e .before .if1 .left) (e .if3 .left) (d .before .before .if4 .left) (empty-last (s .args .last) (length (s .args .s .now)) (d .if6 .taken))) (s .pre .0) (omega arith) (c .counts6 .ensures)
-
-returns-7 : tie.Need-returns-7
-returns-7 c =
-    let d = c .before in
-    let w = d .before .before .before .before in
-    let i = w .before .before .before in
-    let e = i .before .before .before in
-    let s = e .before .before .before .before .before .before in
-    spoke (turn-last _ _ _ (e .before .before .line-end .ensures) (e .before .if1 .left) (e .if3 .left) (i .before .before .if4 .left) (some-last (s .args .last) (length (s .args .s .now)) (not-false _ (i .before .if5 .left)) (i .if6 .left))) (w .line-sound3 .ensures) (c .counts7 .ensures)
+    let i = c .before in
+    let w = i .before .before .before .before .before in
+    let e = w .before .before .before .before in
+    let d = e .before in
+    let l = d .before .before in
+    spoke (turn-rest _ _ _ (l .line-end .ensures) (d .before .if1 .left) (due e) (i .if4 .left)) (w .line-sound .ensures) (c .counts5 .ensures)
 
 pub turn-spec : {M : Type 1} → statement M
 turn-spec =
@@ -76,24 +69,17 @@ turn-spec =
     returns
     (λ c κs. search needs)
     returns-2
+    (λ c κs. search needs)
+    (λ c κs. search needs)
+    returns-3
     slice-aggregate-line-sound
     (λ c κs. search needs)
     (λ c. search needs)
     (λ c κs. search needs)
     (λ c. search needs)
     (λ c. search needs)
-    returns-3
-    (λ c κs. search needs)
-    (λ c κs. search needs)
-    (λ c. search needs)
-    (λ c. search needs)
     returns-4
     (λ c κs. search needs)
-    returns-5
-    (λ c κs. search needs)
-    returns-6
-    (λ c κs. search needs)
-    (λ c κs. search needs)
     (λ c. search needs)
     (λ c. search needs)
-    returns-7)
+    returns-5)

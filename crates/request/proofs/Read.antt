@@ -1,7 +1,7 @@
 -- What reading a request goes by, field by field, and what an answer that is not whole says. Assumes nothing.
 use mathlib.Core.Path.{_≡_, refl, sym, _∙_}
 use mathlib.Core.List.{List, [], _∷_}
-use mathlib.Core.Bool.{cond, _&&_}
+use mathlib.Core.Bool.{Bool, true, false, cond, _&&_}
 use mathlib.Core.Logic.{⊎-elim}
 use Prim.Native.Nat.{ℕ, zero, suc}
 use native.Mathlib.Nat.{add-zero}
@@ -22,9 +22,9 @@ use Rattle.field.proofs.NumberRead as number-read
 use Rattle.message.specs.declared.Operation.{Operation}
 use Rattle.message.specs.declared.Head.{Head}
 use Rattle.message.specs.Operation.{findCode, isKnown, known}
-use Rattle.message.specs.Request.{keyed, writes, writesIf, keyedIf, bare, shapeOf, args, argsOf, operation, transaction, isVersion, ed, fields, toRequest, request, nameLimit, keyLimit, valueLimit}
+use Rattle.message.specs.Request.{Request, bare, shapeOf, args, argsOf, operation, transaction, isVersion, ed, fields, toRequest, request, nameLimit, keyLimit}
 use Rattle.request.specs.Answer.{start, idFound}
-use Rattle.request.specs.Parts.{asChecked, between, requestWith, fromArgs, options, fromName}
+use Rattle.request.specs.Parts.{asChecked, keyedBy, writesBy, between, requestWith, fromArgs, fromValue, options, fromName}
 use Rattle.request.specs.declared.CheckedRead.{CheckedRead}
 use Rattle.request.specs.declared.CheckedRead.the-variants as c
 use Rattle.request.proofs.CheckedRead as checked-read
@@ -85,30 +85,26 @@ pub at-name : (s : List ℕ) (id v : ℕ) (op : Operation) (at : ℕ) → fromNa
 unfolding fromName options
 at-name s id v op at = simp (at-seq, at-guard, at-between, at-transaction, after-after, at-cond)
 
--- the arguments of each shape
+-- the arguments of each shape: behind the key, and behind the times
+abbrev pub keyedFrom : Bool → List ℕ → Head → List ℕ → List ℕ → ℕ → Read Request
+keyedFrom true s h name k i = after (readAt entryVersion s i) (λ e j. whole (requestWith h name (args k 0 0 e [])) j)
+keyedFrom false s h name k i = whole (requestWith h name (args k 0 0 0 [])) i
+
+abbrev pub writesFrom : Bool → List ℕ → Head → List ℕ → List ℕ → ℕ → ℕ → ℕ → Read Request
+writesFrom true s h name k l m i = after (readAt entryVersion s i) (λ e j. fromValue s h name (args k l m e) j)
+writesFrom false s h name k l m i = fromValue s h name (args k l m 0) i
+
 module _ (s : List ℕ) (h : Head) (name : List ℕ) (at : ℕ) where
-  pub at-keyed : fromArgs s h name keyed at ≡ after (readAt (limited keyLimit) s at) (λ k j. whole (requestWith h name (args k 0 0 0 [])) j)
+  pub at-keyed : (b : Bool) → fromArgs s h name (keyedBy b) at ≡ after (readAt (limited keyLimit) s at) (λ k i. keyedFrom b s h name k i)
   unfolding argsOf fromArgs
-  at-keyed = simp (at-type, after-after)
+  at-keyed true = simp (at-type, at-seq, after-after)
+  at-keyed false = simp (at-type, after-after)
 
-  pub at-keyed-if : fromArgs s h name keyedIf at
-      ≡ after (readAt (limited keyLimit) s at) (λ k i. after (readAt entryVersion s i) (λ e j. whole (requestWith h name (args k 0 0 e [])) j))
-  unfolding argsOf fromArgs
-  at-keyed-if = simp (at-type, at-seq, after-after)
-
-  pub at-writes : fromArgs s h name writes at
-      ≡ after (readAt (limited keyLimit) s at) (λ k i.
-      after (readAt vInt s i) (λ l i. after (readAt vInt s i) (λ m i. after (readAt (limited valueLimit) s i) (λ v j. whole (requestWith h name (args k l m 0 v)) j))))
-  unfolding argsOf fromArgs
-  at-writes = simp (at-type, at-seq, after-after)
-
-  pub at-writes-if : fromArgs s h name writesIf at
-      ≡ after (readAt (limited keyLimit) s at) (λ k i.
-      after (readAt vInt s i) (λ l i.
-      after (readAt vInt s i) (λ m i.
-      after (readAt entryVersion s i) (λ e i. after (readAt (limited valueLimit) s i) (λ v j. whole (requestWith h name (args k l m e v)) j)))))
-  unfolding argsOf fromArgs
-  at-writes-if = simp (at-type, at-seq, after-after)
+  pub at-writes : (b : Bool) → fromArgs s h name (writesBy b) at
+      ≡ after (readAt (limited keyLimit) s at) (λ k i. after (readAt vInt s i) (λ l i. after (readAt vInt s i) (λ m i. writesFrom b s h name k l m i)))
+  unfolding argsOf fromArgs fromValue
+  at-writes true = simp (at-type, at-seq, after-after)
+  at-writes false = simp (at-type, at-seq, after-after)
 
   pub at-bare : fromArgs s h name bare at ≡ whole (requestWith h name (args [] 0 0 0 [])) at
   unfolding argsOf fromArgs readAt empty

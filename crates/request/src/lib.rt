@@ -12,13 +12,13 @@ use message::Head;
 use message::Operation;
 use message::Request;
 ghost use mathlib.Core.Path.{_≡_};
-ghost use mathlib.Core.List.{List};
+ghost use mathlib.Core.List.{List, []};
 ghost use Prim.Native.Nat.{ℕ};
 ghost use Rattle.wire.specs.Codec.{readAt, whole};
 ghost use Rattle.field.specs.Answer.{asNumber, asSpan, partOf, stopped};
-ghost use Rattle.message.specs.Request.{request, shapeOf, keyed, writes, writesIf, keyedIf, isVersion, ed};
+ghost use Rattle.message.specs.Request.{request, shapeOf, args, isVersion, ed};
 ghost use Rattle.request.specs.Answer.{asRequest, start, idIn};
-ghost use Rattle.request.specs.Parts.{asChecked, asShape, between, argsIn, requestWith, fromArgs, fromName};
+ghost use Rattle.request.specs.Parts.{asChecked, asShape, keyedBy, writesBy, between, argsIn, requestWith, fromArgs, fromValue, fromName};
 
 // What reading a request finds: the request with the number of bytes it took, more needed, or a refusal by its number.
 pub enum RequestRead {
@@ -43,13 +43,12 @@ pub enum Shape {
     Bare,
 }
 
-// The arguments that were read. One that the operation does not send is 0 or empty.
+// The arguments before the value. One that the operation does not send is 0 or empty.
 struct Args {
     key: Span,
     lifespan: u64,
     idle: u64,
     entry: EntryVersion,
-    value: Span,
 }
 
 pub fn shape_of(op: Operation) -> Shape
@@ -125,13 +124,12 @@ fn stop_span(r: SpanRead) -> RequestRead
 }
 
 // The whole request of a header and its arguments, which end at a place.
-fn finish(h: Head, name: Span, a: Args, c: Cursor) -> RequestRead
-    ensures { λ r. ⌜ ((s : List ℕ) → asRequest s r ≡ whole (requestWith h (partOf s name) (argsIn s a)) (c .at)) ⌝ }
+fn finish(h: Head, name: Span, a: Args, value: Span, c: Cursor) -> RequestRead
+    ensures { λ r. ⌜ ((s : List ℕ) → asRequest s r ≡ whole (requestWith h (partOf s name) (argsIn s a (partOf s value))) (c .at)) ⌝ }
 {
     let op = h.op;
     let entry = a.entry;
     let key = a.key;
-    let value = a.value;
     RequestRead::Whole(
         Request {
             head: Head {
@@ -153,47 +151,51 @@ fn finish(h: Head, name: Span, a: Args, c: Cursor) -> RequestRead
     )
 }
 
-// The arguments of each shape.
-fn read_keyed(s: &[u8], c: Cursor, h: Head, name: Span) -> RequestRead
-    ensures { λ r. ⌜ asRequest (now (s .entry)) r ≡ fromArgs (now (s .entry)) h (partOf (now (s .entry)) name) keyed (c .at) ⌝ }
+// A request that sends no value.
+fn finish_keyed(h: Head, name: Span, key: Span, entry: EntryVersion, c: Cursor) -> RequestRead
+    ensures { λ r. ⌜ ((s : List ℕ) → asRequest s r ≡ whole (requestWith h (partOf s name) (args (partOf s key) 0 0 (entry .0) [])) (c .at)) ⌝ }
 {
-    let r = field::read_limited(s, c, Request::KEY);
-    let SpanRead::Whole(key, end) = r else {
-        return stop_span(r);
-    };
     let a = Args {
         key: key,
         lifespan: 0,
         idle: 0,
-        entry: EntryVersion(0),
-        value: Span { start: 0, len: 0 },
+        entry: entry,
     };
-    finish(h, name, a, end)
+    finish(h, name, a, Span { start: 0, len: 0 }, c)
 }
 
-fn read_keyed_if(s: &[u8], c: Cursor, h: Head, name: Span) -> RequestRead
-    ensures { λ r. ⌜ asRequest (now (s .entry)) r ≡ fromArgs (now (s .entry)) h (partOf (now (s .entry)) name) keyedIf (c .at) ⌝ }
+// The key, and the entry version where the operation is a conditional one.
+fn read_keyed(s: &[u8], c: Cursor, h: Head, name: Span, conditional: bool) -> RequestRead
+    ensures { λ r. ⌜ asRequest (now (s .entry)) r ≡ fromArgs (now (s .entry)) h (partOf (now (s .entry)) name) (keyedBy conditional) (c .at) ⌝ }
 {
     let r1 = field::read_limited(s, c, Request::KEY);
     let SpanRead::Whole(key, next) = r1 else {
         return stop_span(r1);
     };
+    if !conditional {
+        return finish_keyed(h, name, key, EntryVersion(0), next);
+    }
     let r2 = field::read_version(s, next);
     let VersionRead::Whole(entry, end) = r2 else {
         return RequestRead::More;
     };
-    let a = Args {
-        key: key,
-        lifespan: 0,
-        idle: 0,
-        entry: entry,
-        value: Span { start: 0, len: 0 },
-    };
-    finish(h, name, a, end)
+    finish_keyed(h, name, key, entry, end)
 }
 
-fn read_writes(s: &[u8], c: Cursor, h: Head, name: Span) -> RequestRead
-    ensures { λ r. ⌜ asRequest (now (s .entry)) r ≡ fromArgs (now (s .entry)) h (partOf (now (s .entry)) name) writes (c .at) ⌝ }
+// The value, behind all other arguments.
+fn read_value(s: &[u8], c: Cursor, h: Head, name: Span, a: Args) -> RequestRead
+    ensures { λ r. ⌜ asRequest (now (s .entry)) r ≡ fromValue (now (s .entry)) h (partOf (now (s .entry)) name) (argsIn (now (s .entry)) a) (c .at) ⌝ }
+{
+    let r = field::read_limited(s, c, Request::VALUE);
+    let SpanRead::Whole(value, end) = r else {
+        return stop_span(r);
+    };
+    finish(h, name, a, value, end)
+}
+
+// Key, lifespan, max idle, the entry version where the operation is a conditional one, and the value.
+fn read_writes(s: &[u8], c: Cursor, h: Head, name: Span, conditional: bool) -> RequestRead
+    ensures { λ r. ⌜ asRequest (now (s .entry)) r ≡ fromArgs (now (s .entry)) h (partOf (now (s .entry)) name) (writesBy conditional) (c .at) ⌝ }
 {
     let r1 = field::read_limited(s, c, Request::KEY);
     let SpanRead::Whole(key, c1) = r1 else {
@@ -207,51 +209,26 @@ fn read_writes(s: &[u8], c: Cursor, h: Head, name: Span) -> RequestRead
     let NumberRead::Whole(idle, c3) = r3 else {
         return stop_number(r3);
     };
-    let r4 = field::read_limited(s, c3, Request::VALUE);
-    let SpanRead::Whole(value, c4) = r4 else {
-        return stop_span(r4);
-    };
-    let a = Args {
-        key: key,
-        lifespan: lifespan,
-        idle: idle,
-        entry: EntryVersion(0),
-        value: value,
-    };
-    finish(h, name, a, c4)
-}
-
-fn read_writes_if(s: &[u8], c: Cursor, h: Head, name: Span) -> RequestRead
-    ensures { λ r. ⌜ asRequest (now (s .entry)) r ≡ fromArgs (now (s .entry)) h (partOf (now (s .entry)) name) writesIf (c .at) ⌝ }
-{
-    let r1 = field::read_limited(s, c, Request::KEY);
-    let SpanRead::Whole(key, c1) = r1 else {
-        return stop_span(r1);
-    };
-    let r2 = field::read_number(s, c1, Kind::VInt);
-    let NumberRead::Whole(lifespan, c2) = r2 else {
-        return stop_number(r2);
-    };
-    let r3 = field::read_number(s, c2, Kind::VInt);
-    let NumberRead::Whole(idle, c3) = r3 else {
-        return stop_number(r3);
-    };
+    if !conditional {
+        let a = Args {
+            key: key,
+            lifespan: lifespan,
+            idle: idle,
+            entry: EntryVersion(0),
+        };
+        return read_value(s, c3, h, name, a);
+    }
     let r4 = field::read_version(s, c3);
     let VersionRead::Whole(entry, c4) = r4 else {
         return RequestRead::More;
     };
-    let r5 = field::read_limited(s, c4, Request::VALUE);
-    let SpanRead::Whole(value, c5) = r5 else {
-        return stop_span(r5);
-    };
     let a = Args {
         key: key,
         lifespan: lifespan,
         idle: idle,
         entry: entry,
-        value: value,
     };
-    finish(h, name, a, c5)
+    read_value(s, c4, h, name, a)
 }
 
 // The arguments, by the operation's shape.
@@ -261,20 +238,11 @@ fn read_args(s: &[u8], c: Cursor, h: Head, name: Span) -> RequestRead
     let op = h.op;
     let shape = shape_of(op);
     match shape {
-        Shape::Keyed => read_keyed(s, c, h, name),
-        Shape::Writes => read_writes(s, c, h, name),
-        Shape::WritesIf => read_writes_if(s, c, h, name),
-        Shape::KeyedIf => read_keyed_if(s, c, h, name),
-        Shape::Bare => {
-            let a = Args {
-                key: Span { start: 0, len: 0 },
-                lifespan: 0,
-                idle: 0,
-                entry: EntryVersion(0),
-                value: Span { start: 0, len: 0 },
-            };
-            finish(h, name, a, c)
-        }
+        Shape::Keyed => read_keyed(s, c, h, name, false),
+        Shape::Writes => read_writes(s, c, h, name, false),
+        Shape::WritesIf => read_writes(s, c, h, name, true),
+        Shape::KeyedIf => read_keyed(s, c, h, name, true),
+        Shape::Bare => finish_keyed(h, name, Span { start: 0, len: 0 }, EntryVersion(0), c),
     }
 }
 

@@ -5,9 +5,6 @@ use borrow.Author.Needs.{needs}
 use Rattle.request.proofs.read_args.Statement.{statement}
 use Rattle.request.proofs.read_args.Tie as tie
 
-enum-told : tie.Need-enum-told
-enum-told c = search needs
-
 returns : tie.Need-returns
 returns c =
     let e = c .before in
@@ -21,24 +18,24 @@ returns-2 c =
 returns-3 : tie.Need-returns-3
 returns-3 c =
     let e = c .before in
-    c .read-writes-if .ensures ∙ rw (← (e .before .before .shape-of .ensures), e .enum-told3 .given .1)
+    c .read-writes2 .ensures ∙ rw (← (e .before .before .shape-of .ensures), e .enum-told3 .given .1)
 
 returns-4 : tie.Need-returns-4
 returns-4 c =
     let e = c .before in
-    c .read-keyed-if .ensures ∙ rw (← (e .before .before .shape-of .ensures), e .enum-told4 .given .1)
+    c .read-keyed2 .ensures ∙ rw (← (e .before .before .shape-of .ensures), e .enum-told4 .given .1)
 
 returns-5 : tie.Need-returns-5
 returns-5 c =
     let e = c .before in
-    c .finish .ensures _ ∙ sym (rw (← (e .before .before .shape-of .ensures), e .enum-told5 .given .1) (at-bare _ _ _ _))
+    c .finish-keyed .ensures _ ∙ sym (rw (← (e .before .before .shape-of .ensures), e .enum-told5 .given .1) (at-bare _ _ _ _))
 
 pub read-args-spec : {M : Type 1} → statement M
 read-args-spec =
     tie.close
     (tie.spec
     (λ c κs. search needs)
-    enum-told
+    (λ c. search needs)
     (λ c κs. search needs)
     (λ c. search needs)
     (λ c κs. search needs)

@@ -1,0 +1,74 @@
+#!/usr/bin/env python3
+"""Holds docs/CLAIMS.md to the files: each edit, file and function that it names is there, and its table of public functions lists the edits and
+the wrong programs that there are. With --write, that table is written again."""
+import glob
+import os
+import re
+import sys
+from collections import Counter
+
+PATH = 'docs/CLAIMS.md'
+HEAD = '| Crate | Must-fail edits | `tests/wrong/`, with how many |\n|---|---|---|\n'
+
+
+def crates():
+    with open('crates.txt', encoding='utf-8') as lines:
+        return [line.split(':')[0] for line in lines if ':' in line]
+
+
+def rows():
+    for crate in crates():
+        edits = sorted(os.path.basename(e)[:-5] for e in glob.glob(f'crates/{crate}/must-fail/*.edit'))
+        wrong = Counter()
+        path = f'tests/wrong/{crate}.txt'
+        if os.path.exists(path):
+            with open(path, encoding='utf-8') as lines:
+                wrong = Counter(line[2:].split(': ')[0] for line in lines if line.startswith('# '))
+        if edits or wrong:
+            yield f"| `{crate}` | {', '.join(f'`{e}`' for e in edits)} | {', '.join(f'`{f}` {n}' for f, n in wrong.items())} |\n"
+
+
+def source(folder):
+    text = ''
+    for path in glob.glob(f'{folder}/**/*', recursive=True):
+        if path.endswith(('.rt', '.antt')):
+            with open(path, encoding='utf-8') as file:
+                text += file.read()
+    return text
+
+
+def main():
+    with open(PATH, encoding='utf-8') as file:
+        text = file.read()
+    at = text.index(HEAD) + len(HEAD)
+    if '--write' in sys.argv:
+        with open(PATH, 'w', encoding='utf-8') as file:
+            file.write(text[:at] + ''.join(rows()))
+        return []
+    faults = [] if text[at:] == ''.join(rows()) else ['the table of public functions is not that of the files (tests/claims.py --write)']
+    names = set(crates())
+    for row in text[:at].splitlines():
+        folder = None
+        for word in re.findall(r'`([^`]+)`', row):
+            edit = re.fullmatch(r'(?:([a-z_]+/must-fail)/)?([a-z_]+\.edit)', word)
+            if edit:
+                folder = edit[1] or folder
+                if not os.path.exists(f'crates/{folder}/{edit[2]}'):
+                    faults.append(f'no edit {folder}/{edit[2]}')
+            elif re.fullmatch(r'[a-z_]+/(specs|proofs|src|must-fail)/.*', word) and not os.path.exists(f'crates/{word}'):
+                faults.append(f'no file {word}')
+            call = re.fullmatch(r'([a-z_]+)::(?:[a-z_]+::)?([a-z_]+)', word)
+            if call and call[1] in names and not re.search(rf'\bfn {call[2]}\b', source(f'crates/{call[1]}/src')):
+                faults.append(f'no function {word}')
+    definitions = source('crates')
+    for word in sorted(set(re.findall(r'`([a-zA-Z][a-zA-Z0-9-]*)`', text[:at]))):
+        if not re.search(rf'(?<![\w-]){re.escape(word)}(?![\w-])', definitions) and word not in names:
+            faults.append(f'no name {word}')
+    return faults
+
+
+if __name__ == '__main__':
+    found = main()
+    for fault in found:
+        print(f'{PATH}: {fault}')
+    sys.exit(1 if found else 0)

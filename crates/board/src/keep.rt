@@ -27,7 +27,7 @@ fn is_whole(w: Window, name: &[u8]) -> bool {
         say::no_table(name);
         return false;
     }
-    if w.good && w.carried && w.from == w.held {
+    if w.ended && w.carried && w.from == w.held {
         return true;
     }
     say::broken(name);
@@ -118,9 +118,8 @@ fn write_lines(fd: i32, t: &[u8]) -> bool {
 pub(crate) fn store_file(fd: i32, t: &[u8], name: &[u8], path: &[u8]) {
     let written = write_lines(fd, t) && libc::fsync(fd) == 0;
     let closed = libc::close(fd) == 0;
-    if written && closed && os::rename(name, path) == 0 {
-        return;
+    if !written || !closed || os::rename(name, path) != 0 {
+        say::not_stored(path);
+        os::unlink(name);
     }
-    say::not_stored(path);
-    os::unlink(name);
 }

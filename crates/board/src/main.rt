@@ -56,10 +56,10 @@ fn serve_and_store(fd: i32, requests: &[u8], path: &[u8], name: &[u8], t: &mut [
     }
     if serve::serve_file(fd, requests, t) {
         keep::store_file(out, t, name, path);
-        return;
+    } else {
+        libc::close(out);
+        os::unlink(name);
     }
-    libc::close(out);
-    os::unlink(name);
 }
 
 // Serves the file that the second argument names. The third one, where there is one, names a stored table.
@@ -68,22 +68,20 @@ fn serve_named(count: usize) {
     let mut path = io::buffer();
     let n = os::arg(2, &mut requests);
     let m = os::arg(3, &mut path);
-    if n == 0 || count == 4 && m == 0 {
+    if n > 0 && (m > 0 || count < 4) {
+        serve_from(&requests[..n], &path[..m]);
+    } else {
         say::wrong();
-        return;
     }
-    serve_from(&requests[..n], &path[..m]);
 }
 
 fn main() {
     let count = os::arg_count();
     if count < 2 || is_first(b"help") {
         say::usage();
-        return;
-    }
-    if count > 4 || !is_first(b"serve") {
+    } else if count < 5 && is_first(b"serve") {
+        serve_named(count);
+    } else {
         say::wrong();
-        return;
     }
-    serve_named(count);
 }

@@ -19,7 +19,7 @@ fn turn(fd: i32, input: &mut [u8], t: &mut [u8], out: &mut [u8], w: Window) -> W
     window::go_on(fd, input, w, r.taken, r.passing)
 }
 
-// Serves a file to its end, and answers whether that went well. A proved loop has to end, and nothing says that a file does: so the turns are counted down,
+// Serves a file, and answers whether it came to its end. A proved loop has to end, and nothing says that a file does: so the turns are counted down,
 // from a number that no run uses up.
 pub(crate) fn serve_file(fd: i32, name: &[u8], t: &mut [u8]) -> bool {
     let mut input = io::large_buffer();
@@ -33,5 +33,5 @@ pub(crate) fn serve_file(fd: i32, name: &[u8], t: &mut [u8]) -> bool {
     if w.failed {
         say::unread(name);
     }
-    w.good
+    w.ended
 }

@@ -8,8 +8,8 @@ ghost use Rattle.table.specs.Bytes as table;
 ghost use Rattle.table.specs.Write.{put};
 ghost use Rattle.board.specs.Window.{bytesIn, Lies, Turns};
 
-// ended: nothing comes behind the bytes; failed: reading failed; carried: what a piece of the file hands to the next one, as the library says;
-// on: there is a next turn; good: all went well.
+// ended: the file's end is reached; failed: reading failed; carried: what a piece of the file hands to the next one, as the library says;
+// on: there is a next turn.
 pub(crate) struct Window {
     pub from: usize,
     pub held: usize,
@@ -17,7 +17,6 @@ pub(crate) struct Window {
     pub failed: bool,
     pub carried: bool,
     pub on: bool,
-    pub good: bool,
 }
 
 // An empty window on a file that is not yet read.
@@ -31,22 +30,20 @@ pub(crate) fn start() -> Window
         failed: false,
         carried: false,
         on: true,
-        good: true,
     }
 }
 
-// The window after the last turn.
-pub(crate) fn stopped(w: Window, carried: bool, good: bool) -> Window
+// The window after the last turn. ended: the turns came to the file's end.
+pub(crate) fn stopped(w: Window, carried: bool, ended: bool) -> Window
     ensures { λ r. ⌜ (r .carried ≡ carried) × (r .on ≡ false) ⌝ }
 {
     Window {
         from: w.from,
         held: w.held,
-        ended: w.ended,
+        ended: ended,
         failed: false,
         carried: carried,
         on: false,
-        good: good,
     }
 }
 
@@ -115,7 +112,6 @@ fn fill(fd: i32, buf: &mut [u8], w: Window, carried: bool) -> Window
         failed: got < 0,
         carried: carried,
         on: got >= 0,
-        good: got >= 0,
     }
 }
 
@@ -137,6 +133,5 @@ pub(crate) fn go_on(fd: i32, buf: &mut [u8], w: Window, taken: usize, carried: b
         failed: false,
         carried: carried,
         on: true,
-        good: true,
     }
 }

@@ -1,17 +1,19 @@
 -- Going on in a file: behind bytes that were taken, and by reading on. Assumes nothing.
 use mathlib.Core.Path.{_≡_, refl, sym, ap, _∙_}
+use mathlib.Core.Bool.{Bool, true, false, cond}
 use mathlib.Core.Logic.{_⊎_, inl, inr, ⊎-elim}
 use mathlib.Core.List.{List, [], _++_, append-nil}
 use Prim.Native.Nat.{ℕ, _+_, _-_, _≤_, _<_}
 use native.Mathlib.Omega.{arith}
 use lib.ListN.{length, drop, getD, length-append, length-drop, List·getD-append}
 use lib.Seq.{getD-drop, getD-append-add, ext-getD}
+use Rattle.wire.proofs.Laws.{never}
 use Rattle.table.specs.Bytes.{part}
 use Rattle.table.specs.Write.{put}
 use Rattle.table.proofs.Lists.{lt-or-ge}
 use Rattle.table.proofs.Parts.{length-part, getD-part, length-put, put-before, put-in, part-put}
 use Rattle.board.specs.declared.window.Window.{Window}
-use Rattle.board.specs.Window.{bytesIn, Lies, GoesOn}
+use Rattle.board.specs.Window.{bytesIn, Lies, GoesOn, Turns}
 
 at0 : (xs : List ℕ) (n k : ℕ) → k < n → getD (part xs 0 n) k 0 ≡ getD xs k 0
 at0 xs n k h = let z : 0 + k ≡ k = omega arith in getD-part xs 0 n k h ∙ ap (λ (j : ℕ). getD xs j 0) z
@@ -67,3 +69,7 @@ behind buf w r taken m i few all f l =
       lies = record { order = o; inside = omega (arith, i .inside) };
       long = refl;
     }
+
+-- the last turn
+pub stops : {old new : List ℕ} {w r : Window} {taken : ℕ} {carried : Bool} → (r .carried ≡ carried) × (r .on ≡ false) → Turns old w taken carried new r
+stops e = record { carries = e .0; goes = λ o. never (ap (λ (b : Bool). cond b 1 0) (sym (e .1) ∙ o)) }

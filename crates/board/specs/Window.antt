@@ -1,5 +1,6 @@
 -- A window on a buffer through which a file is read.
 use mathlib.Core.Path.{_≡_}
+use mathlib.Core.Bool.{Bool, true}
 use mathlib.Core.List.{List, _++_}
 use Prim.Native.Nat.{ℕ, _-_, _≤_}
 use lib.ListN.{length, drop}
@@ -21,3 +22,8 @@ pub record GoesOn (old : List ℕ) (w : Window) (taken : ℕ) (new : List ℕ) (
   pub bytes : bytesIn new r ≡ drop taken (bytesIn old w) ++ read
   pub lies : Lies new r
   pub long : length new ≡ length old
+
+-- the end of a turn: what is carried, and a next turn goes on behind the bytes taken
+pub record Turns (old : List ℕ) (w : Window) (taken : ℕ) (carried : Bool) (new : List ℕ) (r : Window) : Type 0 where
+  pub carries : r .carried ≡ carried
+  pub goes : r .on ≡ true → GoesOn old w taken new r

@@ -1,85 +1,64 @@
 // The table's file: loading it, and storing the table in its place.
-use crate::memory;
 use crate::say;
 use crate::window;
 use crate::window::Window;
-use crate::window::part;
 use field::put;
+use libc::STDERR_FILENO;
 ghost use lib.ListN.{length};
 ghost use mathlib.Core.Path.{_≡_};
 ghost use Rattle.board.specs.Window.{Lies};
 ghost use Rattle.board.specs.Turn.{Loads};
 
-// How loading goes: the window on the file, whether the first line is loaded, whether to go on, and whether all lines were good.
-struct Course {
-    window: Window,
-    begun: bool,
-    on: bool,
-    good: bool,
+// Loads the lines in the window, and goes on in the file. What is carried: whether the first line is loaded.
+fn turn(fd: i32, input: &mut [u8], t: &mut [u8], w: Window) -> Window
+    requires { ⌜ Lies (now input) w ⌝ }
+    ensures { λ r. ⌜ Loads w (now (input .entry)) (now (t .entry)) r (now (input .exit)) (now (t .exit)) ⌝ }
+{
+    let p = stored::load_lines(window::bytes(input, w), t, w.carried);
+    if !p.good {
+        return window::stopped(w, p.begun, false);
+    }
+    window::go_on(fd, input, w, p.taken, p.begun)
 }
 
-fn course_of(window: Window, begun: bool, on: bool, good: bool) -> Course
-    ensures { λ r. ⌜ r ≡ record { window = window; begun = begun; on = on; good = good } ⌝ }
-{
-    Course {
-        window: window,
-        begun: begun,
-        on: on,
-        good: good,
-    }
-}
-
-// Loads the lines in the window, and goes on in the file. At its end the first line has to be there, and nothing to be left.
-fn turn(fd: i32, name: &[u8], input: &mut [u8], t: &mut [u8], c: Course) -> Course
-    requires { ⌜ Lies (now input) (c .window) ⌝ }
-    ensures { λ r. ⌜ Loads c (now (input .entry)) (now (t .entry)) r (now (input .exit)) (now (t .exit)) ⌝ }
-{
-    let w = c.window;
-    let p = stored::load_lines(window::bytes(input, w), t, c.begun);
-    if p.taken == 0 && w.ended && p.begun && w.from == w.held {
-        return course_of(w, p.begun, false, true);
-    }
-    if !p.good || p.taken == 0 && w.ended {
-        say::broken(name);
-        return course_of(w, p.begun, false, false);
-    }
-    let next = window::go_on(fd, input, w, p.taken);
-    if next.failed {
+// Whether the whole file was good: its lines are, the first is there, and nothing is left behind the last. Else it says what is wrong.
+fn is_whole(w: Window, name: &[u8]) -> bool {
+    if w.failed {
         say::no_table(name);
-        return course_of(next, p.begun, false, false);
+        return false;
     }
-    course_of(next, p.begun, true, true)
+    if w.ended && w.carried && w.from == w.held {
+        return true;
+    }
+    say::broken(name);
+    false
 }
 
 // Builds the table of a file, and answers whether the file stores one. The turns are counted down as in serving.
 fn build(fd: i32, name: &[u8], t: &mut [u8]) -> bool {
     let mut input = io::large_buffer();
-    let mut c = course_of(window::start(), false, true, true);
+    let mut w = window::start();
     let mut turns = u64::MAX;
-    while turns > 0 && c.on {
-        c = turn(fd, name, &mut input, t, c);
+    while turns > 0 && w.on {
+        w = turn(fd, &mut input, t, w);
         turns -= 1;
     }
-    c.good
+    is_whole(w, name)
 }
 
 // Loads the table of a file, a fresh one only where the system says that there is no such file. It answers whether there is a table to serve from.
 pub(crate) fn load_file(path: &[u8], t: &mut [u8]) -> bool {
     let fd = os::open_read(path);
-    if fd < 0 {
-        if os::errno() == libc::ENOENT {
-            return table::make(t);
-        }
-        say::no_table(path);
-        return false;
+    if fd >= 0 {
+        let good = build(fd, path, t);
+        libc::close(fd);
+        return good;
     }
-    let mut spare = memory();
-    let good = build(fd, path, &mut spare);
-    libc::close(fd);
-    if good {
-        put::put_raw(t, 0, &spare);
+    if os::errno() == libc::ENOENT {
+        return table::make(t);
     }
-    good
+    say::no_table(path);
+    false
 }
 
 // Room for the name of a file beside another: longer than any name that the system takes.
@@ -98,30 +77,49 @@ pub(crate) fn beside(path: &[u8], name: &mut [u8]) -> usize {
     hex::encode(&seed, name, b)
 }
 
-// Writes the lines of the table, gathered in a buffer.
+// Makes the file that is to take a table's place, and answers its descriptor. Where it can't be made, it says so and answers a negative number.
+pub(crate) fn make_file(name: &[u8]) -> i32 {
+    let fd = os::create(name);
+    if fd < 0 {
+        say::no_room(name);
+        return -1;
+    }
+    if fd <= STDERR_FILENO {
+        say::closed();
+        libc::close(fd);
+        os::unlink(name);
+        return -1;
+    }
+    fd
+}
+
+// Writes the lines of the table, gathered in a buffer. Half of it has room for any line.
 fn write_lines(fd: i32, t: &[u8]) -> bool {
     let mut out = io::large_buffer();
     let n = table::count(t);
-    let mut at = stored::store_line(t, 0, &mut out, 0);
+    let mut at = 0;
     let mut i = 0;
-    while i < n {
+    loop {
+        at = stored::store_line(t, i, &mut out, at);
+        if i == n {
+            return window::write(fd, &out, at);
+        }
         i += 1;
-        let next = stored::store_line(t, i, &mut out, at);
-        if next == at {
-            if !io::write_all(fd, part(&out, 0, at)) {
+        if at > 32768 {
+            if !window::write(fd, &out, at) {
                 return false;
             }
-            at = stored::store_line(t, i, &mut out, 0);
-        } else {
-            at = next;
+            at = 0;
         }
     }
-    io::write_all(fd, part(&out, 0, at))
 }
 
-// Writes the table to the file made for it, which takes the table's name when all has reached the disk.
-pub(crate) fn store_file(fd: i32, t: &[u8], name: &[u8], path: &[u8]) -> bool {
+// Writes the table to the file made for it, which takes the table's name when all has reached the disk. Where that fails, it says so and the file goes.
+pub(crate) fn store_file(fd: i32, t: &[u8], name: &[u8], path: &[u8]) {
     let written = write_lines(fd, t) && libc::fsync(fd) == 0;
     let closed = libc::close(fd) == 0;
-    written && closed && os::rename(name, path) == 0
+    if !written || !closed || os::rename(name, path) != 0 {
+        say::not_stored(path);
+        os::unlink(name);
+    }
 }

@@ -4,7 +4,6 @@ mod say;
 mod serve;
 mod window;
 
-use libc::STDERR_FILENO;
 use window::part;
 ghost use lib.ListN.{length};
 ghost use mathlib.Core.Path.{_≡_};
@@ -16,91 +15,73 @@ fn memory() -> [u8; 45072]
     [0; 45072]
 }
 
-// Whether an argument is a word.
-fn is_word(given: &[u8], word: &[u8]) -> bool {
-    table::same_key(given, word).equal
+// Whether the first argument is a word.
+fn is_first(word: &[u8]) -> bool {
+    let mut first = io::buffer();
+    let n = os::arg(1, &mut first);
+    table::same_key(&first[..n], word).equal
 }
 
-// Serves from a fresh table.
-fn serve_fresh(requests: &[u8]) {
+// Serves a file of requests, from a fresh table where no stored one is named.
+fn serve_from(requests: &[u8], path: &[u8]) {
     let fd = os::open_read(requests);
     if fd < 0 {
         say::no_requests(requests);
         return;
     }
     let mut t = memory();
-    table::make(&mut t);
-    serve::serve_file(fd, requests, &mut t);
+    if path.len() > 0 {
+        serve_stored(fd, requests, path, &mut t);
+    } else {
+        table::make(&mut t);
+        serve::serve_file(fd, requests, &mut t);
+    }
     libc::close(fd);
 }
 
 // Serves from a stored table, and stores the table that is left. The file that is to take its place is made first: where it can't be made, nothing is
 // served.
-fn serve_stored(requests: &[u8], path: &[u8]) {
-    let fd = os::open_read(requests);
-    if fd < 0 {
-        say::no_requests(requests);
-        return;
-    }
-    let mut t = memory();
-    if keep::load_file(path, &mut t) {
+fn serve_stored(fd: i32, requests: &[u8], path: &[u8], t: &mut [u8]) {
+    if keep::load_file(path, t) {
         let mut name = keep::room();
         let n = keep::beside(path, &mut name);
-        serve_and_store(fd, requests, path, part(&name, 0, n), &mut t);
+        serve_and_store(fd, requests, path, part(&name, 0, n), t);
     }
-    libc::close(fd);
 }
 
 fn serve_and_store(fd: i32, requests: &[u8], path: &[u8], name: &[u8], t: &mut [u8]) {
-    let out = os::create(name);
+    let out = keep::make_file(name);
     if out < 0 {
-        say::no_room(name);
-        return;
-    }
-    if out <= STDERR_FILENO {
-        say::closed();
-        libc::close(out);
-        os::unlink(name);
         return;
     }
     if serve::serve_file(fd, requests, t) {
-        if keep::store_file(out, t, name, path) {
-            return;
-        }
-        say::not_stored(path);
+        keep::store_file(out, t, name, path);
     } else {
         libc::close(out);
+        os::unlink(name);
     }
-    os::unlink(name);
+}
+
+// Serves the file that the second argument names. The third one, where there is one, names a stored table.
+fn serve_named(count: usize) {
+    let mut requests = io::buffer();
+    let mut path = io::buffer();
+    let n = os::arg(2, &mut requests);
+    let m = os::arg(3, &mut path);
+    if n > 0 && (m > 0 || count < 4) {
+        serve_from(&requests[..n], &path[..m]);
+    } else {
+        say::wrong();
+    }
 }
 
 fn main() {
-    let mut word = io::buffer();
-    let mut first = io::buffer();
-    let mut second = io::buffer();
     let count = os::arg_count();
-    if count < 2 {
+    if count < 2 || is_first(b"help") {
         say::usage();
-        return;
-    }
-    let w = os::arg(1, &mut word);
-    if is_word(&word[..w], b"help") {
-        say::usage();
-        return;
-    }
-    if !is_word(&word[..w], b"serve") {
+    } else if count < 5 && is_first(b"serve") {
+        serve_named(count);
+    } else {
         say::wrong();
-        return;
     }
-    let n = os::arg(2, &mut first);
-    if count == 3 && n > 0 {
-        serve_fresh(&first[..n]);
-        return;
-    }
-    let m = os::arg(3, &mut second);
-    if count == 4 && n > 0 && m > 0 {
-        serve_stored(&first[..n], &second[..m]);
-        return;
-    }
-    say::wrong();
 }

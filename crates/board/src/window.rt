@@ -1,17 +1,22 @@
-// A buffer through which a file is read: the bytes from `from` up to `held` are read and not yet taken.
+// A file that is read through a buffer: the bytes from `from` up to `held` are read and not yet taken.
 use field::Span;
 ghost use mathlib.Core.Path.{_≡_};
+ghost use mathlib.Core.Bool.{true, false};
 ghost use Prim.Native.Nat.{_-_, _≤_, _<_};
 ghost use lib.ListN.{length};
 ghost use Rattle.table.specs.Bytes as table;
 ghost use Rattle.table.specs.Write.{put};
-ghost use Rattle.board.specs.Window.{bytesIn, Lies, GoesOn};
+ghost use Rattle.board.specs.Window.{bytesIn, Lies, Turns};
 
+// ended: the file's end is reached; failed: reading failed; carried: what a piece of the file hands to the next one, as the library says;
+// on: there is a next turn.
 pub(crate) struct Window {
     pub from: usize,
     pub held: usize,
     pub ended: bool,
     pub failed: bool,
+    pub carried: bool,
+    pub on: bool,
 }
 
 // An empty window on a file that is not yet read.
@@ -23,30 +28,49 @@ pub(crate) fn start() -> Window
         held: 0,
         ended: false,
         failed: false,
+        carried: false,
+        on: true,
     }
 }
 
-// The bytes from `from` up to, not including, `to`, as far as they are there.
-pub(crate) fn part(s: &[u8], from: usize, to: usize) -> &[u8]
-    ensures { λ r. ⌜ now r ≡ table.part (now (s .entry)) from (to - from) ⌝ }
+// The window after the last turn. ended: the turns came to the file's end.
+pub(crate) fn stopped(w: Window, carried: bool, ended: bool) -> Window
+    ensures { λ r. ⌜ (r .carried ≡ carried) × (r .on ≡ false) ⌝ }
 {
-    if to < from {
-        return &s[0..0];
+    Window {
+        from: w.from,
+        held: w.held,
+        ended: ended,
+        failed: false,
+        carried: carried,
+        on: false,
     }
+}
+
+// len bytes from start on, as far as they are there.
+pub(crate) fn part(s: &[u8], start: usize, len: usize) -> &[u8]
+    ensures { λ r. ⌜ now r ≡ table.part (now (s .entry)) start len ⌝ }
+{
     field::part(
         s,
         Span {
-            start: from,
-            len: to - from,
+            start: start,
+            len: len,
         },
     )
 }
 
 // The bytes in a window.
 pub(crate) fn bytes(buf: &[u8], w: Window) -> &[u8]
+    requires { ⌜ Lies (now buf) w ⌝ }
     ensures { λ r. ⌜ now r ≡ bytesIn (now (buf .entry)) w ⌝ }
 {
-    part(buf, w.from, w.held)
+    part(buf, w.from, w.held - w.from)
+}
+
+// Writes the first n bytes of a buffer.
+pub(crate) fn write(fd: i32, buf: &[u8], n: usize) -> bool {
+    io::write_all(fd, part(buf, 0, n))
 }
 
 // The lesser of two numbers.
@@ -74,9 +98,9 @@ fn move_down(buf: &mut [u8], from: usize, held: usize) -> usize
 }
 
 // Moves what is left to the front, and reads on behind it.
-fn fill(fd: i32, buf: &mut [u8], w: Window) -> Window
+fn fill(fd: i32, buf: &mut [u8], w: Window, carried: bool) -> Window
     requires { ⌜ Lies (now buf) w ⌝ }
-    ensures { λ r. ⌜ GoesOn (now (buf .entry)) w 0 (now (buf .exit)) r ⌝ }
+    ensures { λ r. ⌜ Turns (now (buf .entry)) w 0 carried (now (buf .exit)) r ⌝ }
 {
     let n = move_down(buf, w.from, w.held);
     let got = libc::read(fd, &mut buf[n..]);
@@ -86,21 +110,28 @@ fn fill(fd: i32, buf: &mut [u8], w: Window) -> Window
         held: n + more,
         ended: got == 0,
         failed: got < 0,
+        carried: carried,
+        on: got >= 0,
     }
 }
 
-// The window behind the bytes taken. Where none was taken, more is read.
-pub(crate) fn go_on(fd: i32, buf: &mut [u8], w: Window, taken: usize) -> Window
+// The window behind the bytes taken. Where none was taken, more is read; at the file's end there is no next turn.
+pub(crate) fn go_on(fd: i32, buf: &mut [u8], w: Window, taken: usize, carried: bool) -> Window
     requires { ⌜ Lies (now buf) w ⌝ }
-    ensures { λ r. ⌜ GoesOn (now (buf .entry)) w taken (now (buf .exit)) r ⌝ }
+    ensures { λ r. ⌜ Turns (now (buf .entry)) w taken carried (now (buf .exit)) r ⌝ }
 {
     if taken == 0 {
-        return fill(fd, buf, w);
+        if w.ended {
+            return stopped(w, carried, true);
+        }
+        return fill(fd, buf, w, carried);
     }
     Window {
         from: w.from + least(taken, w.held - w.from),
         held: w.held,
         ended: w.ended,
         failed: false,
+        carried: carried,
+        on: true,
     }
 }

@@ -1,6 +1,6 @@
 -- `board::keep::write_lines` is safe and ends: the lines are counted up to the last. Assumes nothing.
 use mathlib.Core.Path.{_≡_, refl}
-use Prim.Native.Nat.{_-_}
+use Prim.Native.Nat.{_-_, _≤_}
 use lib.ListN.{length}
 use native.Mathlib.Omega.{arith}
 use borrow.Author.Needs.{needs}
@@ -8,7 +8,7 @@ use Rattle.board.proofs.keep.write_lines.Statement.{statement}
 use Rattle.board.proofs.keep.write_lines.Tie as tie
 
 abbrev Inv-loop : tie.InvT-loop
-Inv-loop fd t out₀ n at₀ i₀ out at i = length out ≡ 65536
+Inv-loop fd t out₀ n at₀ i₀ out at i = (length out ≡ 65536) × (i ≤ n)
 
 abbrev μ-loop : tie.MeasureT-loop
 μ-loop fd t out₀ n at₀ i₀ out at i = n - i
@@ -22,22 +22,16 @@ write-lines-spec =
     (λ c κs. search needs)
     (λ c κs. search needs)
     (λ c. search needs)
-    (λ c κs. search needs)
-    (λ c. search needs)
-    (λ c. search needs)
     (λ c. search needs)
     (λ c κs. search needs)
     (λ c. search needs)
     (λ c κs. search needs)
-    (λ c κs. search needs)
-    (λ c. search needs)
-    (λ c. search needs)
-    (λ c κs. search needs)
-    (λ c. search needs)
-    (λ c. search needs)
     (λ c. search needs)
     (λ c. search needs)
     (λ c. search needs)
     (λ c κs. search needs)
-    (λ c κs. search needs)
+    (λ c. search needs)
+    (λ c. search needs)
+    (λ c. search needs)
+    (λ c. search needs)
     (λ c. search needs))

@@ -23,8 +23,11 @@ returns c =
     let g : n ≤ length buf = omega (arith, s .pre .inside, s .pre .order) in
     let new : List ℕ = take n buf ++ (r .read .last .1 .0 ++ drop k (drop n buf)) in
     let length-new : length new ≡ length buf = ap length (lent-put buf n k (r .read .last .1 .0) l) ∙ length-put buf n (r .read .last .1 .0) (omega arith) in
-    filled (s .args .buf .now) buf (r .read .last .1 .0) _ (s .args .w) _ n (c .count .result) (s .pre) (d .move-down .ensures .0) (d .move-down .ensures .1) l
-    (lent-put buf n k (r .read .last .1 .0) l) (omega (arith, c .count .ensures .0 .0, length-take (length new - n) (drop n new), length-drop n new, length-new)) refl refl
+    record {
+      carries = refl;
+      goes = λ o. filled (s .args .buf .now) buf (r .read .last .1 .0) _ (s .args .w) _ n (c .count .result) (s .pre) (d .move-down .ensures .0) (d .move-down .ensures .1) l
+          (lent-put buf n k (r .read .last .1 .0) l) (omega (arith, c .count .ensures .0 .0, length-take (length new - n) (drop n new), length-drop n new, length-new)) refl refl;
+    }
 
 pub fill-spec : {M : Type 1} → statement M
 fill-spec =

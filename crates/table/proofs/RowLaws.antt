@@ -7,7 +7,7 @@ use lib.ListN.{length, getD}
 use borrow.Author.Tests.{eq-eqb}
 use Rattle.map.specs.State.{Entry, State}
 use Rattle.map.specs.Step.{mostKeys}
-use Rattle.table.specs.Bytes.{be8}
+use Rattle.table.specs.Bytes.{be4, be8}
 use Rattle.table.specs.Memory.{size, rowAt, entry, entryOf, countOf, entriesOf, stateOf}
 use Rattle.table.specs.Found.{entryAt}
 use Rattle.table.specs.Write.{put, digits}
@@ -21,6 +21,14 @@ be8-same t u a b h =
     let e : a + 0 ≡ a = omega arith in
     let f : b + 0 ≡ b = omega arith in
     cc (h 0 (omega arith), h 1 (omega arith), h 2 (omega arith), h 3 (omega arith), h 4 (omega arith), h 5 (omega arith), h 6 (omega arith), h 7 (omega arith))
+
+pub halves : (t : List ℕ) (a : ℕ) → be4 t a * 4294967296 + be4 t (a + 4) ≡ be8 t a
+unfolding be8
+halves t a =
+    let e₁ : a + 4 + 1 ≡ a + 5 = omega arith in
+    let e₂ : a + 4 + 2 ≡ a + 6 = omega arith in
+    let e₃ : a + 4 + 3 ≡ a + 7 = omega arith in
+    rw (e₁, e₂, e₃) (omega arith)
 
 spelt : (x : ℕ) → x < 2 ^ 64 → be8 (digits x) 0 ≡ x
 unfolding be8 digits

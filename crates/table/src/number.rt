@@ -2,7 +2,7 @@
 ghost use mathlib.Core.Path.{_≡_};
 ghost use Prim.Native.Nat.{_+_, _≤_, _<_, min};
 ghost use lib.ListN.{length};
-ghost use Rattle.table.specs.Bytes.{be8};
+ghost use Rattle.table.specs.Bytes.{be4, be8};
 ghost use Rattle.table.specs.Write.{put, digits};
 
 fn wide(x: u8) -> u64
@@ -11,20 +11,24 @@ fn wide(x: u8) -> u64
     x as u64
 }
 
-// The number at index a.
-pub(crate) fn get64(t: &[u8], a: usize) -> u64
-    requires { ⌜ a + 8 ≤ length (now t) ⌝ }
-    ensures { λ r. ⌜ r ≡ be8 (now (t .entry)) a ⌝ }
+// Half of a number.
+fn get32(t: &[u8], a: usize) -> u64
+    requires { ⌜ a + 4 ≤ length (now t) ⌝ }
+    ensures { λ r. ⌜ (r ≡ be4 (now (t .entry)) a) × (r < 4294967296) ⌝ }
 {
     let b0 = wide(t[a]);
     let b1 = wide(t[a + 1]);
     let b2 = wide(t[a + 2]);
     let b3 = wide(t[a + 3]);
-    let b4 = wide(t[a + 4]);
-    let b5 = wide(t[a + 5]);
-    let b6 = wide(t[a + 6]);
-    let b7 = wide(t[a + 7]);
-    ((((((b0 * 256 + b1) * 256 + b2) * 256 + b3) * 256 + b4) * 256 + b5) * 256 + b6) * 256 + b7
+    ((b0 * 256 + b1) * 256 + b2) * 256 + b3
+}
+
+// The number at index a.
+pub(crate) fn get64(t: &[u8], a: usize) -> u64
+    requires { ⌜ a + 8 ≤ length (now t) ⌝ }
+    ensures { λ r. ⌜ r ≡ be8 (now (t .entry)) a ⌝ }
+{
+    get32(t, a) * 4294967296 + get32(t, a + 4)
 }
 
 // Writes x at index a.

@@ -17,7 +17,7 @@ use Rattle.table.specs.Found.{entryAt, FoundIs}
 use Rattle.table.specs.Check.{FoundFrom}
 use Rattle.table.specs.declared.Found.{Found}
 use Rattle.table.specs.declared.Found.the-variants.{At, Absent}
-use Rattle.table.specs.Change.{Changed, Left, isSome, made, added, removed, cleared}
+use Rattle.table.specs.Change.{Changed, Left, isSome, added, removed, cleared}
 use Rattle.table.specs.Write.{grown, shrunk}
 use Rattle.table.proofs.RowLaws.{length-entries, entry-is}
 
@@ -53,14 +53,6 @@ left old st true e = never (cc)
 left old st false e = (refl, refl)
 
 module _ (t : List ℕ) where
-  pub made-yes : (u : List ℕ) → length t ≡ size → Changed t u fresh → Answers t (made t) true u
-  unfolding made
-  made-yes u h x = taken t u fresh _ (eq-eqb (length t) size h) x
-
-  pub made-no : (length t ≡ size → ⊥) → Answers t (made t) false t
-  unfolding made
-  made-no h = left t fresh _ (ne-eqb (length t) size h)
-
   pub cleared-yes : (u : List ℕ) → length t ≡ size → Changed t u (withEntries [] (stateOf t)) → Answers t (cleared t) true u
   unfolding cleared
   cleared-yes u h x = taken t u _ _ (eq-eqb (length t) size h) x

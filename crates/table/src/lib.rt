@@ -89,12 +89,7 @@ pub fn same_key(a: &[u8], b: &[u8]) -> Compared
 pub fn make(t: &mut [u8]) -> bool
     ensures { λ r. ⌜ (r ≡ isSome (made (now (t .entry)))) × Left (now (t .entry)) (made (now (t .entry))) (now (t .exit)) ⌝ }
 {
-    if t.len() != Table::SIZE {
-        return false;
-    }
-    number::put64(t, Table::COUNT, 0);
-    number::put64(t, Table::LAST, 0);
-    true
+    start(t, EntryVersion(0))
 }
 
 // Makes the memory a table with no entries, of a last version within its limit.
@@ -107,7 +102,7 @@ pub fn start(t: &mut [u8], last: EntryVersion) -> bool
     if last.0 > Table::LAST_VERSION {
         return false;
     }
-    number::put64(t, Table::COUNT, 0);
+    rows::clear(t);
     number::put64(t, Table::LAST, last.0);
     true
 }

@@ -12,9 +12,9 @@ ghost use Rattle.map.specs.State.{withEntries};
 ghost use Rattle.map.specs.Step.{lastVersion};
 ghost use Rattle.table.specs.Bytes.{be8, part};
 ghost use Rattle.table.specs.Memory.{size, rowAt, entryOf, countOf, stateOf};
-ghost use Rattle.table.specs.Write.{put, Written, grown, extended, shrunk};
+ghost use Rattle.table.specs.Write.{put, Written, Above, grown, extended, shrunk};
 ghost use Rattle.table.specs.Check.{FoundFrom};
-ghost use Rattle.table.specs.Change.{Changed, newest};
+ghost use Rattle.table.specs.Change.{Changed};
 
 // How many rows are held.
 pub(crate) fn count(t: &[u8]) -> usize
@@ -110,32 +110,28 @@ fn write(row: &mut [u8], k: &[u8], v: &[u8], version: u64, deadline: u64)
     copy_at(row, Row::VALUE_START, v);
 }
 
+// Adds a row behind the last, of a version above those held. The last version issued stays.
+pub(crate) fn restore(t: &mut [u8], k: &[u8], v: &[u8], version: u64, deadline: u64)
+    requires { ⌜ (length (now t) ≡ size) × (countOf (now t) < 128) × Above (now t) version ⌝ }
+    requires { ⌜ (length (now k) ≤ 64) × (length (now v) ≤ 256) ⌝ }
+    ensures { λ _. ⌜ Changed (now (t .entry)) (now (t .exit)) (extended (now (k .entry)) (now (v .entry)) version deadline (stateOf (now (t .entry)))) ⌝ }
+{
+    let held = count(t);
+    let a = row_at(held);
+    let e = a + Row::WIDTH;
+    write(&mut t[a..e], k, v, version, deadline);
+    number::put64(t, Table::COUNT, (held + 1) as u64);
+}
+
 // Adds a row behind the last, of the next version.
 pub(crate) fn append(t: &mut [u8], k: &[u8], v: &[u8], deadline: u64)
     requires { ⌜ (length (now t) ≡ size) × (countOf (now t) < 128) × (be8 (now t) 8 < lastVersion) ⌝ }
     requires { ⌜ (length (now k) ≤ 64) × (length (now v) ≤ 256) ⌝ }
     ensures { λ _. ⌜ Changed (now (t .entry)) (now (t .exit)) (grown (now (k .entry)) (now (v .entry)) deadline (stateOf (now (t .entry)))) ⌝ }
 {
-    let held = count(t);
     let version = number::get64(t, Table::LAST) + 1;
-    let a = row_at(held);
-    let e = a + Row::WIDTH;
-    write(&mut t[a..e], k, v, version, deadline);
-    number::put64(t, Table::COUNT, (held + 1) as u64);
+    restore(t, k, v, version, deadline);
     number::put64(t, Table::LAST, version);
-}
-
-// Adds a row behind the last, of a version above those held. The last version issued stays.
-pub(crate) fn restore(t: &mut [u8], k: &[u8], v: &[u8], version: u64, deadline: u64)
-    requires { ⌜ (length (now t) ≡ size) × (countOf (now t) < 128) × (newest (stateOf (now t) .entries) < version) ⌝ }
-    requires { ⌜ (length (now k) ≤ 64) × (length (now v) ≤ 256) ⌝ }
-    ensures { λ _. ⌜ Changed (now (t .entry)) (now (t .exit)) (extended (now (k .entry)) (now (v .entry)) version deadline (stateOf (now (t .entry)))) ⌝ }
-{
-    let n = count(t);
-    let a = row_at(n);
-    let e = a + Row::WIDTH;
-    write(&mut t[a..e], k, v, version, deadline);
-    number::put64(t, Table::COUNT, (n + 1) as u64);
 }
 
 // Removes row i: the rows behind it move down.

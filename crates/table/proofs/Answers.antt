@@ -3,7 +3,8 @@ use mathlib.Core.Path.{_≡_, refl, sym, ap, _∙_}
 use mathlib.Core.List.{List, []}
 use mathlib.Core.Bool.{Bool, true, false, cond, _&&_}
 use mathlib.Core.Option.{Option, none, some}
-use Prim.Native.Nat.{ℕ, _≤_, _<_}
+use mathlib.Core.Logic.{⊎-elim}
+use Prim.Native.Nat.{ℕ, _+_, _≤_, _<_}
 use native.Mathlib.Omega.{arith}
 use lib.ListN.{length, List·getD-eq-default}
 use lib.Dec.{eqb, leb, ltb}
@@ -12,13 +13,15 @@ use Rattle.wire.proofs.Laws.{never, and, and-false}
 use Rattle.message.specs.Request.{keyLimit, valueLimit}
 use Rattle.map.specs.State.{Entry, State, withEntries, fresh}
 use Rattle.map.specs.Step.{mostKeys, lastVersion}
-use Rattle.table.specs.Memory.{size, entry, countOf, stateOf}
-use Rattle.table.specs.Found.{entryAt, FoundIs}
+use Rattle.table.specs.Bytes.{be8}
+use Rattle.table.specs.Memory.{size, rowAt, entry, entryOf, countOf, stateOf}
+use Rattle.table.specs.Found.{entryAt, FoundIs, NumberAt}
 use Rattle.table.specs.Check.{FoundFrom}
 use Rattle.table.specs.declared.Found.{Found}
 use Rattle.table.specs.declared.Found.the-variants.{At, Absent}
 use Rattle.table.specs.Change.{Changed, Left, isSome, added, removed, cleared}
 use Rattle.table.specs.Write.{grown, shrunk}
+use Rattle.table.proofs.Lists.{lt-or-ge}
 use Rattle.table.proofs.RowLaws.{length-entries, entry-is}
 
 pub other-length : (t : List ℕ) → (length t ≡ size → ⊥) → stateOf t ≡ fresh
@@ -39,6 +42,23 @@ held-row t i l = go (eqb (length t) size) refl
 pub no-row : (t : List ℕ) (i : ℕ) → length (stateOf t .entries) ≤ i → entryAt t i ≡ entry [] [] 0 0
 unfolding entryAt
 no-row t i l = List·getD-eq-default (stateOf t .entries) (entry [] [] 0 0) {n = i} l
+
+-- a number of a row, by where it stands
+pub field-is : (f : Entry → ℕ) (t : List ℕ) (i o r : ℕ) → ((a : ℕ) → f (entryOf t a) ≡ be8 t (a + o)) → f (entry [] [] 0 0) ≡ 0 → NumberAt t i o r
+    → r ≡ f (entryAt t i)
+field-is f t i o r h z n =
+    ⊎-elim
+    (λ l. let g = held-row t i l in n .held l ∙ sym (ap f (entry-is t (g .0) i (g .1)) ∙ h (rowAt i)))
+    (λ l. n .none l ∙ sym (ap f (no-row t i l) ∙ z))
+    (lt-or-ge i (length (stateOf t .entries)))
+
+pub version-at : (t : List ℕ) (i r : ℕ) → NumberAt t i 0 r → r ≡ entryAt t i .version
+unfolding entryOf entry
+version-at t i r n = field-is (λ (e : Entry). e .version) t i 0 r (λ a. ap (be8 t) (omega arith)) refl n
+
+pub deadline-at : (t : List ℕ) (i r : ℕ) → NumberAt t i 8 r → r ≡ entryAt t i .deadline
+unfolding entryOf entry
+deadline-at t i r n = field-is (λ (e : Entry). e .deadline) t i 8 r (λ a. refl) refl n
 
 -- what a writer answers
 abbrev pub Answers : List ℕ → Option State → Bool → List ℕ → Type 0

@@ -6,9 +6,10 @@ mod rows;
 use field::EntryVersion;
 use field::Second;
 ghost use mathlib.Core.Path.{_≡_};
+ghost use Prim.Native.Nat.{_≤_};
 ghost use lib.ListN.{length};
 ghost use Rattle.table.specs.Memory.{stateOf, Sound};
-ghost use Rattle.table.specs.Found.{entryAt, FoundIs, Tells};
+ghost use Rattle.table.specs.Found.{entryAt, FoundIs, NumberAt, Tells};
 ghost use Rattle.table.specs.Change.{Left, isSome, made, started, added, restored, removed, cleared};
 
 // What a search for a key finds: its row, or that no row has it.
@@ -179,24 +180,29 @@ pub fn value_at(t: &[u8], i: usize) -> &[u8]
     &t[0..0]
 }
 
+// The number at offset o of row i; that of a row that is not held is 0.
+fn number_at(t: &[u8], i: usize, o: usize) -> u64
+    requires { ⌜ o ≤ 344 ⌝ }
+    ensures { λ r. ⌜ NumberAt (now (t .entry)) i o r ⌝ }
+{
+    if i < count(t) {
+        return number::get64(t, rows::row_at(i) + o);
+    }
+    0
+}
+
 // Its version; that of a row that is not held is 0.
 pub fn version_at(t: &[u8], i: usize) -> EntryVersion
     ensures { λ r. ⌜ r .0 ≡ entryAt (now (t .entry)) i .version ⌝ }
 {
-    if i < count(t) {
-        return EntryVersion(number::get64(t, rows::row_at(i)));
-    }
-    EntryVersion(0)
+    EntryVersion(number_at(t, i, Row::VERSION_START))
 }
 
 // Its deadline; that of a row that is not held is 0.
 pub fn deadline_at(t: &[u8], i: usize) -> Second
     ensures { λ r. ⌜ r .0 ≡ entryAt (now (t .entry)) i .deadline ⌝ }
 {
-    if i < count(t) {
-        return Second(number::get64(t, rows::row_at(i) + Row::DEADLINE_START));
-    }
-    Second(0)
+    Second(number_at(t, i, Row::DEADLINE_START))
 }
 
 // Adds an entry behind the last, of the next version, where there is room for it and a version is left.

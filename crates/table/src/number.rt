@@ -3,7 +3,7 @@ ghost use mathlib.Core.Path.{_≡_};
 ghost use Prim.Native.Nat.{_+_, _≤_, _<_, min};
 ghost use lib.ListN.{length};
 ghost use Rattle.table.specs.Bytes.{be4, be8};
-ghost use Rattle.table.specs.Write.{put, digits};
+ghost use Rattle.table.specs.Write.{put, half, digits};
 
 fn wide(x: u8) -> u64
     ensures { λ r. ⌜ (r ≡ x) × (r < 256) ⌝ }
@@ -31,19 +31,24 @@ pub(crate) fn get64(t: &[u8], a: usize) -> u64
     get32(t, a) * 4294967296 + get32(t, a + 4)
 }
 
+// Writes the lower half of x at index a.
+fn put32(t: &mut [u8], a: usize, x: u64)
+    requires { ⌜ a + 4 ≤ length (now t) ⌝ }
+    ensures { λ _. ⌜ now (t .exit) ≡ put (now (t .entry)) a (half x) ⌝ }
+{
+    t[a] = (x / 16777216 % 256) as u8;
+    t[a + 1] = (x / 65536 % 256) as u8;
+    t[a + 2] = (x / 256 % 256) as u8;
+    t[a + 3] = (x % 256) as u8;
+}
+
 // Writes x at index a.
 pub(crate) fn put64(t: &mut [u8], a: usize, x: u64)
     requires { ⌜ a + 8 ≤ length (now t) ⌝ }
     ensures { λ _. ⌜ now (t .exit) ≡ put (now (t .entry)) a (digits x) ⌝ }
 {
-    t[a] = (x / 72057594037927936 % 256) as u8;
-    t[a + 1] = (x / 281474976710656 % 256) as u8;
-    t[a + 2] = (x / 1099511627776 % 256) as u8;
-    t[a + 3] = (x / 4294967296 % 256) as u8;
-    t[a + 4] = (x / 16777216 % 256) as u8;
-    t[a + 5] = (x / 65536 % 256) as u8;
-    t[a + 6] = (x / 256 % 256) as u8;
-    t[a + 7] = (x % 256) as u8;
+    put32(t, a, x / 4294967296);
+    put32(t, a + 4, x);
 }
 
 // The number at index a, or `most` if it is above that.

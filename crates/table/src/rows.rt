@@ -6,7 +6,7 @@ use crate::number;
 use crate::same_key;
 ghost use mathlib.Core.Path.{_≡_};
 ghost use mathlib.Core.List.{[]};
-ghost use Prim.Native.Nat.{_+_, _≤_, _<_, _-_};
+ghost use Prim.Native.Nat.{_+_, _≤_, _<_, _-_, min};
 ghost use lib.ListN.{length};
 ghost use Rattle.map.specs.State.{withEntries};
 ghost use Rattle.map.specs.Step.{lastVersion};
@@ -32,16 +32,22 @@ pub(crate) fn row_at(i: usize) -> usize
     Table::HEAD + Row::WIDTH * i
 }
 
+// The bytes from s on, as many as the number at l says, `most` at the most.
+fn bytes_at(t: &[u8], l: usize, s: usize, most: usize) -> &[u8]
+    requires { ⌜ (l + 8 ≤ length (now t)) × (s + most ≤ length (now t)) ⌝ }
+    ensures { λ r. ⌜ now r ≡ part (now (t .entry)) s (min (be8 (now (t .entry)) l) most) ⌝ }
+{
+    let e = s + number::capped(t, l, most);
+    &t[s..e]
+}
+
 // The key of row i.
 pub(crate) fn key(t: &[u8], i: usize) -> &[u8]
     requires { ⌜ (length (now t) ≡ size) × (i < 128) ⌝ }
     ensures { λ r. ⌜ now r ≡ entryOf (now (t .entry)) (rowAt i) .key ⌝ }
 {
     let a = row_at(i);
-    let n = number::capped(t, a + Row::KEY_LENGTH, Row::KEY);
-    let s = a + Row::KEY_START;
-    let e = s + n;
-    &t[s..e]
+    bytes_at(t, a + Row::KEY_LENGTH, a + Row::KEY_START, Row::KEY)
 }
 
 // The value of row i.
@@ -50,10 +56,7 @@ pub(crate) fn value(t: &[u8], i: usize) -> &[u8]
     ensures { λ r. ⌜ now r ≡ entryOf (now (t .entry)) (rowAt i) .value ⌝ }
 {
     let a = row_at(i);
-    let n = number::capped(t, a + Row::VALUE_LENGTH, Row::VALUE);
-    let s = a + Row::VALUE_START;
-    let e = s + n;
-    &t[s..e]
+    bytes_at(t, a + Row::VALUE_LENGTH, a + Row::VALUE_START, Row::VALUE)
 }
 
 // The first row from `from` on that has the key.
@@ -77,11 +80,7 @@ fn copy_at(t: &mut [u8], a: usize, src: &[u8])
     requires { ⌜ a + length (now src) ≤ length (now t) ⌝ }
     ensures { λ _. ⌜ now (t .exit) ≡ put (now (t .entry)) a (now (src .entry)) ⌝ }
 {
-    let mut i = 0;
-    while i < src.len() {
-        t[a + i] = src[i];
-        i += 1;
-    }
+    bytes::copy(src, &mut t[a..]);
 }
 
 // Moves bytes down by w: to each index from a up to, not including, e.

@@ -1,29 +1,14 @@
 -- `table::rows::value` meets its contract. Assumes nothing.
-use mathlib.Core.Path.{_≡_}
-use Prim.Native.Nat.{_+_, _-_}
-use native.Mathlib.Omega.{arith}
-use Rattle.table.specs.Bytes.{part}
 use Rattle.table.specs.Memory.{entry, entryOf}
 use borrow.Author.Needs.{needs}
 use Rattle.table.proofs.rows.value.Statement.{statement}
 use Rattle.table.proofs.rows.value.Tie as tie
 
 returns : tie.Need-returns
-unfolding entryOf entry part
-returns c = let s = c .before .before .row-at .result + 96 in
-    let e : s + c .before .capped .result - s ≡ c .before .capped .result = omega arith in
-    cc
+unfolding entryOf entry
+returns c = rw (c .before .row-at .ensures) at (c .bytes-at .ensures)
 
 pub value-spec : {M : Type 1} → statement M
 value-spec =
     tie.close
-    (tie.spec
-    (λ c κs. search needs)
-    (λ c. search needs)
-    (λ c κs. search needs)
-    (λ c. search needs)
-    (λ c. search needs)
-    (λ c. search needs)
-    (λ c. search needs)
-    (λ c. search needs)
-    returns)
+    (tie.spec (λ c κs. search needs) (λ c. search needs) (λ c. search needs) (λ c κs. search needs) returns)

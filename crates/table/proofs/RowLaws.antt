@@ -26,10 +26,11 @@ be8-same t u a b h =
 pub halves : (t : List ℕ) (a : ℕ) → be4 t a * 4294967296 + be4 t (a + 4) ≡ be8 t a
 unfolding be8
 halves t a =
-    let e₁ : a + 4 + 1 ≡ a + 5 = omega arith in
-    let e₂ : a + 4 + 2 ≡ a + 6 = omega arith in
-    let e₃ : a + 4 + 3 ≡ a + 7 = omega arith in
-    rw (e₁, e₂, e₃) (omega arith)
+    let e₁ : a + 2 + 1 ≡ a + 3 = omega arith in
+    let e₂ : a + 4 + 1 ≡ a + 5 = omega arith in
+    let e₃ : a + 4 + 2 ≡ a + 6 = omega arith in
+    let e₄ : a + 6 + 1 ≡ a + 7 = omega arith in
+    rw (e₁, e₂, e₃, e₄) (omega arith)
 
 digits-halves : (x : ℕ) → digits x ≡ half (x / 4294967296) ++ half x
 unfolding digits

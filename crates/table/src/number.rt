@@ -2,7 +2,7 @@
 ghost use mathlib.Core.Path.{_≡_};
 ghost use Prim.Native.Nat.{_+_, _≤_, _<_, min};
 ghost use lib.ListN.{length};
-ghost use Rattle.table.specs.Bytes.{be4, be8};
+ghost use Rattle.table.specs.Bytes.{be2, be4, be8};
 ghost use Rattle.table.specs.Write.{put, half, digits};
 
 fn wide(x: u8) -> u64
@@ -11,16 +11,19 @@ fn wide(x: u8) -> u64
     x as u64
 }
 
-// Half of a number.
+// A quarter of a number, and a half.
+fn get16(t: &[u8], a: usize) -> u64
+    requires { ⌜ a + 2 ≤ length (now t) ⌝ }
+    ensures { λ r. ⌜ (r ≡ be2 (now (t .entry)) a) × (r < 65536) ⌝ }
+{
+    wide(t[a]) * 256 + wide(t[a + 1])
+}
+
 fn get32(t: &[u8], a: usize) -> u64
     requires { ⌜ a + 4 ≤ length (now t) ⌝ }
     ensures { λ r. ⌜ (r ≡ be4 (now (t .entry)) a) × (r < 4294967296) ⌝ }
 {
-    let b0 = wide(t[a]);
-    let b1 = wide(t[a + 1]);
-    let b2 = wide(t[a + 2]);
-    let b3 = wide(t[a + 3]);
-    ((b0 * 256 + b1) * 256 + b2) * 256 + b3
+    get16(t, a) * 65536 + get16(t, a + 2)
 }
 
 // The number at index a.

@@ -5,7 +5,8 @@ use Rattle.table.proofs.number.get64.Statement.{statement}
 use Rattle.table.proofs.number.get64.Tie as tie
 
 returns : tie.Need-returns
-returns c = let s = c .before .before .before .args in cc (halves (s .t .now) (s .a))
+returns c = let s = c .before .before .before .args in
+    rw (c .get322 .ensures .0, c .before .get32 .ensures .0) (halves (s .t .now) (s .a))
 
 pub get64-spec : {M : Type 1} → statement M
 get64-spec =

@@ -2,7 +2,6 @@
 use native.Mathlib.Omega.{arith}
 use Rattle.table.proofs.RowLaws.{length-entries, last-is}
 use Rattle.table.proofs.Answers.{added-yes, added-sized, added-key, added-value, added-full, added-last}
-use borrow.Author.Needs.{needs}
 use Rattle.table.proofs.add.Statement.{statement}
 use Rattle.table.proofs.add.Tie as tie
 
@@ -38,12 +37,12 @@ add-spec =
     returns
     returns-2
     returns-3
-    (λ c κs. search needs)
-    (λ c. search needs)
+    (λ c κs. omega arith)
+    (λ c. omega arith)
     returns-4
-    (λ c κs. search needs)
-    (λ c. search needs)
+    (λ c κs. omega arith)
+    (λ c. omega arith)
     returns-5
-    (λ c κs. search needs)
-    (λ c. search needs)
+    (λ c κs. omega arith)
+    (λ c. omega arith)
     returns-6)

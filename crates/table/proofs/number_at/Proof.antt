@@ -3,7 +3,6 @@ use mathlib.Core.Path.{refl}
 use native.Mathlib.Omega.{arith}
 use Rattle.table.proofs.RowLaws.{count-most}
 use Rattle.table.proofs.Answers.{held-row}
-use borrow.Author.Needs.{needs}
 use Rattle.table.proofs.number_at.Statement.{statement}
 use Rattle.table.proofs.number_at.Tie as tie
 
@@ -27,4 +26,4 @@ returns-2 : tie.Need-returns-2
 returns-2 c = record { held = λ l. absurd (omega arith); none = λ l. refl }
 
 pub number-at-spec : {M : Type 1} → statement M
-number-at-spec = tie.close (tie.spec (λ c κs. search needs) row-at-requires add-get64 get64-requires returns returns-2)
+number-at-spec = tie.close (tie.spec (λ c κs. omega arith) row-at-requires add-get64 get64-requires returns returns-2)

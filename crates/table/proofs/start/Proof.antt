@@ -2,7 +2,6 @@
 use native.Mathlib.Omega.{arith}
 use Rattle.table.proofs.Writes.{issued}
 use Rattle.table.proofs.Restores.{started-yes, started-sized, started-large}
-use borrow.Author.Needs.{needs}
 use Rattle.table.proofs.start.Statement.{statement}
 use Rattle.table.proofs.start.Tie as tie
 
@@ -23,4 +22,4 @@ returns-3 c = let s = c .before .before .before .before .before .before .before 
 
 pub start-spec : {M : Type 1} → statement M
 start-spec =
-    tie.close (tie.spec returns returns-2 (λ c κs. search needs) (λ c κs. search needs) (λ c. search needs) returns-3)
+    tie.close (tie.spec returns returns-2 (λ c κs. omega arith) (λ c κs. omega arith) (λ c. omega arith) returns-3)

@@ -1,6 +1,6 @@
 -- `table::version_at` meets its contract. Assumes nothing.
+use native.Mathlib.Omega.{arith}
 use Rattle.table.proofs.Answers.{version-at}
-use borrow.Author.Needs.{needs}
 use Rattle.table.proofs.version_at.Statement.{statement}
 use Rattle.table.proofs.version_at.Tie as tie
 
@@ -8,4 +8,4 @@ returns : tie.Need-returns
 returns c = let s = c .before .before .args in version-at (s .t .now) (s .i) _ (c .number-at .ensures)
 
 pub version-at-spec : {M : Type 1} → statement M
-version-at-spec = tie.close (tie.spec (λ c κs. search needs) returns)
+version-at-spec = tie.close (tie.spec (λ c κs. omega arith) returns)

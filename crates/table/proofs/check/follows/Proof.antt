@@ -5,7 +5,6 @@ use Rattle.table.specs.Found.{FoundIs}
 use Rattle.table.proofs.RowLaws.{length-entries}
 use Rattle.table.proofs.Keys.{found-held, found-none}
 use Rattle.table.proofs.Restores.{next-sized, next-full, next-old, next-late, next-held, next-yes}
-use borrow.Author.Needs.{needs}
 use Rattle.table.proofs.check.follows.Statement.{statement}
 use Rattle.table.proofs.check.follows.Tie as tie
 
@@ -13,35 +12,17 @@ returns : tie.Need-returns
 returns c = let s = c .before .before .before .args in
     next-sized (s .key .now) (s .version) (s .t .now) (c .if1 .taken)
 
-count-requires : tie.Need-count-requires
-count-requires c κs = search needs
-
 returns-2 : tie.Need-returns-2
 returns-2 c = let s = c .before .before .before .before .before .args in
     next-full (s .key .now) (s .version) (s .t .now) (omega (arith, length-entries (s .t .now) (c .before .before .if1 .left)))
-
-newest-version-requires : tie.Need-newest-version-requires
-newest-version-requires c κs = search needs
 
 returns-3 : tie.Need-returns-3
 returns-3 c = let s = c .before .before .before .before .before .before .before .args in
     next-old (s .key .now) (s .version) (s .t .now) (omega arith)
 
-last-requires : tie.Need-last-requires
-last-requires c κs = search needs
-
 returns-4 : tie.Need-returns-4
 returns-4 c = let s = c .before .before .before .before .before .before .before .before .before .before .args in
     next-late (s .key .now) (s .version) (s .t .now) (omega arith)
-
-find-requires : tie.Need-find-requires
-find-requires c κs = search needs
-
-enum-told : tie.Need-enum-told
-enum-told c = search needs
-
-enum-told-2 : tie.Need-enum-told-2
-enum-told-2 c = search needs
 
 returns-5 : tie.Need-returns-5
 returns-5 c = let s = c .before .before .before .before .before .before .before .before .before .before .before .before .before .args in
@@ -64,14 +45,14 @@ follows-spec =
     tie.close
     (tie.spec
     returns
-    count-requires
+    (λ c κs. omega arith)
     returns-2
-    newest-version-requires
+    (λ c κs. omega arith)
     returns-3
-    last-requires
+    (λ c κs. omega arith)
     returns-4
-    find-requires
-    enum-told
-    enum-told-2
+    (λ c κs. omega arith)
+    (λ c. omega arith)
+    (λ c. omega arith)
     returns-5
     returns-6)

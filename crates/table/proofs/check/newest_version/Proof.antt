@@ -3,7 +3,6 @@ use mathlib.Core.Path.{ap, _∙_}
 use native.Mathlib.Omega.{arith}
 use Rattle.table.specs.Bytes.{be8}
 use Rattle.table.proofs.Restores.{newest-none, newest-row}
-use borrow.Author.Needs.{needs}
 use Rattle.table.proofs.check.newest_version.Statement.{statement}
 use Rattle.table.proofs.check.newest_version.Tie as tie
 
@@ -19,4 +18,4 @@ returns-2 c = let s = c .before .before .before .before .before in
 pub newest-version-spec : {M : Type 1} → statement M
 newest-version-spec =
     tie.close
-    (tie.spec (λ c κs. search needs) returns (λ c. search needs) (λ c κs. search needs) (λ c κs. search needs) returns-2)
+    (tie.spec (λ c κs. omega arith) returns (λ c. omega arith) (λ c κs. omega arith) (λ c κs. omega arith) returns-2)

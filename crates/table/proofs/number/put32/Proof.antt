@@ -5,7 +5,6 @@ use native.Mathlib.Omega.{arith}
 use lib.ListN.{length-set}
 use lib.Seq.{sets-eq}
 use Rattle.table.specs.Write.{put, half}
-use borrow.Author.Needs.{needs}
 use Rattle.table.proofs.number.put32.Statement.{statement}
 use Rattle.table.proofs.number.put32.Tie as tie
 
@@ -34,16 +33,16 @@ pub put32-spec : {M : Type 1} → statement M
 put32-spec =
     tie.close
     (tie.spec
-    (λ c. search needs)
-    (λ c. search needs)
-    (λ c. search needs)
-    (λ c. search needs)
+    (λ c. omega arith)
+    (λ c. omega arith)
+    (λ c. omega arith)
+    (λ c. omega arith)
     slice-write-t-2
-    (λ c. search needs)
-    (λ c. search needs)
+    (λ c. omega arith)
+    (λ c. omega arith)
     slice-write-t-3
-    (λ c. search needs)
-    (λ c. search needs)
+    (λ c. omega arith)
+    (λ c. omega arith)
     slice-write-t-4
     same-length
     returns)

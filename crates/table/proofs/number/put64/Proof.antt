@@ -1,6 +1,6 @@
 -- `table::number::put64` meets its contract. Assumes nothing.
+use native.Mathlib.Omega.{arith}
 use Rattle.table.proofs.RowLaws.{put-halves}
-use borrow.Author.Needs.{needs}
 use Rattle.table.proofs.number.put64.Statement.{statement}
 use Rattle.table.proofs.number.put64.Tie as tie
 
@@ -11,4 +11,4 @@ returns c = let r = c .before .before .before .before .before .before in
 
 pub put64-spec : {M : Type 1} → statement M
 put64-spec =
-    tie.close (tie.spec (λ c κs. search needs) (λ c. search needs) (λ c κs. search needs) (λ c. search needs) returns)
+    tie.close (tie.spec (λ c κs. omega arith) (λ c. omega arith) (λ c κs. omega arith) (λ c. omega arith) returns)

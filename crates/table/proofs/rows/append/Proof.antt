@@ -1,6 +1,6 @@
 -- `table::rows::append` meets its contract. Assumes nothing.
+use native.Mathlib.Omega.{arith}
 use Rattle.table.proofs.Writes.{appended, next-above}
-use borrow.Author.Needs.{needs}
 use Rattle.table.proofs.rows.append.Statement.{statement}
 use Rattle.table.proofs.rows.append.Tie as tie
 
@@ -19,4 +19,4 @@ returns c = let r = c .before .before .before .before .before .before in
 pub append-spec : {M : Type 1} → statement M
 append-spec =
     tie.close
-    (tie.spec (λ c κs. search needs) (λ c. search needs) restore-requires (λ c κs. search needs) (λ c. search needs) returns)
+    (tie.spec (λ c κs. omega arith) (λ c. omega arith) restore-requires (λ c κs. omega arith) (λ c. omega arith) returns)

@@ -3,7 +3,6 @@ use mathlib.Core.Path.{_≡_}
 use Prim.Native.Nat.{_+_, _-_}
 use native.Mathlib.Omega.{arith}
 use Rattle.table.specs.Bytes.{part}
-use borrow.Author.Needs.{needs}
 use Rattle.table.proofs.rows.bytes_at.Statement.{statement}
 use Rattle.table.proofs.rows.bytes_at.Tie as tie
 
@@ -17,4 +16,4 @@ returns c = let n = c .before .capped .result in
 pub bytes-at-spec : {M : Type 1} → statement M
 bytes-at-spec =
     tie.close
-    (tie.spec (λ c κs. search needs) (λ c. search needs) (λ c. search needs) (λ c. search needs) (λ c. search needs) returns)
+    (tie.spec (λ c κs. omega arith) (λ c. omega arith) (λ c. omega arith) (λ c. omega arith) (λ c. omega arith) returns)

@@ -6,7 +6,6 @@ use lib.Seq.{sets-eq}
 use Rattle.wire.specs.Codec.{raw}
 use Rattle.wire.proofs.WriteLaws.{wrote-copy}
 use Rattle.table.specs.Write.{put}
-use borrow.Author.Needs.{needs}
 use Rattle.table.proofs.rows.copy_at.Statement.{statement}
 use Rattle.table.proofs.rows.copy_at.Tie as tie
 
@@ -20,4 +19,4 @@ returns c = let r = c .before .before in
 pub copy-at-spec : {M : Type 1} → statement M
 copy-at-spec =
     tie.close
-    (tie.spec (λ c. search needs) (λ c. search needs) (λ c. search needs) (λ c κs. search needs) (λ c. search needs) returns)
+    (tie.spec (λ c. omega arith) (λ c. omega arith) (λ c. omega arith) (λ c κs. omega arith) (λ c. omega arith) returns)

@@ -7,7 +7,6 @@ use borrow.Author.Count.{below-more}
 use Rattle.wire.proofs.Laws.{never}
 use Rattle.table.specs.Memory.{countOf}
 use Rattle.table.specs.Check.{Has}
-use borrow.Author.Needs.{needs}
 use Rattle.table.proofs.rows.find_from.Statement.{statement}
 use Rattle.table.proofs.rows.find_from.Tie as tie
 
@@ -43,12 +42,12 @@ find-from-spec =
     (tie.spec
     Inv-loop
     μ-loop
-    (λ c κs. search needs)
+    (λ c κs. omega arith)
     loop-holds
-    (λ c κs. search needs)
-    (λ c κs. search needs)
+    (λ c κs. omega arith)
+    (λ c κs. omega arith)
     returns
-    (λ c. search needs)
-    (λ c. search needs)
+    (λ c. omega arith)
+    (λ c. omega arith)
     loop-again
     returns-2)

@@ -7,7 +7,6 @@ use lib.Seq.{length-take-le}
 use Rattle.table.specs.Memory.{rowAt, countOf}
 use Rattle.table.proofs.Parts.{lent-put}
 use Rattle.table.proofs.Writes.{more, patched}
-use borrow.Author.Needs.{needs}
 use Rattle.table.proofs.rows.restore.Statement.{statement}
 use Rattle.table.proofs.rows.restore.Tie as tie
 
@@ -30,14 +29,14 @@ pub restore-spec : {M : Type 1} → statement M
 restore-spec =
     tie.close
     (tie.spec
-    (λ c κs. search needs)
-    (λ c κs. search needs)
-    (λ c. search needs)
-    (λ c. search needs)
-    (λ c. search needs)
-    (λ c. search needs)
-    (λ c κs. search needs)
-    (λ c. search needs)
-    (λ c κs. search needs)
-    (λ c. search needs)
+    (λ c κs. omega arith)
+    (λ c κs. omega arith)
+    (λ c. omega arith)
+    (λ c. omega arith)
+    (λ c. omega arith)
+    (λ c. omega arith)
+    (λ c κs. omega arith)
+    (λ c. omega arith)
+    (λ c κs. omega arith)
+    (λ c. omega arith)
     returns)

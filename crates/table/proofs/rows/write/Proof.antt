@@ -1,6 +1,6 @@
 -- `table::rows::write` meets its contract. Assumes nothing.
+use native.Mathlib.Omega.{arith}
 use Rattle.table.proofs.Writes.{written}
-use borrow.Author.Needs.{needs}
 use Rattle.table.proofs.rows.write.Statement.{statement}
 use Rattle.table.proofs.rows.write.Tie as tie
 
@@ -13,11 +13,11 @@ pub write-spec : {M : Type 1} → statement M
 write-spec =
     tie.close
     (tie.spec
-    (λ c κs. search needs)
-    (λ c κs. search needs)
-    (λ c κs. search needs)
-    (λ c κs. search needs)
-    (λ c κs. search needs)
-    (λ c κs. search needs)
-    (λ c. search needs)
+    (λ c κs. omega arith)
+    (λ c κs. omega arith)
+    (λ c κs. omega arith)
+    (λ c κs. omega arith)
+    (λ c κs. omega arith)
+    (λ c κs. omega arith)
+    (λ c. omega arith)
     returns)

@@ -1,22 +1,22 @@
 -- What the public functions answer: of memory of another length, of a row that is not held, and where nothing is changed. Assumes nothing.
 use mathlib.Core.Path.{_≡_, refl, sym, ap, _∙_}
 use mathlib.Core.List.{List, []}
-use mathlib.Core.Bool.{Bool, true, false, cond, _&&_}
+use mathlib.Core.Bool.{Bool, true, false, cond, _&&_, and-assoc}
 use mathlib.Core.Option.{Option, none, some}
 use mathlib.Core.Logic.{⊎-elim}
 use Prim.Native.Nat.{ℕ, _+_, _≤_, _<_}
 use native.Mathlib.Omega.{arith}
 use lib.ListN.{length, List·getD-eq-default}
 use lib.Dec.{eqb, leb, ltb}
-use borrow.Author.Tests.{eqb-true, eqb-false, eq-eqb, ne-eqb, lt-ltb, le-ltb, le-leb, lt-leb}
-use Rattle.wire.proofs.Laws.{never, and, and-false}
+use borrow.Author.Tests.{eqb-true, eqb-false, eq-eqb, ne-eqb, ltb-true, lt-ltb, le-ltb, leb-true}
+use Rattle.wire.proofs.Laws.{never, both, and, and-false}
 use Rattle.message.specs.Request.{keyLimit, valueLimit}
 use Rattle.map.specs.State.{Entry, State, withEntries, fresh}
 use Rattle.map.specs.Step.{mostKeys, lastVersion}
 use Rattle.table.specs.Bytes.{be8}
 use Rattle.table.specs.Memory.{size, rowAt, entry, entryOf, countOf, stateOf}
 use Rattle.table.specs.Found.{entryAt, FoundIs, NumberAt}
-use Rattle.table.specs.Check.{FoundFrom}
+use Rattle.table.specs.Check.{FoundFrom, fitsRow, hasRoom}
 use Rattle.table.specs.declared.Found.{Found}
 use Rattle.table.specs.declared.Found.the-variants.{At, Absent}
 use Rattle.table.specs.Change.{Changed, Left, isSome, added, removed, cleared}
@@ -89,33 +89,43 @@ module _ (t : List ℕ) where
   unfolding removed
   removed-no i l = left t _ _ (le-ltb i (length (stateOf t .entries)) l)
 
+-- what a row can hold, and whether one is free
+pub row-fits : (k v : List ℕ) → fitsRow k v ≡ true → (length k ≤ keyLimit) × (length v ≤ valueLimit)
+unfolding fitsRow
+row-fits k v e = let x = both (leb (length k) keyLimit) (leb (length v) valueLimit) e in (leb-true _ _ (x .0), leb-true _ _ (x .1))
+
+pub room-is : (t : List ℕ) → hasRoom t ≡ true → (length t ≡ size) × (length (stateOf t .entries) < mostKeys)
+unfolding hasRoom
+room-is t e = let x = both (eqb (length t) size) (ltb (length (stateOf t .entries)) mostKeys) e in (eqb-true _ _ (x .0), ltb-true _ _ (x .1))
+
 -- what an entry more takes
+regroup : (a b c d e : Bool) → (a && (b && (c && (d && e)))) ≡ ((b && c) && ((a && d) && e))
+regroup true b c d e = sym (and-assoc b c (d && e))
+regroup false b c d e = sym (and-false (b && c))
+
 module _ (k v : List ℕ) (d : ℕ) (t : List ℕ) where
   abbrev pub room : Bool
   room =
       eqb (length t) size && (leb (length k) keyLimit && (leb (length v) valueLimit && (ltb (length (stateOf t .entries)) mostKeys && ltb (stateOf t .last) lastVersion)))
 
-  pub added-yes : (u : List ℕ) → length t ≡ size → length k ≤ keyLimit → length v ≤ valueLimit → length (stateOf t .entries) < mostKeys → stateOf t .last < lastVersion
-      → Changed t u (grown k v d (stateOf t)) → Answers t (added k v d t) true u
+  tests : room ≡ (fitsRow k v && (hasRoom t && ltb (stateOf t .last) lastVersion))
+  unfolding fitsRow hasRoom
+  tests = regroup (eqb (length t) size) (leb (length k) keyLimit) (leb (length v) valueLimit) (ltb (length (stateOf t .entries)) mostKeys) (ltb (stateOf t .last) lastVersion)
+
+  pub added-yes : (u : List ℕ) → fitsRow k v ≡ true → hasRoom t ≡ true → stateOf t .last < lastVersion → Changed t u (grown k v d (stateOf t))
+      → Answers t (added k v d t) true u
   unfolding added
-  added-yes u h hk hv hn hl x =
-      taken t u _ room (and (eq-eqb _ _ h) (and (le-leb _ _ hk) (and (le-leb _ _ hv) (and (lt-ltb _ _ hn) (lt-ltb _ _ hl))))) x
+  added-yes u hk ht hl x = taken t u _ room (tests ∙ and hk (and ht (lt-ltb _ _ hl))) x
 
-  none-more : room ≡ false → Answers t (added k v d t) false t
+  none-more : (fitsRow k v && (hasRoom t && ltb (stateOf t .last) lastVersion)) ≡ false → Answers t (added k v d t) false t
   unfolding added
-  none-more e = left t _ room e
+  none-more e = left t _ room (tests ∙ e)
 
-  pub added-sized : (length t ≡ size → ⊥) → Answers t (added k v d t) false t
-  added-sized h = none-more (rw (ne-eqb (length t) size h))
+  pub added-unfit : fitsRow k v ≡ false → Answers t (added k v d t) false t
+  added-unfit e = none-more (rw e)
 
-  pub added-key : keyLimit < length k → Answers t (added k v d t) false t
-  added-key h = none-more (rw (lt-leb (length k) keyLimit h) (simp and-false))
-
-  pub added-value : valueLimit < length v → Answers t (added k v d t) false t
-  added-value h = none-more (rw (lt-leb (length v) valueLimit h) (simp and-false))
-
-  pub added-full : mostKeys ≤ length (stateOf t .entries) → Answers t (added k v d t) false t
-  added-full h = none-more (rw (le-ltb (length (stateOf t .entries)) mostKeys h) (simp and-false))
+  pub added-full : hasRoom t ≡ false → Answers t (added k v d t) false t
+  added-full e = none-more (rw e (and-false (fitsRow k v)))
 
   pub added-last : lastVersion ≤ stateOf t .last → Answers t (added k v d t) false t
   added-last h = none-more (rw (le-ltb (stateOf t .last) lastVersion h) (simp and-false))

@@ -2,7 +2,7 @@
 -- back behind those before it. Assumes nothing.
 use mathlib.Core.Path.{_≡_, refl, sym, ap, _∙_, subst}
 use mathlib.Core.List.{List, [], _∷_, _++_}
-use mathlib.Core.Bool.{Bool, true, false, cond, _&&_}
+use mathlib.Core.Bool.{Bool, true, false, cond, _&&_, and-assoc}
 use mathlib.Core.Option.{Option, none, some}
 use Prim.Native.Nat.{ℕ, _-_, _≤_, _<_}
 use native.Mathlib.Omega.{arith}
@@ -20,6 +20,7 @@ use Rattle.table.specs.Memory.{size, rowAt, entry, countOf, stateOf, Sou
 use Rattle.table.specs.Bytes.{be8}
 use Rattle.table.specs.Found.{entryAt}
 use Rattle.table.specs.Change.{Changed, Left, made, started, newest, fitting, next, restored}
+use Rattle.table.specs.Check.{fitsRow, hasRoom}
 use Rattle.table.specs.Write.{extended}
 use Rattle.map.proofs.Each.{each-map, each-add, pairs-add}
 use Rattle.table.proofs.Order.{each-at, to-newest}
@@ -87,17 +88,16 @@ module _ (t : List ℕ) (h : length t ≡ size) where
 
 -- the tests of `restore`
 module _ (k v : List ℕ) (d : ℕ) where
-  pub fit-key : keyLimit < length k → false ≡ fitting k v d
-  unfolding fitting
-  fit-key h = rw (lt-leb (length k) keyLimit h)
+  -- the size first, then the deadline
+  tests : fitting k v d ≡ (fitsRow k v && leb d 8_589_934_590)
+  unfolding fitting fitsRow
+  tests = sym (and-assoc (leb (length k) keyLimit) (leb (length v) valueLimit) (leb d 8_589_934_590))
 
-  pub fit-value : length k ≤ keyLimit → valueLimit < length v → false ≡ fitting k v d
-  unfolding fitting
-  fit-value h g = rw (le-leb (length k) keyLimit h, lt-leb (length v) valueLimit g)
+  pub unfit : fitsRow k v ≡ false → false ≡ fitting k v d
+  unfit e = sym (tests ∙ rw e)
 
-  pub fit-rest : length k ≤ keyLimit → length v ≤ valueLimit → leb d 8_589_934_590 ≡ fitting k v d
-  unfolding fitting
-  fit-rest h g = rw (le-leb (length k) keyLimit h, le-leb (length v) valueLimit g)
+  pub fit-rest : fitsRow k v ≡ true → leb d 8_589_934_590 ≡ fitting k v d
+  fit-rest e = sym (tests ∙ rw e)
 
   pub record Fits : Type 0 where
     pub key : length k ≤ keyLimit
@@ -115,13 +115,11 @@ module _ (k : List ℕ) (n : ℕ) (t : List ℕ) where
   abbrev st : State
   st = stateOf t
 
-  pub next-sized : (length t ≡ size → ⊥) → false ≡ next k n t
-  unfolding next
-  next-sized h = rw (ne-eqb (length t) size h)
-
-  pub next-full : mostKeys ≤ length (st .entries) → false ≡ next k n t
-  unfolding next
-  next-full h = rw (le-ltb (length (st .entries)) mostKeys h, and-false)
+  pub next-full : hasRoom t ≡ false → false ≡ next k n t
+  unfolding next hasRoom
+  next-full e =
+      let rest : Bool = ltb (newest (st .entries)) n && (leb n (st .last) && isNone (find (hasKey k) (st .entries))) in
+      sym (sym (and-assoc (eqb (length t) size) (ltb (length (st .entries)) mostKeys) rest) ∙ ap (λ (b : Bool). b && rest) e)
 
   pub next-old : n ≤ newest (st .entries) → false ≡ next k n t
   unfolding next

@@ -209,19 +209,13 @@ pub fn deadline_at(t: &[u8], i: usize) -> Second
 pub fn add(t: &mut [u8], key: &[u8], value: &[u8], deadline: Second) -> bool
     ensures { λ r. ⌜ (r ≡ isSome (added (now (key .entry)) (now (value .entry)) (deadline .0) (now (t .entry)))) × Left (now (t .entry)) (added (now (key .entry)) (now (value .entry)) (deadline .0) (now (t .entry))) (now (t .exit)) ⌝ }
 {
-    if t.len() != Table::SIZE {
+    if !check::fits_row(key, value) {
         return false;
     }
-    if key.len() > Row::KEY {
+    if !check::has_room(t) {
         return false;
     }
-    if value.len() > Row::VALUE {
-        return false;
-    }
-    if rows::count(t) >= Table::KEYS {
-        return false;
-    }
-    if number::get64(t, Table::LAST) >= Table::LAST_VERSION {
+    if last(t).0 >= Table::LAST_VERSION {
         return false;
     }
     rows::append(t, key, value, deadline.0);

@@ -1,24 +1,27 @@
 -- What the public functions answer: of memory of another length, of a row that is not held, and where nothing is changed. Assumes nothing.
 use mathlib.Core.Path.{_≡_, refl, sym, ap, _∙_}
 use mathlib.Core.List.{List, []}
-use mathlib.Core.Bool.{Bool, true, false, cond, _&&_}
+use mathlib.Core.Bool.{Bool, true, false, cond, _&&_, and-assoc}
 use mathlib.Core.Option.{Option, none, some}
-use Prim.Native.Nat.{ℕ, _≤_, _<_}
+use mathlib.Core.Logic.{⊎-elim}
+use Prim.Native.Nat.{ℕ, _+_, _≤_, _<_}
 use native.Mathlib.Omega.{arith}
 use lib.ListN.{length, List·getD-eq-default}
 use lib.Dec.{eqb, leb, ltb}
-use borrow.Author.Tests.{eqb-true, eqb-false, eq-eqb, ne-eqb, lt-ltb, le-ltb, le-leb, lt-leb}
-use Rattle.wire.proofs.Laws.{never, and, and-false}
+use borrow.Author.Tests.{eqb-true, eqb-false, eq-eqb, ne-eqb, ltb-true, lt-ltb, le-ltb, leb-true}
+use Rattle.wire.proofs.Laws.{never, both, and, and-false}
 use Rattle.message.specs.Request.{keyLimit, valueLimit}
 use Rattle.map.specs.State.{Entry, State, withEntries, fresh}
 use Rattle.map.specs.Step.{mostKeys, lastVersion}
-use Rattle.table.specs.Memory.{size, entry, countOf, stateOf}
-use Rattle.table.specs.Found.{entryAt, FoundIs}
-use Rattle.table.specs.Check.{FoundFrom}
+use Rattle.table.specs.Bytes.{be8}
+use Rattle.table.specs.Memory.{size, rowAt, entry, entryOf, countOf, stateOf}
+use Rattle.table.specs.Found.{entryAt, FoundIs, NumberAt}
+use Rattle.table.specs.Check.{FoundFrom, fitsRow, hasRoom}
 use Rattle.table.specs.declared.Found.{Found}
 use Rattle.table.specs.declared.Found.the-variants.{At, Absent}
-use Rattle.table.specs.Change.{Changed, Left, isSome, made, added, removed, cleared}
+use Rattle.table.specs.Change.{Changed, Left, isSome, added, removed, cleared}
 use Rattle.table.specs.Write.{grown, shrunk}
+use Rattle.table.proofs.Lists.{lt-or-ge}
 use Rattle.table.proofs.RowLaws.{length-entries, entry-is}
 
 pub other-length : (t : List ℕ) → (length t ≡ size → ⊥) → stateOf t ≡ fresh
@@ -40,6 +43,23 @@ pub no-row : (t : List ℕ) (i : ℕ) → length (stateOf t .entries) ≤ i → 
 unfolding entryAt
 no-row t i l = List·getD-eq-default (stateOf t .entries) (entry [] [] 0 0) {n = i} l
 
+-- a number of a row, by where it stands
+pub field-is : (f : Entry → ℕ) (t : List ℕ) (i o r : ℕ) → ((a : ℕ) → f (entryOf t a) ≡ be8 t (a + o)) → f (entry [] [] 0 0) ≡ 0 → NumberAt t i o r
+    → r ≡ f (entryAt t i)
+field-is f t i o r h z n =
+    ⊎-elim
+    (λ l. let g = held-row t i l in n .held l ∙ sym (ap f (entry-is t (g .0) i (g .1)) ∙ h (rowAt i)))
+    (λ l. n .none l ∙ sym (ap f (no-row t i l) ∙ z))
+    (lt-or-ge i (length (stateOf t .entries)))
+
+pub version-at : (t : List ℕ) (i r : ℕ) → NumberAt t i 0 r → r ≡ entryAt t i .version
+unfolding entryOf entry
+version-at t i r n = field-is (λ (e : Entry). e .version) t i 0 r (λ a. ap (be8 t) (omega arith)) refl n
+
+pub deadline-at : (t : List ℕ) (i r : ℕ) → NumberAt t i 8 r → r ≡ entryAt t i .deadline
+unfolding entryOf entry
+deadline-at t i r n = field-is (λ (e : Entry). e .deadline) t i 8 r (λ a. refl) refl n
+
 -- what a writer answers
 abbrev pub Answers : List ℕ → Option State → Bool → List ℕ → Type 0
 Answers old o r new = (r ≡ isSome o) × Left old o new
@@ -53,14 +73,6 @@ left old st true e = never (cc)
 left old st false e = (refl, refl)
 
 module _ (t : List ℕ) where
-  pub made-yes : (u : List ℕ) → length t ≡ size → Changed t u fresh → Answers t (made t) true u
-  unfolding made
-  made-yes u h x = taken t u fresh _ (eq-eqb (length t) size h) x
-
-  pub made-no : (length t ≡ size → ⊥) → Answers t (made t) false t
-  unfolding made
-  made-no h = left t fresh _ (ne-eqb (length t) size h)
-
   pub cleared-yes : (u : List ℕ) → length t ≡ size → Changed t u (withEntries [] (stateOf t)) → Answers t (cleared t) true u
   unfolding cleared
   cleared-yes u h x = taken t u _ _ (eq-eqb (length t) size h) x
@@ -77,33 +89,43 @@ module _ (t : List ℕ) where
   unfolding removed
   removed-no i l = left t _ _ (le-ltb i (length (stateOf t .entries)) l)
 
+-- what a row can hold, and whether one is free
+pub row-fits : (k v : List ℕ) → fitsRow k v ≡ true → (length k ≤ keyLimit) × (length v ≤ valueLimit)
+unfolding fitsRow
+row-fits k v e = let x = both (leb (length k) keyLimit) (leb (length v) valueLimit) e in (leb-true _ _ (x .0), leb-true _ _ (x .1))
+
+pub room-is : (t : List ℕ) → hasRoom t ≡ true → (length t ≡ size) × (length (stateOf t .entries) < mostKeys)
+unfolding hasRoom
+room-is t e = let x = both (eqb (length t) size) (ltb (length (stateOf t .entries)) mostKeys) e in (eqb-true _ _ (x .0), ltb-true _ _ (x .1))
+
 -- what an entry more takes
+regroup : (a b c d e : Bool) → (a && (b && (c && (d && e)))) ≡ ((b && c) && ((a && d) && e))
+regroup true b c d e = sym (and-assoc b c (d && e))
+regroup false b c d e = sym (and-false (b && c))
+
 module _ (k v : List ℕ) (d : ℕ) (t : List ℕ) where
   abbrev pub room : Bool
   room =
       eqb (length t) size && (leb (length k) keyLimit && (leb (length v) valueLimit && (ltb (length (stateOf t .entries)) mostKeys && ltb (stateOf t .last) lastVersion)))
 
-  pub added-yes : (u : List ℕ) → length t ≡ size → length k ≤ keyLimit → length v ≤ valueLimit → length (stateOf t .entries) < mostKeys → stateOf t .last < lastVersion
-      → Changed t u (grown k v d (stateOf t)) → Answers t (added k v d t) true u
+  tests : room ≡ (fitsRow k v && (hasRoom t && ltb (stateOf t .last) lastVersion))
+  unfolding fitsRow hasRoom
+  tests = regroup (eqb (length t) size) (leb (length k) keyLimit) (leb (length v) valueLimit) (ltb (length (stateOf t .entries)) mostKeys) (ltb (stateOf t .last) lastVersion)
+
+  pub added-yes : (u : List ℕ) → fitsRow k v ≡ true → hasRoom t ≡ true → stateOf t .last < lastVersion → Changed t u (grown k v d (stateOf t))
+      → Answers t (added k v d t) true u
   unfolding added
-  added-yes u h hk hv hn hl x =
-      taken t u _ room (and (eq-eqb _ _ h) (and (le-leb _ _ hk) (and (le-leb _ _ hv) (and (lt-ltb _ _ hn) (lt-ltb _ _ hl))))) x
+  added-yes u hk ht hl x = taken t u _ room (tests ∙ and hk (and ht (lt-ltb _ _ hl))) x
 
-  none-more : room ≡ false → Answers t (added k v d t) false t
+  none-more : (fitsRow k v && (hasRoom t && ltb (stateOf t .last) lastVersion)) ≡ false → Answers t (added k v d t) false t
   unfolding added
-  none-more e = left t _ room e
+  none-more e = left t _ room (tests ∙ e)
 
-  pub added-sized : (length t ≡ size → ⊥) → Answers t (added k v d t) false t
-  added-sized h = none-more (rw (ne-eqb (length t) size h))
+  pub added-unfit : fitsRow k v ≡ false → Answers t (added k v d t) false t
+  added-unfit e = none-more (rw e)
 
-  pub added-key : keyLimit < length k → Answers t (added k v d t) false t
-  added-key h = none-more (rw (lt-leb (length k) keyLimit h) (simp and-false))
-
-  pub added-value : valueLimit < length v → Answers t (added k v d t) false t
-  added-value h = none-more (rw (lt-leb (length v) valueLimit h) (simp and-false))
-
-  pub added-full : mostKeys ≤ length (stateOf t .entries) → Answers t (added k v d t) false t
-  added-full h = none-more (rw (le-ltb (length (stateOf t .entries)) mostKeys h) (simp and-false))
+  pub added-full : hasRoom t ≡ false → Answers t (added k v d t) false t
+  added-full e = none-more (rw e (and-false (fitsRow k v)))
 
   pub added-last : lastVersion ≤ stateOf t .last → Answers t (added k v d t) false t
   added-last h = none-more (rw (le-ltb (stateOf t .last) lastVersion h) (simp and-false))

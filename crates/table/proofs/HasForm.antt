@@ -21,12 +21,12 @@ use Rattle.table.specs.Memory.{size, rowAt, entry, entryOf, countOf, ent
 use Rattle.table.specs.Change.{Changed, Left, made, started}
 use Rattle.table.specs.Write.{put, digits, Written}
 use Rattle.table.specs.Form.{zeros, rowOf, withRow, withRows, form}
-use Rattle.table.proofs.Lists.{length-upto, getD-upto, upto-ext, lt-or-ge}
+use Rattle.table.proofs.Lists.{length-upto, getD-upto, lt-or-ge}
 use Rattle.map.proofs.Each.{each-both}
 use Rattle.table.proofs.Parts.{length-put, bytes-put}
 use Rattle.table.proofs.Restores.{started-is}
-use Rattle.table.proofs.RowLaws.{SameRow, be8-same, length-digits, state-is, length-entries, count-most}
-use Rattle.table.proofs.Writes.{Patched, AllFit, fit, counts, row-before, written, entries-more, lengths-more, patched, patched-last}
+use Rattle.table.proofs.RowLaws.{be8-same, be8-put, length-digits, state-is, length-entries}
+use Rattle.table.proofs.Writes.{Patched, AllFit, counts, written, entries-more, lengths-more, patched, entries-alike, count-alike, fit-alike, last-alike}
 
 -- a list of n bytes
 record Held (n : ℕ) (t : List ℕ) : Type 0 where
@@ -105,12 +105,13 @@ module _ (t : List ℕ) (e : Entry) (g : Growing t) (k : Kept e) (room : countOf
   abbrev n : ℕ
   n = countOf t
 
-  row-patched : Patched t (withRow t e) (rowAt n) (rowOf e) (n + 1) (e .version)
-  unfolding withRow
+  abbrev counted-row : List ℕ
+  counted-row = put (put t (rowAt n) (rowOf e)) 0 (digits (n + 1))
+
+  row-patched : Patched t counted-row (rowAt n) (rowOf e) (n + 1)
   row-patched =
       let w = row-held e k .long in
-      patched-last t _ (rowAt n) (rowOf e) (n + 1) _ (e .version)
-      (patched t (rowAt n) (rowOf e) (n + 1) (g .held .long) (omega arith) (omega arith) (omega arith)) (k .version)
+      patched t (rowAt n) (rowOf e) (n + 1) (g .held .long) (omega arith) (omega arith) (omega arith)
 
   row-bytes : Held size (withRow t e)
   unfolding withRow
@@ -119,17 +120,18 @@ module _ (t : List ℕ) (e : Entry) (g : Growing t) (k : Kept e) (room : countOf
       held-put8 8 _ (held-put8 0 _ (held-put (rowAt n) (rowOf e) (g .held) (row-held e k .bytes) (omega arith)) (omega arith)) (omega arith)
 
   row-more : Growing (withRow t e) × (entriesOf (withRow t e) ≡ entriesOf t ++ (e ∷ [])) × (countOf (withRow t e) ≡ n + 1)
-  unfolding entry
+  unfolding entry withRow
   row-more =
       let p = row-patched in
+      let s = last-alike counted-row (e .version) (p .long) in
       let w = row-held e k .long in (
         record {
           held = row-bytes;
-          counted = omega (arith, p .count, p .few);
-          lengths = lengths-more t _ (rowOf e) _ _ _ n _ _ refl room w (row-written e k) p (g .lengths);
+          counted = omega (arith, s .count, p .count, p .few);
+          lengths = fit-alike s (lengths-more t _ (rowOf e) _ _ _ n _ refl room w (row-written e k) p (g .lengths));
         },
-        entries-more t _ (rowOf e) _ _ _ n _ _ refl room w (row-written e k) p,
-        counts t _ _ _ _ _ p,
+        entries-alike s ∙ entries-more t _ (rowOf e) _ _ _ n _ refl room w (row-written e k) p,
+        count-alike s ∙ counts t _ _ _ _ p,
       )
 
 rows : (es : List Entry) (t : List ℕ) → Growing t → Each Kept es → countOf t + length es ≤ mostKeys
@@ -140,49 +142,6 @@ rows (e ∷ es) t g h l =
     let m = row-more t e g (h .0) (omega arith) in
     let r = rows es (withRow t e) (m .0) (h .1) (omega (arith, m .2)) in
     (r .0, r .1 ∙ ap (λ (xs : List Entry). xs ++ es) (m .1) ∙ append-snoc (entriesOf t) e es)
-
--- the last version is written last
-module _ (t : List ℕ) (x : ℕ) (g : Growing t) (small : x < 2 ^ 64) where
-  abbrev u : List ℕ
-  u = put t 8 (digits x)
-
-  last-patched : Patched t u size [] (be8 t 0) x
-  last-patched =
-      patched-last t t size [] (be8 t 0) (be8 t 8) x
-      (record {
-        old = g .held .long;
-        long = g .held .long;
-        few = g .counted;
-        low = omega arith;
-        fits = omega arith;
-        count = refl;
-        last = refl;
-        same = λ k l m. refl;
-        laid = λ k l. absurd (omega arith);
-      })
-      small
-
-  count-same : countOf u ≡ countOf t
-  unfolding countOf
-  count-same = ap (λ (n : ℕ). min n 128) (last-patched .count)
-
-  row-kept : (i : ℕ) → i < countOf t → SameRow u (rowAt i) t (rowAt i)
-  row-kept i l = row-before t u size [] _ x last-patched (rowAt i) (omega arith) (omega (arith, count-most t))
-
-  entries-same : entriesOf u ≡ entriesOf t
-  unfolding entriesOf
-  entries-same =
-      ap (upto (λ (i : ℕ). entryOf u (rowAt i))) count-same
-      ∙ upto-ext (λ (i : ℕ). entryOf t (rowAt i)) (λ (i : ℕ). entryOf u (rowAt i)) (countOf t) (λ i l. row-kept i l .entry)
-
-  last-form : Ascending (stateOf u .entries) → Form u
-  last-form a =
-      record {
-        long = last-patched .long;
-        counted = omega (arith, last-patched .count, g .counted);
-        lengths = λ i l. let m : i < countOf t = omega (arith, count-same) in fit (row-kept i m) (g .lengths i m);
-        order = a;
-      }
 
 -- what memory that is the form of a state has
 pub record Formed (st : State) (t : List ℕ) : Type 0 where
@@ -195,14 +154,20 @@ unfolding form
 has-form st h a =
     let z = start in
     let r = rows (st .entries) (zeros size) (z .0) (kept st h) (omega (arith, z .2, h .few)) in
+    let rs : List ℕ = withRows (zeros size) (st .entries) in
+    let s = last-alike rs (st .last) (r .0 .held .long) in
     let small : st .last < 2 ^ 64 = omega (arith, h .last) in
-    let p = last-patched _ (st .last) (r .0) small in
     let e : stateOf (form st) ≡ st =
-    state-is (form st) st (p .long) (entries-same _ (st .last) (r .0) small ∙ r .1 ∙ ap (λ (xs : List Entry). xs ++ st .entries) (z .1)) (p .last) in
+    state-is (form st) st (s .long) (entries-alike s ∙ r .1 ∙ ap (λ (xs : List Entry). xs ++ st .entries) (z .1)) (be8-put rs 8 (st .last) (omega (arith, s .old)) small) in
     record {
       state = e;
       sound = record {
-        form = last-form _ (st .last) (r .0) small (subst (λ (s : State). Ascending (s .entries)) (sym e) a);
+        form = record {
+          long = s .long;
+          counted = omega (arith, s .count, r .0 .counted);
+          lengths = fit-alike s (r .0 .lengths);
+          order = subst (λ (x : State). Ascending (x .entries)) (sym e) a;
+        };
         table = subst IsTable (sym e) h;
       };
       bytes = held-put8 8 (st .last) (r .0 .held) (omega arith) .bytes;

@@ -85,13 +85,6 @@ part-ext xs ys a b n h g e =
     ext-getD 0 (part xs a n) (part ys b n) (length-part xs a n h ∙ sym (length-part ys b n g))
     (λ k l. let l′ : k < n = omega (arith, length-part xs a n h) in getD-part xs a n k l′ ∙ e k l′ ∙ sym (getD-part ys b n k l′))
 
--- a turn of the loop that copies
-pub copy-more : (d s : List ℕ) (a i : ℕ) → i < length s → a + length s ≤ length d → set (put d a (part s 0 i)) (a + i) (getD s i 0) ≡ put d a (part s 0 (i + 1))
-copy-more d s a i h g =
-    let l : length (part s 0 i) ≡ i = length-part s 0 i (omega arith) in
-    let e : 0 + i ≡ i = omega arith in
-    cc (put-more d a (part s 0 i) (omega arith) (getD s i 0) (omega arith), part-more s 0 i (omega arith))
-
 -- a turn of the loop that moves down
 pub shift-more : (xs : List ℕ) (a b n : ℕ) → a ≤ b → b + n < length xs → set (put xs a (part xs b n)) (a + n) (getD (put xs a (part xs b n)) (b + n) 0) ≡ put xs a (part xs b (n + 1))
 shift-more xs a b n h g =

@@ -2,7 +2,7 @@
 -- back behind those before it. Assumes nothing.
 use mathlib.Core.Path.{_≡_, refl, sym, ap, _∙_, subst}
 use mathlib.Core.List.{List, [], _∷_, _++_}
-use mathlib.Core.Bool.{Bool, true, false, cond, _&&_}
+use mathlib.Core.Bool.{Bool, true, false, cond, _&&_, and-assoc}
 use mathlib.Core.Option.{Option, none, some}
 use Prim.Native.Nat.{ℕ, _-_, _≤_, _<_}
 use native.Mathlib.Omega.{arith}
@@ -12,14 +12,15 @@ use borrow.Author.Tests.{eqb-true, eq-eqb, ne-eqb, leb-true, le-leb, lt-leb, ltb
 use Rattle.wire.specs.Codec.{Bytes}
 use Rattle.wire.proofs.Laws.{never, both, and, and-false, is-bytes}
 use Rattle.message.specs.Request.{keyLimit, valueLimit}
-use Rattle.map.specs.State.{Entry, State, sameList, find, hasKey}
+use Rattle.map.specs.State.{Entry, State, sameList, find, hasKey, fresh}
 use Rattle.map.specs.Step.{mostKeys, lastVersion, isNone}
 use Rattle.map.specs.Table.{Each, Pairs, Sizes, OtherKey, OtherVersion, Issued, IsTable, Ascending}
 use Rattle.map.proofs.Laws.{same-sym}
 use Rattle.table.specs.Memory.{size, rowAt, entry, countOf, stateOf, Sound}
 use Rattle.table.specs.Bytes.{be8}
 use Rattle.table.specs.Found.{entryAt}
-use Rattle.table.specs.Change.{Changed, Left, started, newest, fitting, next, restored}
+use Rattle.table.specs.Change.{Changed, Left, made, started, newest, fitting, next, restored}
+use Rattle.table.specs.Check.{fitsRow, hasRoom}
 use Rattle.table.specs.Write.{extended}
 use Rattle.map.proofs.Each.{each-map, each-add, pairs-add}
 use Rattle.table.proofs.Order.{each-at, to-newest}
@@ -62,6 +63,14 @@ module _ (x : ℕ) (t : List ℕ) where
   unfolding started
   started-large l = left t bare may-start (rw (lt-leb x lastVersion l, and-false))
 
+pub started-made : (t : List ℕ) → started 0 t ≡ made t
+unfolding started made
+started-made t = go (eqb (length t) size)
+  where
+    go : (b : Bool) → cond (b && leb 0 lastVersion) (some fresh) none ≡ cond b (some fresh) none
+    go true = refl
+    go false = refl
+
 -- the version of the last row
 module _ (t : List ℕ) (h : length t ≡ size) where
   pub newest-none : countOf t ≡ 0 → 0 ≡ newest (stateOf t .entries)
@@ -79,17 +88,16 @@ module _ (t : List ℕ) (h : length t ≡ size) where
 
 -- the tests of `restore`
 module _ (k v : List ℕ) (d : ℕ) where
-  pub fit-key : keyLimit < length k → false ≡ fitting k v d
-  unfolding fitting
-  fit-key h = rw (lt-leb (length k) keyLimit h)
+  -- the size first, then the deadline
+  tests : fitting k v d ≡ (fitsRow k v && leb d 8_589_934_590)
+  unfolding fitting fitsRow
+  tests = sym (and-assoc (leb (length k) keyLimit) (leb (length v) valueLimit) (leb d 8_589_934_590))
 
-  pub fit-value : length k ≤ keyLimit → valueLimit < length v → false ≡ fitting k v d
-  unfolding fitting
-  fit-value h g = rw (le-leb (length k) keyLimit h, lt-leb (length v) valueLimit g)
+  pub unfit : fitsRow k v ≡ false → false ≡ fitting k v d
+  unfit e = sym (tests ∙ rw e)
 
-  pub fit-rest : length k ≤ keyLimit → length v ≤ valueLimit → leb d 8_589_934_590 ≡ fitting k v d
-  unfolding fitting
-  fit-rest h g = rw (le-leb (length k) keyLimit h, le-leb (length v) valueLimit g)
+  pub fit-rest : fitsRow k v ≡ true → leb d 8_589_934_590 ≡ fitting k v d
+  fit-rest e = sym (tests ∙ rw e)
 
   pub record Fits : Type 0 where
     pub key : length k ≤ keyLimit
@@ -107,13 +115,11 @@ module _ (k : List ℕ) (n : ℕ) (t : List ℕ) where
   abbrev st : State
   st = stateOf t
 
-  pub next-sized : (length t ≡ size → ⊥) → false ≡ next k n t
-  unfolding next
-  next-sized h = rw (ne-eqb (length t) size h)
-
-  pub next-full : mostKeys ≤ length (st .entries) → false ≡ next k n t
-  unfolding next
-  next-full h = rw (le-ltb (length (st .entries)) mostKeys h, and-false)
+  pub next-full : hasRoom t ≡ false → false ≡ next k n t
+  unfolding next hasRoom
+  next-full e =
+      let rest : Bool = ltb (newest (st .entries)) n && (leb n (st .last) && isNone (find (hasKey k) (st .entries))) in
+      sym (sym (and-assoc (eqb (length t) size) (ltb (length (st .entries)) mostKeys) rest) ∙ ap (λ (b : Bool). b && rest) e)
 
   pub next-old : n ≤ newest (st .entries) → false ≡ next k n t
   unfolding next

@@ -7,30 +7,18 @@ use native.Mathlib.Omega.{arith}
 use native.Mathlib.Numerals.{add-one}
 use lib.ListN.{length, getD}
 use Rattle.message.specs.Request.{keyLimit, valueLimit}
-use Rattle.map.specs.State.{State, withEntries, fresh}
-use Rattle.map.specs.Step.{mostKeys}
-use Rattle.map.specs.Table.{Each, Ascending}
+use Rattle.map.specs.State.{State, withEntries}
+use Rattle.map.specs.Step.{mostKeys, lastVersion}
+use Rattle.map.specs.Table.{Ascending}
 use Rattle.table.specs.Bytes.{be8, part, upto}
 use Rattle.table.specs.Memory.{size, rowAt, entry, entryOf, countOf, entriesOf, stateOf, Form, Sound}
 use Rattle.table.specs.Change.{Changed, newest}
-use Rattle.table.specs.Write.{put, digits, Written, grown, extended, shrunk}
-use Rattle.table.proofs.Lists.{removeAt, lt-or-ge, upto-more, upto-remove}
+use Rattle.table.specs.Write.{put, digits, Written, Above, grown, extended, shrunk}
+use Rattle.table.proofs.Lists.{removeAt, lt-or-ge, upto-ext, upto-more, upto-remove}
 use Rattle.map.proofs.Each.{each-map, pairs-add}
 use Rattle.table.proofs.Order.{pairs-less, to-newest}
 use Rattle.table.proofs.Parts.{put-none, part-before, part-put, length-part, getD-part, length-put, put-before, put-in}
-use Rattle.table.proofs.RowLaws.{length-digits, length-put8, be8-put, put8-after, be8-after, be8-before, SameRow, row-same, state-is, entries-are, last-is}
-
--- memory u is memory t with vs at a, behind the header, and a header of count m and last version x
-pub record Patched (t u : List ℕ) (a : ℕ) (vs : List ℕ) (m x : ℕ) : Type 0 where
-  pub old : length t ≡ size
-  pub long : length u ≡ size
-  pub few : m ≤ mostKeys
-  pub low : 16 ≤ a
-  pub fits : a + length vs ≤ size
-  pub count : be8 u 0 ≡ m
-  pub last : be8 u 8 ≡ x
-  pub same : (k : ℕ) → 16 ≤ k → k < a → getD u k 0 ≡ getD t k 0
-  pub laid : (k : ℕ) → k < length vs → getD u (a + k) 0 ≡ getD vs k 0
+use Rattle.table.proofs.RowLaws.{length-digits, length-put8, be8-put, put8-after, be8-after, be8-before, SameRow, row-same, state-is, entries-are, last-is, count-most}
 
 abbrev pub Fit : List ℕ → ℕ → Type 0
 Fit t a = (be8 t (a + 16) ≤ keyLimit) × (be8 t (a + 24) ≤ valueLimit)
@@ -41,7 +29,78 @@ AllFit t = (i : ℕ) → i < countOf t → Fit t (rowAt i)
 pub fit : {t u : List ℕ} {a b : ℕ} → SameRow t a u b → Fit u b → Fit t a
 fit s f = (omega (arith, s .key), omega (arith, s .value))
 
-module _ (t u : List ℕ) (a : ℕ) (vs : List ℕ) (m x : ℕ) (p : Patched t u a vs m x) where
+-- memory u has the rows of memory t
+pub record Alike (t u : List ℕ) : Type 0 where
+  pub old : length t ≡ size
+  pub long : length u ≡ size
+  pub count : be8 u 0 ≡ be8 t 0
+  pub rows : (k : ℕ) → 16 ≤ k → k < rowAt (countOf t) → getD u k 0 ≡ getD t k 0
+
+module _ {t u : List ℕ} (s : Alike t u) where
+  pub count-alike : countOf u ≡ countOf t
+  unfolding countOf
+  count-alike = ap (λ (n : ℕ). min n 128) (s .count)
+
+  row-alike : (i : ℕ) → i < countOf t → SameRow u (rowAt i) t (rowAt i)
+  row-alike i l =
+      let m : countOf t ≤ 128 = count-most t in
+      row-same u t (rowAt i) (rowAt i) (omega (arith, s .long)) (omega (arith, s .old)) (λ k q. s .rows (rowAt i + k) (omega arith) (omega arith))
+
+  pub entries-alike : entriesOf u ≡ entriesOf t
+  unfolding entriesOf
+  entries-alike =
+      ap (upto (λ (i : ℕ). entryOf u (rowAt i))) count-alike
+      ∙ upto-ext (λ (i : ℕ). entryOf t (rowAt i)) (λ (i : ℕ). entryOf u (rowAt i)) (countOf t) (λ i l. row-alike i l .entry)
+
+  pub held-alike : entriesOf u ≡ stateOf t .entries
+  held-alike = entries-alike ∙ sym (entries-are t (s .old))
+
+  pub fit-alike : AllFit t → AllFit u
+  fit-alike f i l = let m : i < countOf t = omega (arith, count-alike) in fit (row-alike i m) (f i m)
+
+  pub form-alike : Form t → Form u
+  form-alike f =
+      record {
+        long = s .long;
+        counted = omega (arith, s .count, f .counted);
+        lengths = fit-alike (f .lengths);
+        order = subst Ascending (sym (entries-are u (s .long) ∙ held-alike)) (f .order);
+      }
+
+-- the last version is written
+pub last-alike : (t : List ℕ) (x : ℕ) → length t ≡ size → Alike t (put t 8 (digits x))
+last-alike t x h =
+    let f : 8 + 8 ≤ length t = omega arith in
+    record {
+      old = h;
+      long = length-put8 t 8 x f ∙ h;
+      count = be8-before t 8 (digits x) 0 (omega (arith, length-digits x)) (omega arith);
+      rows = λ k l g. put8-after t 8 x f k l;
+    }
+
+pub issued : (t u : List ℕ) (st : State) (x : ℕ) → length t ≡ size → x < 2 ^ 64 → Changed t u st
+    → Changed t (put u 8 (digits x)) (record { entries = st .entries; last = x })
+issued t u st x h l c =
+    let s = last-alike u x (c .long ∙ h) in
+    record {
+      long = s .long ∙ sym h;
+      state = state-is _ _ (s .long) (held-alike s ∙ ap (λ (r : State). r .entries) (c .state)) (be8-put u 8 x (omega (arith, s .old)) l);
+      form = λ r. form-alike s (c .form r);
+    }
+
+-- memory u is memory t with vs at a, behind the header, and a header of count m
+pub record Patched (t u : List ℕ) (a : ℕ) (vs : List ℕ) (m : ℕ) : Type 0 where
+  pub old : length t ≡ size
+  pub long : length u ≡ size
+  pub few : m ≤ mostKeys
+  pub low : 16 ≤ a
+  pub fits : a + length vs ≤ size
+  pub count : be8 u 0 ≡ m
+  pub last : be8 u 8 ≡ be8 t 8
+  pub same : (k : ℕ) → 16 ≤ k → k < a → getD u k 0 ≡ getD t k 0
+  pub laid : (k : ℕ) → k < length vs → getD u (a + k) 0 ≡ getD vs k 0
+
+module _ (t u : List ℕ) (a : ℕ) (vs : List ℕ) (m : ℕ) (p : Patched t u a vs m) where
   pub row-before : (b : ℕ) → 16 ≤ b → b + 352 ≤ a → SameRow u b t b
   row-before b g h =
       row-same u t b b (omega (arith, p .long, p .fits)) (omega (arith, p .old, p .fits)) (λ k l. p .same (b + k) (omega arith) (omega arith))
@@ -55,19 +114,19 @@ module _ (t u : List ℕ) (a : ℕ) (vs : List ℕ) (m x : ℕ) (p : Patched t u
   unfolding countOf
   counts = omega (arith, p .count, p .few)
 
--- a row more, of version x, with last version y
-module _ (t u row k v : List ℕ) (d n x y : ℕ) (count : n ≡ countOf t) (room : n < mostKeys) (width : length row ≡ 352) (w : Written row k v x d)
-    (p : Patched t u (rowAt n) row (n + 1) y) where
+-- a row more, of version x
+module _ (t u row k v : List ℕ) (d n x : ℕ) (count : n ≡ countOf t) (room : n < mostKeys) (width : length row ≡ 352) (w : Written row k v x d)
+    (p : Patched t u (rowAt n) row (n + 1)) where
   new : SameRow u (rowAt n) row 0
-  new = let z : rowAt n + 0 ≡ rowAt n = omega arith in rw z at (row-in t u (rowAt n) row (n + 1) _ p 0 (omega arith))
+  new = let z : rowAt n + 0 ≡ rowAt n = omega arith in rw z at (row-in t u (rowAt n) row (n + 1) p 0 (omega arith))
 
   held : (i : ℕ) → i < n → SameRow u (rowAt i) t (rowAt i)
-  held i l = row-before t u (rowAt n) row (n + 1) _ p (rowAt i) (omega arith) (omega arith)
+  held i l = row-before t u (rowAt n) row (n + 1) p (rowAt i) (omega arith) (omega arith)
 
   pub entries-more : entriesOf u ≡ entriesOf t ++ (entry k v x d ∷ [])
   unfolding entriesOf
   entries-more =
-      ap (upto (λ (i : ℕ). entryOf u (rowAt i))) (counts t u (rowAt n) row (n + 1) _ p)
+      ap (upto (λ (i : ℕ). entryOf u (rowAt i))) (counts t u (rowAt n) row (n + 1) p)
       ∙ upto-more (λ (i : ℕ). entryOf t (rowAt i)) (λ (i : ℕ). entryOf u (rowAt i)) n _ (λ i l. held i l .entry) (new .entry ∙ w .here)
       ∙ ap (λ (m : ℕ). upto (λ (i : ℕ). entryOf t (rowAt i)) m ++ (entry k v x d ∷ [])) count
 
@@ -75,15 +134,14 @@ module _ (t u row k v : List ℕ) (d n x y : ℕ) (count : n ≡ countOf t) (roo
   lengths-more f i l =
       ⊎-elim
       (λ q. fit (held i q) (f i (omega arith)))
-      (λ q. let e : i ≡ n = omega (arith, counts t u (rowAt n) row (n + 1) _ p) in rw e (fit new (w .key, w .value)))
+      (λ q. let e : i ≡ n = omega (arith, counts t u (rowAt n) row (n + 1) p) in rw e (fit new (w .key, w .value)))
       (lt-or-ge i n)
 
-  state-more : stateOf u ≡ record { entries = stateOf t .entries ++ (entry k v x d ∷ []); last = y }
-  state-more = state-is u _ (p .long) (entries-more ∙ rw (entries-are t (p .old))) (p .last)
+  state-more : stateOf u ≡ extended k v x d (stateOf t)
+  state-more = state-is u _ (p .long) (entries-more ∙ rw (entries-are t (p .old))) (p .last ∙ sym (last-is t (p .old)))
 
   -- a version above those of the rows that are held
-  pub more : (Sound t → Each (λ e. e .version < x) (stateOf t .entries))
-      → Changed t u (record { entries = stateOf t .entries ++ (entry k v x d ∷ []); last = y })
+  pub more : Above t x → Changed t u (extended k v x d (stateOf t))
   unfolding entry
   more above =
       record {
@@ -98,28 +156,24 @@ module _ (t u row k v : List ℕ) (d n x y : ℕ) (count : n ≡ countOf t) (roo
             };
       }
 
--- a row more, of the next version
-pub appended : (t u row k v : List ℕ) (d n : ℕ) → n ≡ countOf t → n < mostKeys → length row ≡ 352 → Written row k v (be8 t 8 + 1) d
-    → Patched t u (rowAt n) row (n + 1) (be8 t 8 + 1) → Changed t u (grown k v d (stateOf t))
-appended t u row k v d n count room width w p =
-    let l = last-is t (p .old) in
-    let e : be8 t 8 + 1 ≡ suc (stateOf t .last) = add-one (be8 t 8) ∙ ap suc (sym l) in
-    subst (λ (x : ℕ). Changed t u (record { entries = stateOf t .entries ++ (entry k v x d ∷ []); last = x })) e
-    (more t u row k v d n _ _ count room width w p
-    (λ s. each-map _ _ (λ e h. omega (arith, h .1)) (stateOf t .entries) (s .table .issued)))
+-- the next version is above those held, and so is one above the newest
+pub next-above : (t : List ℕ) → length t ≡ size → Above t (be8 t 8 + 1)
+next-above t h s = each-map _ _ (λ e i. omega (arith, i .1, last-is t h)) (stateOf t .entries) (s .table .issued)
 
--- a row more, with the last version kept
-pub put-back : (t u row k v : List ℕ) (d n x : ℕ) → n ≡ countOf t → n < mostKeys → length row ≡ 352 → Written row k v x d
-    → Patched t u (rowAt n) row (n + 1) (be8 t 8) → newest (stateOf t .entries) < x
-    → Changed t u (extended k v x d (stateOf t))
-put-back t u row k v d n x count room width w p h =
-    subst (λ (y : ℕ). Changed t u (record { entries = stateOf t .entries ++ (entry k v x d ∷ []); last = y })) (sym (last-is t (p .old)))
-    (more t u row k v d n x _ count room width w p
-    (λ s. each-map _ _ (λ e l. omega arith) (stateOf t .entries) (to-newest (stateOf t .entries) (s .form .order))))
+pub newest-above : (t : List ℕ) (x : ℕ) → newest (stateOf t .entries) < x → Above t x
+newest-above t x h s = each-map _ _ (λ e l. omega arith) (stateOf t .entries) (to-newest (stateOf t .entries) (s .form .order))
+
+-- a row more, of the next version
+pub appended : (t u k v : List ℕ) (d : ℕ) → length t ≡ size → be8 t 8 < lastVersion → Changed t u (extended k v (be8 t 8 + 1) d (stateOf t))
+    → Changed t (put u 8 (digits (be8 t 8 + 1))) (grown k v d (stateOf t))
+appended t u k v d h l c =
+    let e : be8 t 8 + 1 ≡ suc (stateOf t .last) = add-one (be8 t 8) ∙ ap suc (sym (last-is t h)) in
+    subst (λ (x : ℕ). Changed t (put u 8 (digits (be8 t 8 + 1))) (record { entries = stateOf t .entries ++ (entry k v x d ∷ []); last = x })) e
+    (issued t u _ (be8 t 8 + 1) h (omega arith) c)
 
 -- a row less
 module _ (t u : List ℕ) (i n : ℕ) (count : n ≡ countOf t) (most : n ≤ mostKeys) (inside : i < n)
-    (p : Patched t u (rowAt i) (part t (rowAt i + 352) (rowAt (n - 1) - rowAt i)) (n - 1) (be8 t 8)) where
+    (p : Patched t u (rowAt i) (part t (rowAt i + 352) (rowAt (n - 1) - rowAt i)) (n - 1)) where
   abbrev width : ℕ
   width = rowAt (n - 1) - rowAt i
 
@@ -127,7 +181,7 @@ module _ (t u : List ℕ) (i n : ℕ) (count : n ≡ countOf t) (most : n ≤ mo
   wide = length-part t (rowAt i + 352) width (omega (arith, p .old))
 
   kept : (k : ℕ) → k < i → SameRow u (rowAt k) t (rowAt k)
-  kept k l = row-before t u (rowAt i) _ _ _ p (rowAt k) (omega arith) (omega arith)
+  kept k l = row-before t u (rowAt i) _ _ p (rowAt k) (omega arith) (omega arith)
 
   moved : (k : ℕ) → i ≤ k → k + 1 < n → SameRow u (rowAt k) t (rowAt (k + 1))
   moved k l g =
@@ -140,7 +194,7 @@ module _ (t u : List ℕ) (i n : ℕ) (count : n ≡ countOf t) (most : n ≤ mo
   entries-less : entriesOf u ≡ removeAt i (entriesOf t)
   unfolding entriesOf
   entries-less =
-      ap (upto (λ (j : ℕ). entryOf u (rowAt j))) (counts t u _ _ _ _ p)
+      ap (upto (λ (j : ℕ). entryOf u (rowAt j))) (counts t u _ _ _ p)
       ∙ upto-remove (λ (j : ℕ). entryOf t (rowAt j)) (λ (j : ℕ). entryOf u (rowAt j)) n i inside (λ k l. kept k l .entry) (λ k l g. moved k l g .entry)
       ∙ ap (λ (m : ℕ). removeAt i (upto (λ (j : ℕ). entryOf t (rowAt j)) m)) count
 
@@ -154,7 +208,7 @@ module _ (t u : List ℕ) (i n : ℕ) (count : n ≡ countOf t) (most : n ≤ mo
         long = p .long;
         counted = omega (arith, p .count, p .few);
         lengths = λ k l.
-            let l′ : k < n - 1 = omega (arith, counts t u _ _ _ _ p) in
+            let l′ : k < n - 1 = omega (arith, counts t u _ _ _ p) in
             ⊎-elim
             (λ q. fit (kept k q) (s .form .lengths k (omega arith)))
             (λ q. fit (moved k q (omega arith)) (s .form .lengths (k + 1) (omega arith)))
@@ -165,15 +219,15 @@ module _ (t u : List ℕ) (i n : ℕ) (count : n ≡ countOf t) (most : n ≤ mo
   pub lessened : Changed t u (shrunk i (stateOf t))
   lessened = record { long = p .long ∙ sym (p .old); state = state-less; form = form-less }
 
--- no row, and last version x
-module _ (t u : List ℕ) (x : ℕ) (p : Patched t u 16 [] 0 x) where
-  entries-none : entriesOf u ≡ []
+-- no row
+module _ (t u : List ℕ) (p : Patched t u 16 [] 0) where
+  none : entriesOf u ≡ []
   unfolding entriesOf upto
-  entries-none = ap (upto (λ (j : ℕ). entryOf u (rowAt j))) (counts t u _ _ _ _ p)
+  none = ap (upto (λ (j : ℕ). entryOf u (rowAt j))) (counts t u _ _ _ p)
 
-  pub emptied : Changed t u (record { entries = []; last = x })
+  pub emptied : Changed t u (withEntries [] (stateOf t))
   emptied =
-      let e : stateOf u ≡ record { entries = []; last = x } = state-is u _ (p .long) entries-none (p .last) in
+      let e : stateOf u ≡ withEntries [] (stateOf t) = state-is u _ (p .long) none (p .last ∙ sym (last-is t (p .old))) in
       record {
         long = p .long ∙ sym (p .old);
         state = e;
@@ -181,7 +235,7 @@ module _ (t u : List ℕ) (x : ℕ) (p : Patched t u 16 [] 0 x) where
             record {
               long = p .long;
               counted = omega (arith, p .count);
-              lengths = λ i l. absurd (omega (arith, counts t u _ _ _ _ p));
+              lengths = λ i l. absurd (omega (arith, counts t u _ _ _ p));
               order = subst (λ (st : State). Ascending (st .entries)) (sym e) tt;
             };
       }
@@ -198,7 +252,7 @@ module _ (t : List ℕ) (a : ℕ) (vs : List ℕ) (m : ℕ) (sized : length t �
   small = omega arith
 
   -- a part, then the count
-  pub patched : Patched t (put (put t a vs) 0 (digits m)) a vs m (be8 t 8)
+  pub patched : Patched t (put (put t a vs) 0 (digits m)) a vs m
   patched =
       record {
         old = sized;
@@ -211,22 +265,6 @@ module _ (t : List ℕ) (a : ℕ) (vs : List ℕ) (m : ℕ) (sized : length t �
         same = λ k l g. put8-after (put t a vs) 0 m (omega (arith, l₁)) k (omega arith) ∙ put-before t a vs (omega arith) k g;
         laid = λ k l. put8-after (put t a vs) 0 m (omega (arith, l₁)) (a + k) (omega arith) ∙ put-in t a vs (omega arith) k l;
       }
-
--- then the last version
-pub patched-last : (t u : List ℕ) (a : ℕ) (vs : List ℕ) (m y x : ℕ) → Patched t u a vs m y → x < 2 ^ 64 → Patched t (put u 8 (digits x)) a vs m x
-patched-last t u a vs m y x p h =
-    let f : 8 + 8 ≤ length u = omega (arith, p .long) in
-    record {
-      old = p .old;
-      long = length-put8 u 8 x f ∙ p .long;
-      few = p .few;
-      low = p .low;
-      fits = p .fits;
-      count = be8-before u 8 (digits x) 0 (omega (arith, length-digits x)) (omega arith) ∙ p .count;
-      last = be8-put u 8 x f h;
-      same = λ k l g. put8-after u 8 x f k l ∙ p .same k l g;
-      laid = λ k l. put8-after u 8 x f (a + k) (omega (arith, p .low)) ∙ p .laid k l;
-    }
 
 -- the bytes of a row
 module _ (r k v : List ℕ) (n d : ℕ) (lr : length r ≡ 352) (hk : length k ≤ keyLimit) (hv : length v ≤ valueLimit) (hn : n < 2 ^ 64) (hd : d < 2 ^ 64) where
@@ -272,16 +310,7 @@ module _ (r k v : List ℕ) (n d : ℕ) (lr : length r ≡ 352) (hk : length k �
       record { here = cc; key = omega arith; value = omega arith }
 
 -- no row, in memory that was written so
-blank : (t : List ℕ) → length t ≡ size → Patched t (put t 0 (digits 0)) 16 [] 0 (be8 t 8)
-blank t h =
-    subst (λ (u : List ℕ). Patched t (put u 0 (digits 0)) 16 [] 0 (be8 t 8)) (sym (put-none t 16))
-    (patched t 16 [] 0 h (omega arith) (omega arith) (omega arith))
-
 pub clears : (t : List ℕ) → length t ≡ size → Changed t (put t 0 (digits 0)) (withEntries [] (stateOf t))
-clears t h = emptied t _ (stateOf t .last) (rw (last-is t h) (blank t h))
-
-pub starts : (t : List ℕ) (x : ℕ) → length t ≡ size → x < 2 ^ 64 → Changed t (put (put t 0 (digits 0)) 8 (digits x)) (record { entries = []; last = x })
-starts t x h l = emptied t _ x (patched-last t _ 16 [] 0 _ x (blank t h) l)
-
-pub makes : (t : List ℕ) → length t ≡ size → Changed t (put (put t 0 (digits 0)) 8 (digits 0)) fresh
-makes t h = starts t 0 h (omega arith)
+clears t h =
+    emptied t _
+    (subst (λ (u : List ℕ). Patched t (put u 0 (digits 0)) 16 [] 0) (sym (put-none t 16)) (patched t 16 [] 0 h (omega arith) (omega arith) (omega arith)))

@@ -13,7 +13,7 @@ ghost use Rattle.table.specs.Bytes.{be8};
 ghost use Rattle.table.specs.Memory.{size, countOf, stateOf};
 ghost use Rattle.table.specs.Found.{Tells};
 ghost use Rattle.table.specs.Change.{newest, fitting, next};
-ghost use Rattle.table.specs.Check.{Within, AllWithin, Rising, Differ};
+ghost use Rattle.table.specs.Check.{Within, AllWithin, Rising, Differ, fitsRow, hasRoom};
 
 // Whether the lengths and the deadline of the row at a are within their limits.
 fn within(t: &[u8], a: usize) -> bool
@@ -87,14 +87,31 @@ pub(crate) fn differ(t: &[u8]) -> bool
     true
 }
 
-// Whether the sizes and the deadline of an entry are within their limits.
-pub(crate) fn fits(key: &[u8], value: &[u8], deadline: u64) -> bool
-    ensures { λ r. ⌜ r ≡ fitting (now (key .entry)) (now (value .entry)) deadline ⌝ }
+// Whether a row can hold a key and a value.
+pub(crate) fn fits_row(key: &[u8], value: &[u8]) -> bool
+    ensures { λ r. ⌜ r ≡ fitsRow (now (key .entry)) (now (value .entry)) ⌝ }
 {
     if key.len() > Row::KEY {
         return false;
     }
-    if value.len() > Row::VALUE {
+    value.len() <= Row::VALUE
+}
+
+// Whether the memory has the length of a table, and a row for an entry more.
+pub(crate) fn has_room(t: &[u8]) -> bool
+    ensures { λ r. ⌜ r ≡ hasRoom (now (t .entry)) ⌝ }
+{
+    if t.len() != Table::SIZE {
+        return false;
+    }
+    rows::count(t) < Table::KEYS
+}
+
+// Whether the sizes and the deadline of an entry are within their limits.
+pub(crate) fn fits(key: &[u8], value: &[u8], deadline: u64) -> bool
+    ensures { λ r. ⌜ r ≡ fitting (now (key .entry)) (now (value .entry)) deadline ⌝ }
+{
+    if !fits_row(key, value) {
         return false;
     }
     deadline <= Row::LAST_DEADLINE
@@ -116,10 +133,7 @@ fn newest_version(t: &[u8]) -> u64
 pub(crate) fn follows(t: &[u8], key: &[u8], version: u64) -> bool
     ensures { λ r. ⌜ r ≡ next (now (key .entry)) version (now (t .entry)) ⌝ }
 {
-    if t.len() != Table::SIZE {
-        return false;
-    }
-    if rows::count(t) >= Table::KEYS {
+    if !has_room(t) {
         return false;
     }
     if version <= newest_version(t) {

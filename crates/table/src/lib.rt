@@ -6,9 +6,10 @@ mod rows;
 use field::EntryVersion;
 use field::Second;
 ghost use mathlib.Core.Path.{_≡_};
+ghost use Prim.Native.Nat.{_≤_};
 ghost use lib.ListN.{length};
 ghost use Rattle.table.specs.Memory.{stateOf, Sound};
-ghost use Rattle.table.specs.Found.{entryAt, FoundIs, Tells};
+ghost use Rattle.table.specs.Found.{entryAt, FoundIs, NumberAt, Tells};
 ghost use Rattle.table.specs.Change.{Left, isSome, made, started, added, restored, removed, cleared};
 
 // What a search for a key finds: its row, or that no row has it.
@@ -89,12 +90,7 @@ pub fn same_key(a: &[u8], b: &[u8]) -> Compared
 pub fn make(t: &mut [u8]) -> bool
     ensures { λ r. ⌜ (r ≡ isSome (made (now (t .entry)))) × Left (now (t .entry)) (made (now (t .entry))) (now (t .exit)) ⌝ }
 {
-    if t.len() != Table::SIZE {
-        return false;
-    }
-    number::put64(t, Table::COUNT, 0);
-    number::put64(t, Table::LAST, 0);
-    true
+    start(t, EntryVersion(0))
 }
 
 // Makes the memory a table with no entries, of a last version within its limit.
@@ -107,7 +103,7 @@ pub fn start(t: &mut [u8], last: EntryVersion) -> bool
     if last.0 > Table::LAST_VERSION {
         return false;
     }
-    number::put64(t, Table::COUNT, 0);
+    rows::clear(t);
     number::put64(t, Table::LAST, last.0);
     true
 }
@@ -184,43 +180,42 @@ pub fn value_at(t: &[u8], i: usize) -> &[u8]
     &t[0..0]
 }
 
+// The number at offset o of row i; that of a row that is not held is 0.
+fn number_at(t: &[u8], i: usize, o: usize) -> u64
+    requires { ⌜ o ≤ 344 ⌝ }
+    ensures { λ r. ⌜ NumberAt (now (t .entry)) i o r ⌝ }
+{
+    if i < count(t) {
+        return number::get64(t, rows::row_at(i) + o);
+    }
+    0
+}
+
 // Its version; that of a row that is not held is 0.
 pub fn version_at(t: &[u8], i: usize) -> EntryVersion
     ensures { λ r. ⌜ r .0 ≡ entryAt (now (t .entry)) i .version ⌝ }
 {
-    if i < count(t) {
-        return EntryVersion(number::get64(t, rows::row_at(i)));
-    }
-    EntryVersion(0)
+    EntryVersion(number_at(t, i, Row::VERSION_START))
 }
 
 // Its deadline; that of a row that is not held is 0.
 pub fn deadline_at(t: &[u8], i: usize) -> Second
     ensures { λ r. ⌜ r .0 ≡ entryAt (now (t .entry)) i .deadline ⌝ }
 {
-    if i < count(t) {
-        return Second(number::get64(t, rows::row_at(i) + Row::DEADLINE_START));
-    }
-    Second(0)
+    Second(number_at(t, i, Row::DEADLINE_START))
 }
 
 // Adds an entry behind the last, of the next version, where there is room for it and a version is left.
 pub fn add(t: &mut [u8], key: &[u8], value: &[u8], deadline: Second) -> bool
     ensures { λ r. ⌜ (r ≡ isSome (added (now (key .entry)) (now (value .entry)) (deadline .0) (now (t .entry)))) × Left (now (t .entry)) (added (now (key .entry)) (now (value .entry)) (deadline .0) (now (t .entry))) (now (t .exit)) ⌝ }
 {
-    if t.len() != Table::SIZE {
+    if !check::fits_row(key, value) {
         return false;
     }
-    if key.len() > Row::KEY {
+    if !check::has_room(t) {
         return false;
     }
-    if value.len() > Row::VALUE {
-        return false;
-    }
-    if rows::count(t) >= Table::KEYS {
-        return false;
-    }
-    if number::get64(t, Table::LAST) >= Table::LAST_VERSION {
+    if last(t).0 >= Table::LAST_VERSION {
         return false;
     }
     rows::append(t, key, value, deadline.0);

@@ -6,15 +6,15 @@ use crate::number;
 use crate::same_key;
 ghost use mathlib.Core.Path.{_≡_};
 ghost use mathlib.Core.List.{[]};
-ghost use Prim.Native.Nat.{_+_, _≤_, _<_, _-_};
+ghost use Prim.Native.Nat.{_+_, _≤_, _<_, _-_, min};
 ghost use lib.ListN.{length};
 ghost use Rattle.map.specs.State.{withEntries};
 ghost use Rattle.map.specs.Step.{lastVersion};
 ghost use Rattle.table.specs.Bytes.{be8, part};
 ghost use Rattle.table.specs.Memory.{size, rowAt, entryOf, countOf, stateOf};
-ghost use Rattle.table.specs.Write.{put, Written, grown, extended, shrunk};
+ghost use Rattle.table.specs.Write.{put, Written, Above, grown, extended, shrunk};
 ghost use Rattle.table.specs.Check.{FoundFrom};
-ghost use Rattle.table.specs.Change.{Changed, newest};
+ghost use Rattle.table.specs.Change.{Changed};
 
 // How many rows are held.
 pub(crate) fn count(t: &[u8]) -> usize
@@ -32,16 +32,22 @@ pub(crate) fn row_at(i: usize) -> usize
     Table::HEAD + Row::WIDTH * i
 }
 
+// The bytes from s on, as many as the number at l says, `most` at the most.
+fn bytes_at(t: &[u8], l: usize, s: usize, most: usize) -> &[u8]
+    requires { ⌜ (l + 8 ≤ length (now t)) × (s + most ≤ length (now t)) ⌝ }
+    ensures { λ r. ⌜ now r ≡ part (now (t .entry)) s (min (be8 (now (t .entry)) l) most) ⌝ }
+{
+    let e = s + number::capped(t, l, most);
+    &t[s..e]
+}
+
 // The key of row i.
 pub(crate) fn key(t: &[u8], i: usize) -> &[u8]
     requires { ⌜ (length (now t) ≡ size) × (i < 128) ⌝ }
     ensures { λ r. ⌜ now r ≡ entryOf (now (t .entry)) (rowAt i) .key ⌝ }
 {
     let a = row_at(i);
-    let n = number::capped(t, a + Row::KEY_LENGTH, Row::KEY);
-    let s = a + Row::KEY_START;
-    let e = s + n;
-    &t[s..e]
+    bytes_at(t, a + Row::KEY_LENGTH, a + Row::KEY_START, Row::KEY)
 }
 
 // The value of row i.
@@ -50,10 +56,7 @@ pub(crate) fn value(t: &[u8], i: usize) -> &[u8]
     ensures { λ r. ⌜ now r ≡ entryOf (now (t .entry)) (rowAt i) .value ⌝ }
 {
     let a = row_at(i);
-    let n = number::capped(t, a + Row::VALUE_LENGTH, Row::VALUE);
-    let s = a + Row::VALUE_START;
-    let e = s + n;
-    &t[s..e]
+    bytes_at(t, a + Row::VALUE_LENGTH, a + Row::VALUE_START, Row::VALUE)
 }
 
 // The first row from `from` on that has the key.
@@ -77,11 +80,7 @@ fn copy_at(t: &mut [u8], a: usize, src: &[u8])
     requires { ⌜ a + length (now src) ≤ length (now t) ⌝ }
     ensures { λ _. ⌜ now (t .exit) ≡ put (now (t .entry)) a (now (src .entry)) ⌝ }
 {
-    let mut i = 0;
-    while i < src.len() {
-        t[a + i] = src[i];
-        i += 1;
-    }
+    bytes::copy(src, &mut t[a..]);
 }
 
 // Moves bytes down by w: to each index from a up to, not including, e.
@@ -110,32 +109,28 @@ fn write(row: &mut [u8], k: &[u8], v: &[u8], version: u64, deadline: u64)
     copy_at(row, Row::VALUE_START, v);
 }
 
+// Adds a row behind the last, of a version above those held. The last version issued stays.
+pub(crate) fn restore(t: &mut [u8], k: &[u8], v: &[u8], version: u64, deadline: u64)
+    requires { ⌜ (length (now t) ≡ size) × (countOf (now t) < 128) × Above (now t) version ⌝ }
+    requires { ⌜ (length (now k) ≤ 64) × (length (now v) ≤ 256) ⌝ }
+    ensures { λ _. ⌜ Changed (now (t .entry)) (now (t .exit)) (extended (now (k .entry)) (now (v .entry)) version deadline (stateOf (now (t .entry)))) ⌝ }
+{
+    let held = count(t);
+    let a = row_at(held);
+    let e = a + Row::WIDTH;
+    write(&mut t[a..e], k, v, version, deadline);
+    number::put64(t, Table::COUNT, (held + 1) as u64);
+}
+
 // Adds a row behind the last, of the next version.
 pub(crate) fn append(t: &mut [u8], k: &[u8], v: &[u8], deadline: u64)
     requires { ⌜ (length (now t) ≡ size) × (countOf (now t) < 128) × (be8 (now t) 8 < lastVersion) ⌝ }
     requires { ⌜ (length (now k) ≤ 64) × (length (now v) ≤ 256) ⌝ }
     ensures { λ _. ⌜ Changed (now (t .entry)) (now (t .exit)) (grown (now (k .entry)) (now (v .entry)) deadline (stateOf (now (t .entry)))) ⌝ }
 {
-    let held = count(t);
     let version = number::get64(t, Table::LAST) + 1;
-    let a = row_at(held);
-    let e = a + Row::WIDTH;
-    write(&mut t[a..e], k, v, version, deadline);
-    number::put64(t, Table::COUNT, (held + 1) as u64);
+    restore(t, k, v, version, deadline);
     number::put64(t, Table::LAST, version);
-}
-
-// Adds a row behind the last, of a version above those held. The last version issued stays.
-pub(crate) fn restore(t: &mut [u8], k: &[u8], v: &[u8], version: u64, deadline: u64)
-    requires { ⌜ (length (now t) ≡ size) × (countOf (now t) < 128) × (newest (stateOf (now t) .entries) < version) ⌝ }
-    requires { ⌜ (length (now k) ≤ 64) × (length (now v) ≤ 256) ⌝ }
-    ensures { λ _. ⌜ Changed (now (t .entry)) (now (t .exit)) (extended (now (k .entry)) (now (v .entry)) version deadline (stateOf (now (t .entry)))) ⌝ }
-{
-    let n = count(t);
-    let a = row_at(n);
-    let e = a + Row::WIDTH;
-    write(&mut t[a..e], k, v, version, deadline);
-    number::put64(t, Table::COUNT, (n + 1) as u64);
 }
 
 // Removes row i: the rows behind it move down.

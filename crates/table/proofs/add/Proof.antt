@@ -1,49 +1,51 @@
 -- `table::add` meets its contract. Assumes nothing.
+use mathlib.Core.Path.{_≡_, sym, _∙_}
+use mathlib.Core.Bool.{true}
 use native.Mathlib.Omega.{arith}
+use borrow.Author.Tests.{not-true, not-false}
+use Rattle.table.specs.Check.{fitsRow, hasRoom}
 use Rattle.table.proofs.RowLaws.{length-entries, last-is}
-use Rattle.table.proofs.Answers.{added-yes, added-sized, added-key, added-value, added-full, added-last}
-use borrow.Author.Needs.{needs}
+use Rattle.table.proofs.Answers.{row-fits, room-is, added-yes, added-unfit, added-full, added-last}
 use Rattle.table.proofs.add.Statement.{statement}
 use Rattle.table.proofs.add.Tie as tie
 
+-- the tests that were passed
+fits : (c : tie.Else1) → let s = c .before .before .before .before .before .args in fitsRow (s .key .now) (s .value .now) ≡ true
+fits c = sym (c .before .fits-row .ensures) ∙ not-false _ (c .if1 .left)
+
+room : (c : tie.Else2) → hasRoom (c .before .before .before .before .before .before .before .before .args .t .now) ≡ true
+room c = sym (c .before .has-room .ensures) ∙ not-false _ (c .if2 .left)
+
 returns : tie.Need-returns
-returns c = let s = c .before .before .before .before .args in
-    added-sized (s .key .now) (s .value .now) (s .deadline .0) (s .t .now) (c .if1 .taken)
+returns c = added-unfit _ _ _ _ (sym (c .before .fits-row .ensures) ∙ not-true _ (c .if1 .taken))
 
 returns-2 : tie.Need-returns-2
-returns-2 c = let s = c .before .before .before .before .before .args in
-    added-key (s .key .now) (s .value .now) (s .deadline .0) (s .t .now) (omega arith)
+returns-2 c = added-full _ _ _ _ (sym (c .before .has-room .ensures) ∙ not-true _ (c .if2 .taken))
 
 returns-3 : tie.Need-returns-3
-returns-3 c = let s = c .before .before .before .before .before .before .args in
-    added-value (s .key .now) (s .value .now) (s .deadline .0) (s .t .now) (omega arith)
+returns-3 c = added-last _ _ _ _ (omega arith)
+
+append-requires : tie.Need-append-requires
+append-requires c κs = let e = c .before .before .before .before .before in
+    let t = e .before .before .before .before .before .before .before .before .args .t .now in
+    let h = room-is t (room e) in
+    ((h .0, omega (arith, h .1, length-entries t (h .0)), omega (arith, last-is t (h .0))), row-fits _ _ (fits (e .before .before .before)))
 
 returns-4 : tie.Need-returns-4
-returns-4 c = let s = c .before .before .before .before .before .before .before .before .before .args in
-    added-full (s .key .now) (s .value .now) (s .deadline .0) (s .t .now) (omega (arith, length-entries (s .t .now) (c .before .before .before .before .before .if1 .left)))
-
-returns-5 : tie.Need-returns-5
-returns-5 c = let s = c .before .before .before .before .before .before .before .before .before .before .before .before .args in
-    added-last (s .key .now) (s .value .now) (s .deadline .0) (s .t .now) (omega (arith, last-is (s .t .now) (c .before .before .before .before .before .before .before .before .if1 .left)))
-
-returns-6 : tie.Need-returns-6
-returns-6 c = let s = c .before .before .before .before .before .before .before .before .before .before .before .before .before .before .before .before .args in
-    let h = c .before .before .before .before .before .before .before .before .before .before .before .before .if1 .left in
-    added-yes (s .key .now) (s .value .now) (s .deadline .0) (s .t .now) _ h (omega arith) (omega arith) (omega (arith, length-entries (s .t .now) h)) (omega (arith, last-is (s .t .now) h)) (c .before .before .append .ensures)
+returns-4 c = let e = c .before .before .before .before .before .before .before .before in added-yes _ _ _ _ _ (fits (e .before .before .before)) (room e) (omega arith) (c .before .before .append .ensures)
 
 pub add-spec : {M : Type 1} → statement M
 add-spec =
     tie.close
     (tie.spec
+    (λ c κs. omega arith)
     returns
+    (λ c κs. omega arith)
+    (λ c. omega arith)
     returns-2
+    (λ c κs. omega arith)
+    (λ c. omega arith)
     returns-3
-    (λ c κs. search needs)
-    (λ c. search needs)
-    returns-4
-    (λ c κs. search needs)
-    (λ c. search needs)
-    returns-5
-    (λ c κs. search needs)
-    (λ c. search needs)
-    returns-6)
+    append-requires
+    (λ c. omega arith)
+    returns-4)

@@ -3,7 +3,6 @@ use native.Mathlib.Omega.{arith}
 use borrow.Author.Tests.{not-true, not-false}
 use Rattle.table.proofs.Lists.{says-no, refuted}
 use Rattle.table.proofs.SoundLaws.{checked, sound-within, sound-rising, sound-differ, sound-last}
-use borrow.Author.Needs.{needs}
 use Rattle.table.proofs.is_table.Statement.{statement}
 use Rattle.table.proofs.is_table.Tie as tie
 
@@ -36,13 +35,13 @@ is-table-spec =
     tie.close
     (tie.spec
     returns
-    (λ c κs. search needs)
+    (λ c κs. omega arith)
     returns-2
-    (λ c κs. search needs)
+    (λ c κs. omega arith)
     returns-3
-    (λ c κs. search needs)
+    (λ c κs. omega arith)
     returns-4
-    (λ c κs. search needs)
+    (λ c κs. omega arith)
     returns-5
-    (λ c κs. search needs)
+    (λ c κs. omega arith)
     returns-6)

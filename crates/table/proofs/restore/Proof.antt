@@ -3,23 +3,14 @@ use mathlib.Core.Path.{sym, _∙_}
 use native.Mathlib.Omega.{arith}
 use borrow.Author.Tests.{not-true, not-false}
 use Rattle.table.proofs.RowLaws.{length-entries}
+use Rattle.table.proofs.Writes.{newest-above}
 use Rattle.table.proofs.Restores.{fits, follows, restored-unfit, restored-no, restored-yes}
-use borrow.Author.Needs.{needs}
 use Rattle.table.proofs.restore.Statement.{statement}
 use Rattle.table.proofs.restore.Tie as tie
-
-fits-requires : tie.Need-fits-requires
-fits-requires c κs = search needs
 
 returns : tie.Need-returns
 returns c = let s = c .before .before .before .before .before .args in
     restored-unfit (s .key .now) (s .value .now) (s .version .0) (s .deadline .0) (s .t .now) (sym (c .before .fits2 .ensures) ∙ not-true _ (c .if1 .taken))
-
-follows-requires : tie.Need-follows-requires
-follows-requires c κs = search needs
-
-same-length : tie.Need-same-length
-same-length c = search needs
 
 returns-2 : tie.Need-returns-2
 returns-2 c = let s = c .before .before .before .before .before .before .before .before .args in
@@ -29,10 +20,7 @@ restore-requires : tie.Need-restore-requires
 restore-requires c κs = let s = c .before .before .before .before .before .before .before .before .before .args in
     let f = fits (s .key .now) (s .value .now) (s .deadline .0) (sym (c .before .before .before .before .before .fits2 .ensures) ∙ not-false _ (c .before .before .before .before .if1 .left)) in
     let g = follows (s .key .now) (s .version .0) (s .t .now) (sym (c .before .before .follows .ensures) ∙ not-false _ (c .before .if2 .left)) in
-    ((g .long, omega (arith, length-entries (s .t .now) (g .long), g .room), g .above), (f .key, f .value))
-
-same-length-2 : tie.Need-same-length-2
-same-length-2 c = search needs
+    ((g .long, omega (arith, length-entries (s .t .now) (g .long), g .room), newest-above (s .t .now) (s .version .0) (g .above)), (f .key, f .value))
 
 returns-3 : tie.Need-returns-3
 returns-3 c = let s = c .before .before .before .before .before .before .before .before .before .before .before .before .args in
@@ -45,11 +33,11 @@ pub restore-spec : {M : Type 1} → statement M
 restore-spec =
     tie.close
     (tie.spec
-    fits-requires
+    (λ c κs. omega arith)
     returns
-    follows-requires
-    same-length
+    (λ c κs. omega arith)
+    (λ c. omega arith)
     returns-2
     restore-requires
-    same-length-2
+    (λ c. omega arith)
     returns-3)

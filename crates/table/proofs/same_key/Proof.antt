@@ -7,7 +7,6 @@ use lib.Seq.{ext-getD}
 use mathlib.Core.Logic.{⊎-elim}
 use Rattle.table.proofs.Lists.{says-yes, says-no, lt-or-ge}
 use Prim.Native.Nat.{ℕ, _-_, _≤_, _<_}
-use borrow.Author.Needs.{needs}
 use Rattle.table.proofs.same_key.Statement.{statement}
 use Rattle.table.proofs.same_key.Tie as tie
 
@@ -49,10 +48,10 @@ same-key-spec =
     μ-loop
     returns
     loop-holds
-    (λ c. search needs)
-    (λ c. search needs)
-    (λ c. search needs)
+    (λ c. omega arith)
+    (λ c. omega arith)
+    (λ c. omega arith)
     returns-2
-    (λ c. search needs)
+    (λ c. omega arith)
     loop-again
     returns-3)

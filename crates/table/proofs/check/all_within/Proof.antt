@@ -7,7 +7,6 @@ use borrow.Author.Tests.{not-true, not-false}
 use Rattle.table.specs.Memory.{rowAt, countOf}
 use Rattle.table.proofs.Lists.{says-yes, says-no, refuted}
 use Rattle.table.specs.Check.{Within}
-use borrow.Author.Needs.{needs}
 use Rattle.table.proofs.check.all_within.Statement.{statement}
 use Rattle.table.proofs.check.all_within.Tie as tie
 
@@ -42,12 +41,12 @@ all-within-spec =
     (tie.spec
     Inv-loop
     μ-loop
-    (λ c κs. search needs)
+    (λ c κs. omega arith)
     loop-holds
-    (λ c κs. search needs)
-    (λ c κs. search needs)
+    (λ c κs. omega arith)
+    (λ c κs. omega arith)
     returns
-    (λ c. search needs)
-    (λ c. search needs)
+    (λ c. omega arith)
+    (λ c. omega arith)
     loop-again
     returns-2)

@@ -8,7 +8,6 @@ use Rattle.table.specs.Memory.{rowAt, entryOf, countOf}
 use Rattle.table.specs.Check.{FoundFrom}
 use Rattle.table.specs.declared.Found.the-variants.{Absent}
 use Rattle.table.proofs.Lists.{says-yes, says-no}
-use borrow.Author.Needs.{needs}
 use Rattle.table.proofs.check.differ.Statement.{statement}
 use Rattle.table.proofs.check.differ.Tie as tie
 
@@ -20,9 +19,6 @@ abbrev μ-loop : tie.MeasureT-loop
 
 loop-holds : tie.Need-loop-holds Inv-loop μ-loop
 loop-holds c = (omega arith, λ j l. absurd (omega arith))
-
-enum-told : tie.Need-enum-told Inv-loop μ-loop
-enum-told c = search needs
 
 returns : tie.Need-returns Inv-loop μ-loop
 returns c = let l = c .before .before .before .before .before in
@@ -52,15 +48,15 @@ differ-spec =
     (tie.spec
     Inv-loop
     μ-loop
-    (λ c κs. search needs)
+    (λ c κs. omega arith)
     loop-holds
-    (λ c κs. search needs)
-    (λ c. search needs)
-    (λ c κs. search needs)
-    enum-told
-    (λ c. search needs)
+    (λ c κs. omega arith)
+    (λ c. omega arith)
+    (λ c κs. omega arith)
+    (λ c. omega arith)
+    (λ c. omega arith)
     returns
-    (λ c. search needs)
-    (λ c. search needs)
+    (λ c. omega arith)
+    (λ c. omega arith)
     loop-again
     returns-2)

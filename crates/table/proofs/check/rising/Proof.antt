@@ -7,7 +7,6 @@ use Rattle.table.specs.Memory.{rowAt, countOf}
 use Rattle.table.specs.Check.{Rising}
 use Rattle.table.proofs.Lists.{says-yes, says-no}
 use Rattle.table.proofs.SoundLaws.{rising-more, climbs}
-use borrow.Author.Needs.{needs}
 use Rattle.table.proofs.check.rising.Statement.{statement}
 use Rattle.table.proofs.check.rising.Tie as tie
 
@@ -54,14 +53,14 @@ rising-spec =
     (tie.spec
     Inv-loop
     μ-loop
-    (λ c κs. search needs)
+    (λ c κs. omega arith)
     loop-holds
-    (λ c κs. search needs)
-    (λ c κs. search needs)
+    (λ c κs. omega arith)
+    (λ c κs. omega arith)
     returns
-    (λ c. search needs)
-    (λ c. search needs)
+    (λ c. omega arith)
+    (λ c. omega arith)
     loop-again
-    (λ c κs. search needs)
+    (λ c κs. omega arith)
     returns-2
     returns-3)

@@ -1,7 +1,6 @@
 -- `table::check::within` meets its contract. Assumes nothing.
 use native.Mathlib.Omega.{arith}
 use Rattle.table.proofs.Lists.{says-yes, says-no}
-use borrow.Author.Needs.{needs}
 use Rattle.table.proofs.check.within.Statement.{statement}
 use Rattle.table.proofs.check.within.Tie as tie
 
@@ -21,13 +20,13 @@ pub within-spec : {M : Type 1} → statement M
 within-spec =
     tie.close
     (tie.spec
-    (λ c. search needs)
-    (λ c κs. search needs)
+    (λ c. omega arith)
+    (λ c κs. omega arith)
     returns
-    (λ c. search needs)
-    (λ c κs. search needs)
+    (λ c. omega arith)
+    (λ c κs. omega arith)
     returns-2
-    (λ c. search needs)
-    (λ c κs. search needs)
+    (λ c. omega arith)
+    (λ c κs. omega arith)
     returns-3
     returns-4)

@@ -1,48 +1,22 @@
 -- `table::rows::append` meets its contract. Assumes nothing.
-use mathlib.Core.Path.{_≡_, _∙_}
-use Prim.Native.Nat.{ℕ, _+_, _-_}
 use native.Mathlib.Omega.{arith}
-use lib.ListN.{length, drop, length-drop}
-use lib.Seq.{length-take-le}
-use Rattle.table.specs.Bytes.{be8}
-use Rattle.table.specs.Memory.{rowAt, countOf}
-use Rattle.table.proofs.Parts.{lent-put}
-use Rattle.table.proofs.Writes.{appended, patched, patched-last}
-use borrow.Author.Needs.{needs}
+use Rattle.table.proofs.Writes.{appended, next-above}
 use Rattle.table.proofs.rows.append.Statement.{statement}
 use Rattle.table.proofs.rows.append.Tie as tie
 
-returns : tie.Need-returns
-returns c = let w = c .before .before .before .before .before .before .before .before .before .before in
-    let r = w .before .before in
-    let s = r .before .before .before .before .before .before .before .before in
+restore-requires : tie.Need-restore-requires
+restore-requires c κs = let s = c .before .before .before .before .before .before in
     let t = s .args .t .now in
-    let n = r .before .before .before .count .result in
-    let row = w .write .last .0 in
-    let e : n ≡ countOf t = r .before .before .before .count .ensures .0 in
-    let a = r .row-at .result in
-    let k : ℕ = a + 352 - a in
-    let l : length row ≡ k = w .write .kept .0 ∙ length-take-le k (drop a t) (omega (arith, length-drop a t)) in
-    let x : r .before .get64 .result ≡ be8 t 8 = r .before .get64 .ensures in
-    rw (c .before .before .put642 .ensures, c .before .before .before .before .before .before .put64 .ensures, lent-put t a k row l, r .row-at .ensures, x)
-    (appended t _ row _ _ _ n e (omega arith) (omega arith) (rw x at (w .write .ensures))
-    (patched-last t _ (rowAt n) row (n + 1) _ (be8 t 8 + 1) (patched t (rowAt n) row (n + 1) (omega arith) (omega arith) (omega arith) (omega arith)) (omega arith)))
+    ((s .pre .0 .0, s .pre .0 .1, rw (c .before .get64 .ensures) (next-above t (s .pre .0 .0))), s .pre .1)
+
+returns : tie.Need-returns
+returns c = let r = c .before .before .before .before .before .before in
+    let g = r .before .before in
+    let s = g .before .before .before .before .before in
+    rw (c .before .before .put64 .ensures, g .get64 .ensures)
+    (appended (s .args .t .now) _ _ _ _ (s .pre .0 .0) (s .pre .0 .2) (rw (g .get64 .ensures) at (r .restore .ensures)))
 
 pub append-spec : {M : Type 1} → statement M
 append-spec =
     tie.close
-    (tie.spec
-    (λ c κs. search needs)
-    (λ c κs. search needs)
-    (λ c. search needs)
-    (λ c κs. search needs)
-    (λ c. search needs)
-    (λ c. search needs)
-    (λ c. search needs)
-    (λ c. search needs)
-    (λ c κs. search needs)
-    (λ c. search needs)
-    (λ c κs. search needs)
-    (λ c κs. search needs)
-    (λ c. search needs)
-    returns)
+    (tie.spec (λ c κs. omega arith) (λ c. omega arith) restore-requires (λ c κs. omega arith) (λ c. omega arith) returns)

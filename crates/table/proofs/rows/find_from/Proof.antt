@@ -1,13 +1,11 @@
 -- `table::rows::find_from` meets its contract. The loop's invariant: no row passed has the key. Assumes nothing.
 use mathlib.Core.Path.{_≡_, sym, _∙_}
-use mathlib.Core.Bool.{true}
 use Prim.Native.Nat.{ℕ, _-_, _≤_, _<_}
 use native.Mathlib.Omega.{arith}
 use borrow.Author.Count.{below-more}
-use Rattle.wire.proofs.Laws.{never}
 use Rattle.table.specs.Memory.{countOf}
 use Rattle.table.specs.Check.{Has}
-use borrow.Author.Needs.{needs}
+use Rattle.table.proofs.Lists.{refuted}
 use Rattle.table.proofs.rows.find_from.Statement.{statement}
 use Rattle.table.proofs.rows.find_from.Tie as tie
 
@@ -30,7 +28,7 @@ loop-again c = let l = c .before .before .before .before in
     let a = l .before .before .before .before .args in (
       omega arith,
       below-more (λ (j : ℕ). a .from ≤ j → Has (a .t .now) (a .k .now) j → ⊥) (l .loop .i) (l .loop .inv .1)
-          (λ h q. let y : c .before .same-key .result .equal ≡ true = c .before .same-key .ensures .1 (c .before .before .key .ensures ∙ q) in never (cc)),
+          (λ h q. refuted (c .before .same-key .ensures) (c .if1 .left) (c .before .before .key .ensures ∙ q)),
     )
 
 returns-2 : tie.Need-returns-2 Inv-loop μ-loop
@@ -43,12 +41,12 @@ find-from-spec =
     (tie.spec
     Inv-loop
     μ-loop
-    (λ c κs. search needs)
+    (λ c κs. omega arith)
     loop-holds
-    (λ c κs. search needs)
-    (λ c κs. search needs)
+    (λ c κs. omega arith)
+    (λ c κs. omega arith)
     returns
-    (λ c. search needs)
-    (λ c. search needs)
+    (λ c. omega arith)
+    (λ c. omega arith)
     loop-again
     returns-2)

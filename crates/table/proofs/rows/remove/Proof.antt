@@ -7,7 +7,6 @@ use Rattle.table.specs.Bytes.{part}
 use lib.ListN.{length}
 use Rattle.table.proofs.Parts.{length-part}
 use Rattle.table.proofs.Writes.{lessened, patched}
-use borrow.Author.Needs.{needs}
 use Rattle.table.proofs.rows.remove.Statement.{statement}
 use Rattle.table.proofs.rows.remove.Tie as tie
 
@@ -26,12 +25,12 @@ pub remove-spec : {M : Type 1} → statement M
 remove-spec =
     tie.close
     (tie.spec
-    (λ c κs. search needs)
-    (λ c κs. search needs)
-    (λ c. search needs)
-    (λ c κs. search needs)
-    (λ c κs. search needs)
-    (λ c. search needs)
-    (λ c κs. search needs)
-    (λ c. search needs)
+    (λ c κs. omega arith)
+    (λ c κs. omega arith)
+    (λ c. omega arith)
+    (λ c κs. omega arith)
+    (λ c κs. omega arith)
+    (λ c. omega arith)
+    (λ c κs. omega arith)
+    (λ c. omega arith)
     returns)

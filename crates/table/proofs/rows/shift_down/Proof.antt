@@ -6,7 +6,6 @@ use lib.ListN.{length, length-set}
 use Rattle.table.specs.Bytes.{part}
 use Rattle.table.specs.Write.{put}
 use Rattle.table.proofs.Parts.{put-none, shift-more}
-use borrow.Author.Needs.{needs}
 use Rattle.table.proofs.rows.shift_down.Statement.{statement}
 use Rattle.table.proofs.rows.shift_down.Tie as tie
 
@@ -47,11 +46,11 @@ shift-down-spec =
     Inv-loop
     μ-loop
     loop-holds
-    (λ c. search needs)
-    (λ c. search needs)
-    (λ c. search needs)
-    (λ c. search needs)
-    (λ c. search needs)
+    (λ c. omega arith)
+    (λ c. omega arith)
+    (λ c. omega arith)
+    (λ c. omega arith)
+    (λ c. omega arith)
     loop-again
-    (λ c. search needs)
+    (λ c. omega arith)
     returns)

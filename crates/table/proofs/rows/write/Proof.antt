@@ -1,23 +1,29 @@
 -- `table::rows::write` meets its contract. Assumes nothing.
+use native.Mathlib.Omega.{arith}
 use Rattle.table.proofs.Writes.{written}
-use borrow.Author.Needs.{needs}
 use Rattle.table.proofs.rows.write.Statement.{statement}
 use Rattle.table.proofs.rows.write.Tie as tie
 
 returns : tie.Need-returns
-returns c = let s = c .before .before .before .before .before .before .before .before .before .before .before .before .before .before .before .before .before .before .before .before .before .before .before .before .before .before .before in
-    rw (c .before .before .copy-at2 .ensures, c .before .before .before .before .before .before .copy-at .ensures, c .before .before .before .before .before .before .before .before .before .before .put644 .ensures, c .before .before .before .before .before .before .before .before .before .before .before .before .before .before .put643 .ensures, c .before .before .before .before .before .before .before .before .before .before .before .before .before .before .before .before .before .before .put642 .ensures, c .before .before .before .before .before .before .before .before .before .before .before .before .before .before .before .before .before .before .before .before .before .before .put64 .ensures)
+returns c = let v = c .before .before in
+    let k = v .before .before .before .before in
+    let n₄ = k .before .before .before .before in
+    let n₃ = n₄ .before .before .before .before in
+    let n₂ = n₃ .before .before .before .before in
+    let n₁ = n₂ .before .before .before .before in
+    let s = n₁ .before .before .before .before .before in
+    rw (v .copy-at2 .ensures, k .copy-at .ensures, n₄ .put644 .ensures, n₃ .put643 .ensures, n₂ .put642 .ensures, n₁ .put64 .ensures)
     (written (s .args .row .now) _ _ (s .args .version) (s .args .deadline) (s .pre .0) (s .pre .1 .0) (s .pre .1 .1) (s .fits .version .fits) (s .fits .deadline .fits))
 
 pub write-spec : {M : Type 1} → statement M
 write-spec =
     tie.close
     (tie.spec
-    (λ c κs. search needs)
-    (λ c κs. search needs)
-    (λ c κs. search needs)
-    (λ c κs. search needs)
-    (λ c κs. search needs)
-    (λ c κs. search needs)
-    (λ c. search needs)
+    (λ c κs. omega arith)
+    (λ c κs. omega arith)
+    (λ c κs. omega arith)
+    (λ c κs. omega arith)
+    (λ c κs. omega arith)
+    (λ c κs. omega arith)
+    (λ c. omega arith)
     returns)

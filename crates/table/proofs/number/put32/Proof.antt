@@ -1,0 +1,48 @@
+-- `table::number::put32` meets its contract. Assumes nothing.
+use mathlib.Core.Path.{_≡_}
+use Prim.Native.Nat.{suc, _+_}
+use native.Mathlib.Omega.{arith}
+use lib.ListN.{length-set}
+use lib.Seq.{sets-eq}
+use Rattle.table.specs.Write.{put, half}
+use Rattle.table.proofs.number.put32.Statement.{statement}
+use Rattle.table.proofs.number.put32.Tie as tie
+
+slice-write-t-2 : tie.Need-slice-write-t-2
+slice-write-t-2 c = simp length-set (omega arith)
+
+slice-write-t-3 : tie.Need-slice-write-t-3
+slice-write-t-3 c = simp length-set (omega arith)
+
+slice-write-t-4 : tie.Need-slice-write-t-4
+slice-write-t-4 c = simp length-set (omega arith)
+
+same-length : tie.Need-same-length
+same-length c = simp length-set
+
+returns : tie.Need-returns
+unfolding put
+returns c =
+    let a = c .args .a in
+    let e₁ : suc a ≡ a + 1 = omega arith in
+    let e₂ : suc (suc a) ≡ a + 2 = omega arith in
+    let e₃ : suc (suc (suc a)) ≡ a + 3 = omega arith in
+    cc (sets-eq (half (c .args .x)) (c .args .t .now) a (omega arith))
+
+pub put32-spec : {M : Type 1} → statement M
+put32-spec =
+    tie.close
+    (tie.spec
+    (λ c. omega arith)
+    (λ c. omega arith)
+    (λ c. omega arith)
+    (λ c. omega arith)
+    slice-write-t-2
+    (λ c. omega arith)
+    (λ c. omega arith)
+    slice-write-t-3
+    (λ c. omega arith)
+    (λ c. omega arith)
+    slice-write-t-4
+    same-length
+    returns)

@@ -1,17 +1,16 @@
 -- Which bytes a row depends on, and what the row functions' writes leave. Assumes nothing.
 use mathlib.Core.Path.{_≡_, refl, ap, _∙_}
-use mathlib.Core.List.{List, [], _++_}
-use Prim.Native.Nat.{ℕ, suc, _+_, _*_, _/_, _%_, _≤_, _<_, _^_, min}
+use mathlib.Core.List.{List, []}
+use Prim.Native.Nat.{ℕ, _+_, _*_, _/_, _%_, _≤_, _<_, _^_, min}
 use native.Mathlib.Omega.{arith}
 use lib.ListN.{length, getD}
-use lib.Seq.{sets, sets-eq, length-sets}
 use borrow.Author.Tests.{eq-eqb}
 use Rattle.map.specs.State.{Entry, State}
 use Rattle.map.specs.Step.{mostKeys}
-use Rattle.table.specs.Bytes.{be4, be8}
+use Rattle.table.specs.Bytes.{be8}
 use Rattle.table.specs.Memory.{size, rowAt, entry, entryOf, countOf, entriesOf, stateOf}
 use Rattle.table.specs.Found.{entryAt}
-use Rattle.table.specs.Write.{put, half, digits}
+use Rattle.table.specs.Write.{put, digits}
 use Rattle.table.proofs.Lists.{length-upto, getD-upto}
 use Rattle.table.proofs.Parts.{part-ext, length-put, put-before, put-after, put-in}
 
@@ -22,31 +21,6 @@ be8-same t u a b h =
     let e : a + 0 ≡ a = omega arith in
     let f : b + 0 ≡ b = omega arith in
     cc (h 0 (omega arith), h 1 (omega arith), h 2 (omega arith), h 3 (omega arith), h 4 (omega arith), h 5 (omega arith), h 6 (omega arith), h 7 (omega arith))
-
-pub halves : (t : List ℕ) (a : ℕ) → be4 t a * 4294967296 + be4 t (a + 4) ≡ be8 t a
-unfolding be8
-halves t a =
-    let e₁ : a + 2 + 1 ≡ a + 3 = omega arith in
-    let e₂ : a + 4 + 1 ≡ a + 5 = omega arith in
-    let e₃ : a + 4 + 2 ≡ a + 6 = omega arith in
-    let e₄ : a + 6 + 1 ≡ a + 7 = omega arith in
-    rw (e₁, e₂, e₃, e₄) (omega arith)
-
-digits-halves : (x : ℕ) → digits x ≡ half (x / 4294967296) ++ half x
-unfolding digits
-digits-halves x =
-    let e₁ : x / 4294967296 / 16777216 ≡ x / 72057594037927936 = omega arith in
-    let e₂ : x / 4294967296 / 65536 ≡ x / 281474976710656 = omega arith in
-    let e₃ : x / 4294967296 / 256 ≡ x / 1099511627776 = omega arith in
-    cc
-
-pub put-halves : (t : List ℕ) (a x : ℕ) → a + 8 ≤ length t → put (put t a (half (x / 4294967296))) (a + 4) (half x) ≡ put t a (digits x)
-unfolding put
-put-halves t a x h =
-    let s : List ℕ = half (x / 4294967296) in
-    let e : suc (suc (suc (suc a))) ≡ a + 4 = omega arith in
-    rw (← sets-eq s t a (omega arith), ← sets-eq (half x) (sets t a s) (a + 4) (omega (arith, length-sets t a s)), ← e, digits-halves x)
-    (sets-eq (s ++ half x) t a h)
 
 spelt : (x : ℕ) → x < 2 ^ 64 → be8 (digits x) 0 ≡ x
 unfolding be8 digits

@@ -8,13 +8,6 @@ unfoldable pub be8 : List ℕ → ℕ → ℕ
 be8 t a =
     (((((((getD t a 0 * 256 + getD t (a + 1) 0) * 256 + getD t (a + 2) 0) * 256 + getD t (a + 3) 0) * 256 + getD t (a + 4) 0) * 256 + getD t (a + 5) 0) * 256 + getD t (a + 6) 0) * 256 + getD t (a + 7) 0)
 
--- those that 2 bytes and 4 bytes spell
-abbrev pub be2 : List ℕ → ℕ → ℕ
-be2 t a = getD t a 0 * 256 + getD t (a + 1) 0
-
-abbrev pub be4 : List ℕ → ℕ → ℕ
-be4 t a = be2 t a * 65536 + be2 t (a + 2)
-
 -- the n elements from index a on
 unfoldable pub part : List ℕ → ℕ → ℕ → List ℕ
 part xs a n = take n (drop a xs)

@@ -18,10 +18,6 @@ unfoldable pub digits : ℕ → List ℕ
 digits x =
     x / 72057594037927936 % 256 ∷ x / 281474976710656 % 256 ∷ x / 1099511627776 % 256 ∷ x / 4294967296 % 256 ∷ x / 16777216 % 256 ∷ x / 65536 % 256 ∷ x / 256 % 256 ∷ x % 256 ∷ []
 
--- the lower four of them
-abbrev pub half : ℕ → List ℕ
-half x = x / 16777216 % 256 ∷ x / 65536 % 256 ∷ x / 256 % 256 ∷ x % 256 ∷ []
-
 -- the bytes of a row, and what Form asks of them
 pub record Written (row k v : List ℕ) (n d : ℕ) : Type 0 where
   pub here : entryOf row 0 ≡ entry k v n d

@@ -1,6 +1,6 @@
 #!/usr/bin/env python3
-"""Holds docs/CLAIMS.md to the files: each edit, file and function that it names is there, and its table of public functions lists the edits and
-the wrong programs that there are. With --write, that table is written again."""
+"""Holds docs/CLAIMS.md to the files: each edit, file and function that it names is there, its table of public functions lists the edits and the
+wrong programs that there are, and each public function has two wrong programs or more. With --write, that table is written again."""
 import glob
 import os
 import re
@@ -16,14 +16,31 @@ def crates():
         return [line.split(':')[0] for line in lines if ':' in line]
 
 
+def wrong_programs(crate):
+    """How many wrong programs each function of a crate has."""
+    path = f'tests/wrong/{crate}.txt'
+    if not os.path.exists(path):
+        return Counter()
+    with open(path, encoding='utf-8') as lines:
+        return Counter(line[2:].split(': ')[0] for line in lines if line.startswith('# '))
+
+
+def public_functions(crate):
+    """The public functions of a library, those of a type with its name in front."""
+    for path in glob.glob(f'crates/{crate}/src/*.rt'):
+        kind = ''
+        with open(path, encoding='utf-8') as lines:
+            for line in lines:
+                kind = (re.findall(r'^impl (\w+)', line) or [kind if line.startswith((' ', '\n', '}')) else ''])[0]
+                name = re.match(r'( *)pub (?:extern "C" )?fn (\w+)', line)
+                if name:
+                    yield f'{kind}::{name[2]}' if name[1] else name[2]
+
+
 def rows():
     for crate in crates():
         edits = sorted(os.path.basename(e)[:-5] for e in glob.glob(f'crates/{crate}/must-fail/*.edit'))
-        wrong = Counter()
-        path = f'tests/wrong/{crate}.txt'
-        if os.path.exists(path):
-            with open(path, encoding='utf-8') as lines:
-                wrong = Counter(line[2:].split(': ')[0] for line in lines if line.startswith('# '))
+        wrong = wrong_programs(crate)
         if edits or wrong:
             yield f"| `{crate}` | {', '.join(f'`{e}`' for e in edits)} | {', '.join(f'`{f}` {n}' for f, n in wrong.items())} |\n"
 
@@ -47,6 +64,8 @@ def main():
         return []
     faults = [] if text[at:] == ''.join(rows()) else ['the table of public functions is not that of the files (tests/claims.py --write)']
     names = set(crates())
+    for crate in crates():
+        faults += [f'{crate}, {f}: fewer than two wrong programs' for f in public_functions(crate) if wrong_programs(crate)[f] < 2]
     for row in text[:at].splitlines():
         folder = None
         for word in re.findall(r'`([^`]+)`', row):

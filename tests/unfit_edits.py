@@ -4,11 +4,22 @@ import glob
 import re
 import sys
 
-unfit = []
-for path in sorted(glob.glob('target/must-fail/*/*/.log')):
+
+def first_error(path):
+    """The first error of a log, with the lines behind it that go on with it, which begin with two blanks."""
     with open(path, encoding='utf-8', errors='replace') as log:
-        first = next((line for line in log if re.search(r'\berror\b', line)), '')
-    if re.search(r'has no `Need-|has no field|is not in scope', first):
-        unfit.append('/'.join(path.split('/')[-3:-1]))
+        lines = log.read().splitlines()
+    at = next((i for i, line in enumerate(lines) if re.search(r'\berror\b', line)), len(lines))
+    end = at + 1
+    while end < len(lines) and lines[end].startswith('  '):
+        end += 1
+    return ' '.join(lines[at:end])
+
+
+unfit = [
+    '/'.join(path.split('/')[-3:-1])
+    for path in sorted(glob.glob('target/must-fail/*/*/.log'))
+    if re.search(r'has no `Need-|has no\s+field|is not in scope', first_error(path))
+]
 print(' '.join(unfit))
 sys.exit(1 if unfit else 0)

@@ -2,7 +2,7 @@
 use mathlib.Core.Path.{_≡_, refl, ap₂, _∙_}
 use mathlib.Core.List.{List, [], _∷_}
 use mathlib.Core.Bool.{Bool, true, false, cond}
-use mathlib.Core.Option.{Option, some}
+use mathlib.Core.Option.{Option, none, some}
 use Prim.Native.Nat.{ℕ, suc, _≤_, _<_}
 use native.Mathlib.Omega.{arith}
 use lib.ListN.{length, length-append}
@@ -15,7 +15,7 @@ use Rattle.message.proofs.Sizes.{small}
 use Rattle.map.specs.State.{Entry, State, without, hasKey}
 use Rattle.map.specs.Table.{Sizes, Issued, OtherKey, OtherVersion, IsTable}
 use Rattle.map.specs.Step as map
-use Rattle.map.specs.Step.{Context, Change, Outcome, answered, mostKeys, lastVersion, deadline, entry, stored, isNone, held, full, planned, answer, act, step}
+use Rattle.map.specs.Step.{Context, Change, Outcome, answered, mostKeys, lastVersion, deadline, entry, stored, isNone, held, versionOf, full, planned, answer, act, step}
 use Rattle.map.specs.Reply.{flat, pieces}
 use Rattle.map.proofs.Each.{each-without, pairs-without}
 use Rattle.map.proofs.Keeps.{keeps-table}
@@ -81,6 +81,10 @@ abbrev number : Bool → Bool → ℕ
 number full left = cond full 10 (cond left 0 11)
 
 -- the step of a request without a name
+none-version : (f : Option Entry) → isNone (versionOf f) ≡ isNone f
+none-version none = refl
+none-version (some e) = refl
+
 module _ (c : Context) (q : Request) (st : State) where
   pub step-named : isEmpty (q .name) ≡ false → step c q st ≡ map.refused 9
   unfolding step
@@ -91,10 +95,10 @@ module _ (c : Context) (q : Request) (st : State) where
   step-acts e p = rw (e, p)
 
   -- the change that is planned, by what the code holds: it is refused, or it is made
-  module _ (o : Option Entry) (n : isNone o ≡ isNone (held q st)) where
+  module _ (o : Option ℕ) (n : o ≡ versionOf (held q st)) where
     full-same : isFull st o ≡ full q st
     unfolding isFull full
-    full-same = rw n
+    full-same = rw (n, none-version)
 
     pub act-refused : (d : Change) → (refusalOf st o d ≡ 0 → ⊥) → (act c q st (answer q st) d ≡ map.refused (refusalOf st o d)) × (refusalOf st o d ≤ 11)
     unfolding refusalOf act
@@ -123,7 +127,7 @@ module _ (c : Context) (q : Request) (st : State) where
         go false false e = absurd (omega arith)
 
 -- a store that is not refused has a version left
-pub version-left : (st : State) (o : Option Entry) → refusalOf st o map.store ≡ 0 → st .last < lastVersion
+pub version-left : (st : State) (o : Option ℕ) → refusalOf st o map.store ≡ 0 → st .last < lastVersion
 unfolding refusalOf
 version-left st o e = go (isFull st o) (ltb (st .last) lastVersion) refl e
   where

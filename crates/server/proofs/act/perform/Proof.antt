@@ -7,8 +7,8 @@ use Rattle.message.proofs.Sizes.{request-small}
 use Rattle.map.specs.Step as map
 use Rattle.map.specs.State.{State}
 use Rattle.table.specs.Memory.{stateOf}
-use Rattle.plan.specs.Plan.{asPlan, asChange, heldEntry, refusalOf, Holds}
-use Rattle.plan.proofs.PlanLaws.{plan-held, none-same}
+use Rattle.plan.specs.Plan.{asPlan, asChange, heldVersion, refusalOf, Holds}
+use Rattle.plan.proofs.PlanLaws.{version-held}
 use Rattle.server.specs.Act.{at, after, Planned, Agreed}
 use Rattle.server.proofs.StepLaws.{does-refused, does-answered, step-named, step-acts, act-refused, act-made, named, unnamed}
 use borrow.Author.Needs.{needs}
@@ -52,9 +52,13 @@ module _ (c : tie.After-refusal-of) where
   holds : Holds (start .args .t .now) (asked start .args .key) (found .held-in .result)
   holds = subst (λ k. Holds (start .args .t .now) k (found .held-in .result)) (found .before .key-in .ensures) (found .held-in .ensures)
 
+  same : heldVersion (found .held-in .result) ≡ map.versionOf (map.held (asked start) (state start))
+  unfolding map.held
+  same = version-held _ _ (found .held-in .result) holds
+
   planned : map.planned (asked start) (state start) ≡ asPlan (c .before .before .plan-of .result)
-  unfolding map.planned map.held
-  planned = sym (c .before .before .plan-of .ensures ∙ plan-held _ _ _ _ (found .held-in .result) holds)
+  unfolding map.planned
+  planned = sym (c .before .before .plan-of .ensures ∙ rw same)
 
   given : Planned (start .args .t .now) (asked start) (found .held-in .result) (c .before .before .plan-of .result .status)
   given = record { sound = start .pre .0 .sound; valid = start .pre .1; holds = holds; status = rw planned }
@@ -65,10 +69,6 @@ module _ (c : tie.After-refusal-of) where
       let i = found .before .before .before in
       let n = i .before .name-in in
       step-acts _ _ _ (rw (← (n .ensures)) (unnamed (n .result .now) (i .if1 .left))) (rw planned)
-
-  same : map.isNone (heldEntry (found .held-in .result)) ≡ map.isNone (map.held (asked start) (state start))
-  unfolding map.held
-  same = none-same _ _ (found .held-in .result) holds
 
   refused : (c .refusal-of .result ≡ 0 → ⊥)
       → (map.step (at (start .args .second .0)) (asked start) (state start) ≡ map.refused (c .refusal-of .result)) × (c .refusal-of .result ≤ 11)

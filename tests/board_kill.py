@@ -107,25 +107,6 @@ def by_clock(scene, count, seed=7):
     return count
 
 
-def same_number(bench):
-    """A file left under the very name that the next run will use: BOARD is process 1 of its own space, as in a container."""
-    scene = Scene(bench, 'left under the same process number', SHORT, OLD)
-    words = ['--pid', '--fork', *scene.command()]
-    if STAND_IN or start('unshare', ['--pid', '--fork', 'true']).ended != 0:
-        return 0
-    for left in (b'', b'rubbish\n', OLD + b'0' * 100_000):
-        place(scene.table, scene.old)
-        write_file(scene.table + '.new-1', left)
-        case = f'TABLE.new-1 left with {len(left)} bytes, and board is process 1'
-        done = start('unshare', words)
-        demand_calm(done, case)
-        now = read_file(scene.table)
-        demand(now == scene.new, case, f'TABLE is {short(now)}')
-        demand(set(beside(scene.table)) <= {'table.new-1'}, case, f'left beside TABLE: {beside(scene.table)}')
-    place(scene.table + '.new-1', ABSENT)
-    return 3
-
-
 def at_once(bench, rounds):
     """Several runs over one TABLE at once: each finds a whole table, and the last to store leaves one that some of them make in a row."""
     scene = Scene(bench, 'several at once', SHORT, OLD)
@@ -163,7 +144,6 @@ def part():
         scene = random_scene(bench, 1002, 3000)
         kills = by_clock(scene, 2000 if LONG else 100)
         told.append(f'by the clock: {kills} kills, {scene.seen[scene.old]} old, {scene.seen[scene.new]} new')
-        told.append(f'left under the same name: {same_number(bench)}')
         told.append(f'four at once: {0 if STAND_IN else at_once(bench, 200 if LONG else 10)}')
     return '; '.join(told)
 

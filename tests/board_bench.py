@@ -5,7 +5,7 @@ import statistics
 import subprocess
 
 from board_frames import GET, MOST_KEYS, PUT, entry_line, head_line, request
-from board_run import BOARD, Bench, REFERENCE, place, read_file, write_file
+from board_run import Bench, PROGRAM, REFERENCE, place, read_file, write_file
 
 MEASURE = os.environ['MEASURE']
 LINES, ROUNDS = 200_000, 11
@@ -38,17 +38,17 @@ def served(bench, program):
     """Serves the file from the full table; gives the seconds."""
     table = bench.path(program, 'table')
     place(table, full_table())
-    return seconds([program, 'serve', bench.path(BOARD, 'requests'), table], bench.path(program, 'replies'))
+    return seconds([program, 'serve', bench.path(PROGRAM, 'requests'), table], bench.path(program, 'replies'))
 
 
 def row(bench, name, requests):
-    write_file(bench.path(BOARD, 'requests'), requests)
+    write_file(bench.path(PROGRAM, 'requests'), requests)
     times = {'board': [], 'reference': [], 'copy': []}
     for _ in range(ROUNDS):
-        times['board'].append(served(bench, BOARD))
+        times['board'].append(served(bench, PROGRAM))
         times['reference'].append(served(bench, REFERENCE))
-        times['copy'].append(seconds(['/bin/cat', bench.path(BOARD, 'requests'), bench.path(REFERENCE, 'replies')], bench.path(BOARD, 'copy')))
-    replies = [read_file(bench.path(program, 'replies')) for program in (BOARD, REFERENCE)]
+        times['copy'].append(seconds(['/bin/cat', bench.path(PROGRAM, 'requests'), bench.path(REFERENCE, 'replies')], bench.path(PROGRAM, 'copy')))
+    replies = [read_file(bench.path(program, 'replies')) for program in (PROGRAM, REFERENCE)]
     assert replies[0] == replies[1], 'the replies differ'
     board, reference, copy = (statistics.median(times[name]) for name in ('board', 'reference', 'copy'))
     print(f'{name:22}{len(requests) / 1e6:9.1f}{len(replies[0]) / 1e6:9.1f}{board * 1e3:10.0f}{reference * 1e3:11.0f}{copy * 1e3:8.0f}'

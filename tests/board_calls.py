@@ -7,7 +7,7 @@ import os
 
 from board_frames import GET_WITH_VERSION, PUT, entry_line, head_line, key_name, request
 from board_random import Maker
-from board_run import BOARD, Bench, LONG, REFERENCE, STAND_IN, beside, demand, demand_calm, place, read_file, run_part, short, start, traced, \
+from board_run import BOARD, Bench, LONG, PROGRAM, REFERENCE, STAND_IN, beside, demand, demand_calm, place, read_file, run_part, short, start, traced, \
     write_file
 
 KILL_AT = os.environ['KILL_AT']
@@ -33,7 +33,7 @@ class Scene:
     def run(self, words):
         """Runs under kill_at over the old TABLE; gives the outcome and what kill_at told."""
         place(self.table, OLD)
-        outcome, told = traced(KILL_AT, [*words, BOARD, 'serve', self.requests, self.table])
+        outcome, told = traced(KILL_AT, [*words, PROGRAM, 'serve', self.requests, self.table])
         outcome.table, outcome.beside = read_file(self.table), beside(self.table)
         for name in outcome.beside:
             os.unlink(os.path.join(os.path.dirname(self.table), name))

@@ -10,8 +10,8 @@ import time
 
 from board_frames import GET_WITH_VERSION, PUT, REMOVE, entry_line, head_line, key_name, request
 from board_random import Maker
-from board_run import (ABSENT, BOARD, Bench, LONG, REFERENCE, STAND_IN, beside, demand, demand_calm, place, read_file, run_part, short, start,
-                       traced, write_file)
+from board_run import (ABSENT, BOARD, Bench, LONG, PROGRAM, REFERENCE, STAND_IN, beside, demand, demand_calm, place, read_file, run_part, short,
+                       start, traced, wait_for_end, write_file)
 
 KILL_AT = os.environ['KILL_AT']
 DISTURBED, REFUSED, ENDED = 0, 2, 3
@@ -42,24 +42,20 @@ class Scene:
         demand_calm(done, f'{self.name} with the second program')
         return done.out, read_file(path)
 
-    def command(self):
-        return [BOARD, 'serve', self.requests, self.table]
+    def command(self, program=BOARD):
+        return [program, 'serve', self.requests, self.table]
 
     def check(self, moment):
-        """TABLE is old or new, and BOARD goes on from it whatever lies beside."""
+        """TABLE is old or new, and BOARD goes on from it and removes what lies beside."""
         case = f'{self.name}, killed {moment}'
         now = read_file(self.table)
         demand(now in self.seen, case, f'TABLE is neither the old nor the new one: {short(now)}')
         self.seen[now] += 1
-        left = beside(self.table)
         done = start(BOARD, ['serve', self.next, self.table])
         demand_calm(done, f'{case}, the run after it')
         made = done.out, read_file(self.table)
         demand(made == self.after[now], f'{case}, the run after it', f'{short(made[0])} {short(made[1])}, wanted {short(self.after[now][0])}')
-        demand(STAND_IN or beside(self.table) == left, f'{case}, the run after it', f'beside TABLE {beside(self.table)}, before {left}')
-        for name in left:
-            if os.path.exists(self.bench.path(BOARD, name)):
-                os.unlink(self.bench.path(BOARD, name))
+        demand(STAND_IN or beside(self.table) == [], f'{case}, the run after it', f'left beside TABLE: {beside(self.table)}')
 
 
 def moments(stops):
@@ -74,7 +70,7 @@ def moments(stops):
 def by_calls(scene):
     """Kills at the stops and once not at all; gives the number of kills, or nothing where ptrace is refused."""
     place(scene.table, scene.old)
-    done, told = traced(KILL_AT, ['kill', str(10 ** 9), *scene.command()])
+    done, told = traced(KILL_AT, ['kill', str(10 ** 9), *scene.command(PROGRAM)])
     if done.ended == REFUSED:
         return None
     demand(done.ended == ENDED, scene.name, f'kill_at ended with {done.ended}')
@@ -82,7 +78,7 @@ def by_calls(scene):
     chosen = moments(int(told[0]))
     for at in chosen:
         place(scene.table, scene.old)
-        done = start(KILL_AT, ['kill', str(at), *scene.command()])
+        done = start(KILL_AT, ['kill', str(at), *scene.command(PROGRAM)])
         demand(done.ended in (DISTURBED, ENDED), scene.name, f'kill_at ended with {done.ended}')
         scene.check(f'at stop {at} (kill_at kill {at} board serve REQUESTS TABLE)')
     demand(scene.seen[scene.new] >= 2 and scene.seen[scene.old] >= 1, scene.name, 'old and new were not both seen')
@@ -102,43 +98,26 @@ def by_clock(scene, count, seed=7):
         with subprocess.Popen(scene.command(), stdout=subprocess.DEVNULL, stderr=subprocess.DEVNULL) as child:
             time.sleep(moment)
             child.send_signal(signal.SIGKILL)
+        wait_for_end(scene.table)
         scene.check(f'after {moment * 1000:.2f} ms')
     demand(scene.seen[scene.old] >= 1, scene.name, 'no kill came before the end')
     return count
 
 
-def same_number(bench):
-    """A file left under the very name that the next run will use: BOARD is process 1 of its own space, as in a container."""
-    scene = Scene(bench, 'left under the same process number', SHORT, OLD)
-    words = ['--pid', '--fork', *scene.command()]
-    if STAND_IN or start('unshare', ['--pid', '--fork', 'true']).ended != 0:
-        return 0
-    for left in (b'', b'rubbish\n', OLD + b'0' * 100_000):
-        place(scene.table, scene.old)
-        write_file(scene.table + '.new-1', left)
-        case = f'TABLE.new-1 left with {len(left)} bytes, and board is process 1'
-        done = start('unshare', words)
-        demand_calm(done, case)
-        now = read_file(scene.table)
-        demand(now == scene.new, case, f'TABLE is {short(now)}')
-        demand(set(beside(scene.table)) <= {'table.new-1'}, case, f'left beside TABLE: {beside(scene.table)}')
-    place(scene.table + '.new-1', ABSENT)
-    return 3
-
-
 def at_once(bench, rounds):
-    """Several runs over one TABLE at once: each finds a whole table, and the last to store leaves one that some of them make in a row."""
+    """Several runs over one TABLE at once: one waits for the other, and each goes on from the table that the last one left."""
     scene = Scene(bench, 'several at once', SHORT, OLD)
-    several, possible = 4, [OLD]
+    several, wanted = 4, OLD
     for _ in range(several):
-        possible.append(scene.expected(scene.requests, possible[-1])[1])
+        wanted = scene.expected(scene.requests, wanted)[1]
+    waits = b'board: waiting for another run in the folder of ' + scene.table.encode() + b'\n'
     for _ in range(rounds):
         place(scene.table, OLD)
         runs = [subprocess.Popen(scene.command(), stdout=subprocess.DEVNULL, stderr=subprocess.PIPE) for _ in range(several)]
         for run in runs:
             _, said = run.communicate(timeout=60)
-            demand(said == b'' and run.returncode >= 0, scene.name, f'one says {short(said)}')
-        demand(read_file(scene.table) in possible[1:], scene.name, f'TABLE is {short(read_file(scene.table))}')
+            demand(said in (b'', waits) and run.returncode == 0, scene.name, f'one says {short(said)}')
+        demand(read_file(scene.table) == wanted, scene.name, f'TABLE is {short(read_file(scene.table))}')
         demand(beside(scene.table) == [], scene.name, f'left beside TABLE: {beside(scene.table)}')
     return rounds
 
@@ -163,7 +142,6 @@ def part():
         scene = random_scene(bench, 1002, 3000)
         kills = by_clock(scene, 2000 if LONG else 100)
         told.append(f'by the clock: {kills} kills, {scene.seen[scene.old]} old, {scene.seen[scene.new]} new')
-        told.append(f'left under the same name: {same_number(bench)}')
         told.append(f'four at once: {0 if STAND_IN else at_once(bench, 200 if LONG else 10)}')
     return '; '.join(told)
 

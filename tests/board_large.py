@@ -5,7 +5,7 @@ import random
 import subprocess
 
 from board_frames import CONTAINS_KEY, GET, GET_WITH_VERSION, PUT, REMOVE, key_name, request
-from board_run import BOARD, Bench, Difference, REFERENCE, SECONDS, demand, place, read_file, run_part, short, write_file
+from board_run import Bench, Difference, PROGRAM, REFERENCE, SECONDS, demand, place, read_file, run_part, short, write_file
 
 MEASURE = os.environ['MEASURE']
 MORE_KIB = 512  # how much the peak may differ between a file of one line and a long one; chance alone gives some
@@ -40,12 +40,12 @@ def measure(bench, program, table):
 def large(bench, case, requests, table):
     """Both programs over one large file; gives what they took."""
     write_file(os.path.join(bench.top, 'requests'), requests)
-    board, reference = (measure(bench, program, table) for program in (BOARD, REFERENCE))
-    paths = [bench.path(program, 'replies') for program in (BOARD, REFERENCE)]
+    board, reference = (measure(bench, program, table) for program in (PROGRAM, REFERENCE))
+    paths = [bench.path(program, 'replies') for program in (PROGRAM, REFERENCE)]
     demand(filecmp.cmp(*paths, shallow=False), case, 'the replies differ; the file is made by tests/board_large.py from its own seed')
     demand(os.path.getsize(paths[1]) > 0, case, 'no replies')
     if table:
-        tables = [read_file(bench.path(program, 'table')) for program in (BOARD, REFERENCE)]
+        tables = [read_file(bench.path(program, 'table')) for program in (PROGRAM, REFERENCE)]
         demand(tables[0] == tables[1] and tables[1], case, f'TABLE {short(tables[0])}, wanted {short(tables[1])}')
     return board, reference
 
@@ -53,7 +53,7 @@ def large(bench, case, requests, table):
 def peak_of_small(bench, table):
     """The peak over a file of one line that fills the reply room, the least that any run takes."""
     write_file(os.path.join(bench.top, 'requests'), request(PUT))
-    return measure(bench, BOARD, table)[1]
+    return measure(bench, PROGRAM, table)[1]
 
 
 def part():

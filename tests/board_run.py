@@ -2,6 +2,7 @@
 
 The expected bytes come from the second program or from the paper, never from BOARD.
 """
+import fcntl
 import filecmp
 import os
 import shutil
@@ -10,7 +11,9 @@ import sys
 import tempfile
 
 TOP = os.path.dirname(os.path.dirname(os.path.abspath(__file__)))
-BOARD = os.path.abspath(os.environ.get('BOARD', os.path.join(TOP, 'target/bin/board')))
+BOARD = os.path.abspath(os.environ.get('BOARD', os.path.join(TOP, 'board')))
+# The program below the script ./board, where system calls are counted or memory is measured.
+PROGRAM = os.path.join(TOP, 'target/bin/board') if BOARD == os.path.join(TOP, 'board') else BOARD
 REFERENCE = os.path.join(TOP, 'reference/target/release/reference')
 LONG = sys.argv[1:2] == ['long']
 # The second program may stand in for BOARD. Then the demands that it does not meet by design are left out.
@@ -85,6 +88,13 @@ def start(program, arguments, **options):
     return Outcome(done.stdout or b'', done.stderr or b'', done.returncode, None, [])
 
 
+def wait_for_end(table):
+    """Waits until no run holds the folder of TABLE: a program whose script was killed ends a moment later."""
+    folder = os.open(os.path.dirname(table), os.O_RDONLY)
+    fcntl.flock(folder, fcntl.LOCK_EX)
+    os.close(folder)
+
+
 def traced(kill_at, arguments):
     """Runs tests/kill_at; gives its outcome and the lines it wrote to file descriptor 9."""
     with tempfile.TemporaryFile() as told:
@@ -146,7 +156,7 @@ class Bench:
         shutil.rmtree(self.top)
 
     def path(self, program, name):
-        folder = 'board' if program == BOARD else 'reference'
+        folder = 'reference' if program == REFERENCE else 'board'
         return os.path.join(self.top, folder, name)
 
     def serve(self, program, requests, table=NO_TABLE, arrange=None):

@@ -1,8 +1,8 @@
 //! The program.
 //!
-//! `compare quick [SEED]` compares the library with the reference for about
-//! 100 seconds. `compare long [SEED] [MINUTES]` does it as long as said and
-//! prints the totals every minute. `compare again SEED PART ROUND` plays one
+//! `compare quick [SEED]` compares the library with the reference on a fixed
+//! number of inputs. `compare long [SEED] [MINUTES]` does it as long as said
+//! and prints the totals every minute. `compare again SEED PART ROUND` plays one
 //! round again. `compare bench` measures both.
 
 use std::process::ExitCode;
@@ -19,7 +19,6 @@ const USAGE: &str = "usage:
   compare again SEED PART ROUND
   compare bench";
 
-const QUICK: Duration = Duration::from_secs(100);
 const MINUTES: u64 = 60;
 const SEED: u64 = 1;
 
@@ -41,11 +40,11 @@ fn main() -> ExitCode {
 fn command(words: &[&str]) -> Option<bool> {
     let (name, rest) = words.split_first()?;
     match (*name, rest) {
-        ("quick", rest) if rest.len() <= 1 => Some(compared(number(rest, 0, SEED)?, QUICK, false)),
+        ("quick", rest) if rest.len() <= 1 => Some(quick(number(rest, 0, SEED)?)),
         ("long", rest) if rest.len() <= 2 => {
             let minutes = number(rest, 1, MINUTES)?;
             let time = Duration::from_secs(minutes.checked_mul(60)?);
-            Some(compared(number(rest, 0, SEED)?, time, true))
+            Some(long(number(rest, 0, SEED)?, time))
         }
         ("again", [seed, part, round]) => again(seed.parse().ok()?, part, round.parse().ok()?),
         ("bench", []) => {
@@ -75,20 +74,33 @@ fn parts() -> Vec<Part<Library>> {
     parts
 }
 
-/// Compares for this time; `often` says whether totals come every minute.
-fn compared(seed: u64, time: Duration, often: bool) -> bool {
+/// Compares on the inputs of a quick run.
+fn quick(seed: u64) -> bool {
+    let parts = parts();
+    println!("seed {seed}");
+    let found = run::all_rounds(&parts, &mut Library, seed);
+    shown(&parts, found)
+}
+
+/// Compares for this time, and prints the totals every minute.
+fn long(seed: u64, time: Duration) -> bool {
     let parts = parts();
     println!("seed {seed}, {} seconds", time.as_secs());
-    let every_minute = |totals: &Totals| {
-        if often {
-            print!("{}", totals.shown(&parts));
-            println!("{}", totals.last_line());
-        }
-    };
-    match run::for_time(&parts, &mut Library, seed, time, every_minute) {
+    let every_minute = |totals: &Totals| tell(&parts, totals);
+    let found = run::for_time(&parts, &mut Library, seed, time, every_minute);
+    shown(&parts, found)
+}
+
+fn tell(parts: &[Part<Library>], totals: &Totals) {
+    print!("{}", totals.shown(parts));
+    println!("{}", totals.last_line());
+}
+
+/// Prints what was found, and says whether all was the same.
+fn shown(parts: &[Part<Library>], found: Result<Totals, Difference>) -> bool {
+    match found {
         Ok(totals) => {
-            print!("{}", totals.shown(&parts));
-            println!("{}", totals.last_line());
+            tell(parts, &totals);
             true
         }
         Err(found) => told(&found),

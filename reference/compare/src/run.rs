@@ -1,4 +1,4 @@
-//! Plays rounds of all parts in turn for a time, and tells what was compared.
+//! Plays rounds of all parts in turn, and tells what was compared.
 
 use std::panic::{catch_unwind, AssertUnwindSafe};
 use std::time::{Duration, Instant};
@@ -9,10 +9,11 @@ use crate::subject::{ServesLines, Stores, Subject};
 use crate::trial::{Counts, Trial};
 use crate::{edges, lines, messages, serving, stored, streams, tables, values};
 
-/// One part, and how much of the time it gets.
+/// One part, and how many rounds of it a quick run plays. A long run plays
+/// the parts in the same proportion.
 pub struct Part<S> {
     pub name: &'static str,
-    pub share: u32,
+    pub rounds: u64,
     pub round: fn(&mut Trial<S>) -> Outcome,
     /// Goes into the seeds of its rounds.
     number: u64,
@@ -21,12 +22,12 @@ pub struct Part<S> {
 fn part<S>(
     number: u64,
     name: &'static str,
-    share: u32,
+    rounds: u64,
     round: fn(&mut Trial<S>) -> Outcome,
 ) -> Part<S> {
     Part {
         name,
-        share,
+        rounds,
         round,
         number,
     }
@@ -35,23 +36,23 @@ fn part<S>(
 /// Parts a to e, and h.
 pub fn parts<S: Subject>() -> Vec<Part<S>> {
     vec![
-        part(0, "messages", 20, messages::round),
-        part(1, "serving", 25, serving::round),
-        part(2, "streams", 20, streams::round),
-        part(3, "tables", 10, tables::round),
-        part(4, "values", 10, values::round),
-        part(7, "edges", 1, edges::round),
+        part(0, "messages", 10_000, messages::round),
+        part(1, "serving", 12_100, serving::round),
+        part(2, "streams", 31_400, streams::round),
+        part(3, "tables", 4_000, tables::round),
+        part(4, "values", 25_600, values::round),
+        part(7, "edges", 80, edges::round),
     ]
 }
 
 /// Part f, request files.
 pub fn lines_part<S: ServesLines>() -> Part<S> {
-    part(5, "lines", 8, lines::round)
+    part(5, "lines", 6_400, lines::round)
 }
 
 /// Part g, stored tables.
 pub fn stored_part<S: Stores>() -> Part<S> {
-    part(6, "stored", 7, stored::round)
+    part(6, "stored", 1_200, stored::round)
 }
 
 /// Plays one round. The same seed, part and round are the same inputs.
@@ -96,21 +97,40 @@ fn panicked(reason: &(dyn std::any::Any + Send)) -> Difference {
 /// The totals of each part.
 pub struct Totals {
     pub counts: Vec<Counts>,
-    used: Vec<Duration>,
 }
 
 impl Totals {
     fn new(parts: usize) -> Totals {
         Totals {
             counts: vec![Counts::default(); parts],
-            used: vec![Duration::ZERO; parts],
         }
     }
 
-    /// The part that has used the least of its share.
+    /// How much of the part's rounds was played; 1.0 is a quick run.
+    fn played<S>(&self, parts: &[Part<S>], at: usize) -> f64 {
+        self.counts[at].rounds as f64 / parts[at].rounds as f64
+    }
+
+    /// The part of which the least was played.
     fn next<S>(&self, parts: &[Part<S>]) -> usize {
-        let weight = |at: usize| self.used[at] / parts[at].share;
-        (0..parts.len()).min_by_key(|at| weight(*at)).unwrap_or(0)
+        let least = |a: &usize, b: &usize| {
+            let (a, b) = (self.played(parts, *a), self.played(parts, *b));
+            a.total_cmp(&b)
+        };
+        (0..parts.len()).min_by(least).unwrap_or(0)
+    }
+
+    /// Plays one round of the part that is next.
+    fn go_on<S>(
+        &mut self,
+        parts: &[Part<S>],
+        subject: &mut S,
+        seed: u64,
+    ) -> Result<(), Difference> {
+        let at = self.next(parts);
+        let counts = play(&parts[at], subject, seed, self.counts[at].rounds)?;
+        self.counts[at].add(&counts);
+        Ok(())
     }
 
     pub fn sum(&self) -> Counts {
@@ -146,6 +166,16 @@ impl Totals {
     }
 }
 
+/// Plays the rounds of a quick run, or up to the first difference. The same
+/// seed is the same inputs on every machine.
+pub fn all_rounds<S>(parts: &[Part<S>], subject: &mut S, seed: u64) -> Result<Totals, Difference> {
+    let mut totals = Totals::new(parts.len());
+    for _ in 0..parts.iter().map(|part| part.rounds).sum() {
+        totals.go_on(parts, subject, seed)?;
+    }
+    Ok(totals)
+}
+
 /// Plays rounds until the time is over or a difference is found. `report` is
 /// called after every minute but the last.
 pub fn for_time<S>(
@@ -159,11 +189,7 @@ pub fn for_time<S>(
     let mut totals = Totals::new(parts.len());
     let mut minutes = 1;
     while start.elapsed() < time {
-        let at = totals.next(parts);
-        let began = Instant::now();
-        let counts = play(&parts[at], subject, seed, totals.counts[at].rounds)?;
-        totals.used[at] += began.elapsed();
-        totals.counts[at].add(&counts);
+        totals.go_on(parts, subject, seed)?;
         let elapsed = start.elapsed();
         if elapsed.as_secs() >= 60 * minutes && elapsed < time {
             report(&totals);

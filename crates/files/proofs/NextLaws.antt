@@ -1,0 +1,111 @@
+-- What `serve_next` answers, by what `serve_lines` answered. Assumes nothing.
+use mathlib.Core.Path.{_≡_, refl, sym, ap, _∙_}
+use mathlib.Core.Logic.{inl, inr}
+use mathlib.Core.Bool.{Bool, true, false}
+use mathlib.Core.List.{List, [], _∷_}
+use Prim.Native.Nat.{ℕ, _+_, _-_, _≤_, _<_}
+use native.Mathlib.Omega.{arith}
+use lib.ListN.{length, drop, length-drop}
+use lib.Dec.{ltb}
+use borrow.Author.Tests.{ltb-true, ltb-false}
+use Rattle.line.specs.Line.{longest}
+use Rattle.line.specs.Turns.{lineRoom}
+use Rattle.server.specs.Lines.{Checked, IfSound, Unfed, TurnsDone, ServesLines}
+use Rattle.server.specs.declared.Fed.{Fed}
+use Rattle.table.specs.Bytes.{part}
+use Rattle.table.specs.Write.{put}
+use Rattle.stream.specs.Sound.{isSound}
+use Rattle.files.specs.declared.Window.{Window}
+use Rattle.files.specs.Window.{at, inside, Lies}
+use Rattle.files.specs.Serving.{Ready, Serves, Writes, Reads, Ends, Refuses}
+use Rattle.files.proofs.TurnsLaws.{turns-within, turns-end, rest-short}
+use Rattle.files.proofs.WindowLaws.{inside-long, inside-behind}
+
+pub no-text : (xs : List ℕ) → length xs ≡ 0 → xs ≡ []
+no-text [] e = refl
+no-text (x ∷ xs) e = absurd (omega arith)
+
+-- `serve_lines` was called with the bytes in the window
+pub record Called (buf t out : List ℕ) (s : Window) (f : Fed) (out′ t′ : List ℕ) : Type 0 where
+  pub lies : Lies buf s
+  pub long : longest < length buf
+  pub lines : ServesLines (s .ended) (s .carried) (inside buf s) t out f out′ t′
+
+module _ {buf t out out′ t′ : List ℕ} {s : Window} {f : Fed} (g : Called buf t out s f out′ t′) where
+  pub refuses : (f .refused ≡ 0 → ⊥) → Refuses buf t out s (f .refused) buf t′ out′
+  unfolding IfSound
+  refuses n = go (ltb (length out) lineRoom) (isSound t) refl refl (g .lines)
+    where
+      go : (x y : Bool) → ltb (length out) lineRoom ≡ x → isSound t ≡ y
+          → Checked x y (λ k. Unfed k (s .carried) out t f out′ t′) (TurnsDone (s .ended) (s .carried) (inside buf s) t out f out′ t′)
+          → Refuses buf t out s (f .refused) buf t′ out′
+      go true y e q u =
+          record {
+            why = inl (u .refused, inr (ltb-true (length out) lineRoom e));
+            lies = g .lies;
+            same = record { buffer = refl; table = u .same .table; list = u .same .list };
+          }
+      go false false e q u =
+          record {
+            why = inr (u .refused, g .long, ltb-false (length out) lineRoom e, q);
+            lies = g .lies;
+            same = record { buffer = refl; table = u .same .table; list = u .same .list };
+          }
+      go false true e q u = absurd (n (u .refused))
+
+  pub serving : f .refused ≡ 0 → Ready buf t out s × TurnsDone (s .ended) (s .carried) (inside buf s) t out f out′ t′
+  unfolding IfSound
+  serving z = go (ltb (length out) lineRoom) (isSound t) refl refl (g .lines)
+    where
+      go : (x y : Bool) → ltb (length out) lineRoom ≡ x → isSound t ≡ y
+          → Checked x y (λ k. Unfed k (s .carried) out t f out′ t′) (TurnsDone (s .ended) (s .carried) (inside buf s) t out f out′ t′)
+          → Ready buf t out s × TurnsDone (s .ended) (s .carried) (inside buf s) t out f out′ t′
+      go true y e q u = absurd (omega (arith, u .refused))
+      go false false e q u = absurd (omega (arith, u .refused))
+      go false true e q u = (record { lies = g .lies; long = g .long; room = ltb-false (length out) lineRoom e; sound = q }, u)
+
+module _ {buf t out out′ t′ : List ℕ} {s : Window} {f : Fed} (r : Ready buf t out s) (u : TurnsDone (s .ended) (s .carried) (inside buf s) t out f out′ t′) where
+  serves : Serves buf t out s (u .turn) t′
+  serves = record { ready = r; turns = u .turns; state = u .state; sound = u .sound }
+
+  pub taken-within : s .from + f .taken ≤ s .held
+  taken-within = omega (arith, turns-within (u .turns), inside-long (r .lies), r .lies .order, u .taken)
+
+  pub writes : (f .size ≡ 0 → ⊥) → Writes buf t out s (f .size) (at (s .from + f .taken) (s .held) (f .passing) (s .ended)) buf t′ out′
+  writes n =
+      record {
+        turn = u .turn;
+        serves = serves;
+        some = omega arith;
+        fits = u .fits;
+        size = u .size;
+        list = u .list;
+        next = rw (u .taken, u .passing);
+        buffer = refl;
+      }
+
+  module _ (e : f .size ≡ 0) where
+    quiet : u .turn .text ≡ []
+    quiet = no-text (u .turn .text) (sym (u .size) ∙ e)
+
+    same-list : out′ ≡ out
+    same-list = u .list ∙ rw quiet
+
+    pub ends : s .ended ≡ true → Ends buf t out s buf t′ out′
+    ends h = record { turn = u .turn; serves = serves; ended = h; quiet = quiet; buffer = refl; list = same-list }
+
+    pub reads : {buf′ : List ℕ} {n : ℕ} → s .ended ≡ false → buf′ ≡ put buf 0 (part buf (s .from + f .taken) (s .held - (s .from + f .taken)))
+        → n ≡ s .held - (s .from + f .taken) → Reads buf t out s (at 0 n (f .passing) false) buf′ t′ out′
+    reads {n = n} h b m =
+        let left : List ℕ = drop (u .turn .taken) (inside buf s) in
+        let l : n ≡ length left = omega (arith, length-drop (u .turn .taken) (inside buf s), inside-long (r .lies), u .taken) in
+        let k : part buf (s .from + f .taken) (s .held - (s .from + f .taken)) ≡ left =
+        rw (u .taken) (inside-behind (r .lies) (u .turn .taken) (u .turn .passing) (turns-within (u .turns))) in
+        let v = rest-short (u .turn .passing) left (u .turn .state) (rw h at (turns-end (u .turns) (r .room) (ap length quiet))) in
+        record {
+          turn = u .turn;
+          serves = serves;
+          quiet = quiet;
+          moves = record { on = h; next = rw (l, u .passing); buffer = b ∙ rw k; room = omega (arith, r .long) };
+          list = same-list;
+        }

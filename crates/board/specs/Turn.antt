@@ -4,13 +4,12 @@ use mathlib.Core.Bool.{true}
 use mathlib.Core.List.{List, []}
 use Prim.Native.Nat.{ℕ}
 use lib.ListN.{length}
-use Rattle.line.specs.Line.{given, linesStep}
-use Rattle.line.specs.Feed.{linesOf, joined}
+use Rattle.line.specs.Feed.{joined}
 use Rattle.table.specs.Memory.{stateOf, Sound}
 use Rattle.stored.specs.File.{form1, Stores}
 use Rattle.files.specs.declared.Window.{Window}
 use Rattle.files.specs.Window.{arrived, Brings}
-use Rattle.files.specs.Serving.{Runs, Ahead}
+use Rattle.files.specs.Serving.{Runs, FileGives, Ahead}
 use Rattle.files.specs.Loading.{Loadings, LoadAhead}
 use Rattle.board.specs.declared.file.Got.{Got}
 use Rattle.board.specs.declared.file.Got.the-variants as got
@@ -40,11 +39,11 @@ Loads buf t s turned.Done buf′ t′ = Loadings buf t s [] true t′
 Loads buf t s turned.Broken buf′ t′ = Unit {0}
 Loads buf t s turned.Failed buf′ t′ = Unit {0}
 
--- A file was served to its end, through pieces that reads brought: the table at the end is sound, and has the state behind its lines.
+-- A file was served to its end, through pieces that reads brought: the table at the end is the one that its lines leave, and sound.
 pub record FileServed (t t′ : List ℕ) : Type 0 where
   pub pieces : List (List ℕ)
   pub written : List ℕ
-  pub gives : given written (stateOf t′) ≡ linesStep (linesOf (joined pieces)) (stateOf t)
+  pub gives : FileGives (joined pieces) t written t′
   pub sound : Sound t′
 
 -- a stored table was loaded

@@ -10,19 +10,19 @@ use lib.Seq.{length-sets, length-take-le, take-at}
 use lib.Dec.{eqb}
 use borrow.Author.Tests.{eqb-true, ne-eqb}
 use Rattle.wire.proofs.Laws.{never}
-use Rattle.line.specs.Line.{longest, given, linesStep}
-use Rattle.line.specs.Feed.{linesOf}
+use Rattle.line.specs.Line.{longest}
 use Rattle.line.specs.Turns.{lineRoom}
 use Rattle.table.specs.Write.{put}
 use Rattle.table.proofs.Parts.{length-put}
-use Rattle.table.specs.Memory.{stateOf, Sound}
+use Rattle.table.specs.Memory.{Sound}
 use Rattle.stream.specs.Sound.{isSound}
 use Rattle.stream.proofs.Sounds.{sound-is}
+use Rattle.server.proofs.LeftLaws.{left-sound}
 use Rattle.files.specs.declared.Window.{Window}
 use Rattle.files.specs.declared.NextServe.{NextServe}
 use Rattle.files.specs.declared.NextServe.the-variants as next
 use Rattle.files.specs.Window.{begin, inside, Lies, Moves, arrived, Brings, Cuts}
-use Rattle.files.specs.Serving.{Ready, Writes, Reads, Refuses, ServesNext, wrote, read, done, Answers, Ran}
+use Rattle.files.specs.Serving.{Ready, Writes, Reads, Refuses, ServesNext, wrote, read, done, FileGives, Answers, Ran}
 use Rattle.files.proofs.TurnsLaws.{joined-more, no-pieces, turns-within, turns-some}
 use Rattle.files.proofs.WindowLaws.{inside-behind, lies-behind, inside-read, lies-read, inside-front, front-long}
 use Rattle.files.proofs.RunLaws.{whole-served}
@@ -121,7 +121,7 @@ module _ (c : Cuts) {n : ℕ}
       let l : Lies buf′ s′ = rw (x .next, x .buffer) (lies-behind (r .lies) (x .turn .taken) (x .turn .passing) w) in
       let e : s′ .ended ≡ s .ended = ap (λ (s : Window). s .ended) (x .next) in
       let g : Ready buf′ t′ out′ s′ =
-      record { lies = l; long = omega (arith, r .long, ap length (x .buffer)); room = omega (arith, r .room, ap length (x .list), length-sets out 0 (x .turn .text)); sound = v .sound } in
+      record { lies = l; long = omega (arith, r .long, ap length (x .buffer)); room = omega (arith, r .room, ap length (x .list), length-sets out 0 (x .turn .text)); sound = left-sound t t′ (x .turn .next) (r .sound) (v .table) } in
       ran-wrote x (on file buf′ t′ out′ s′ g (λ q. f (sym e ∙ q))
       (rw (e, i) (omega (arith, length-drop (x .turn .taken) (inside buf s), turns-some (v .turns) (omega (arith, x .size, x .some))))))
 
@@ -129,7 +129,7 @@ module _ (c : Cuts) {n : ℕ}
   after-read {t′ = t′} {out′} {s′} x =
       let z = cut c file (x .moves) in
       ran-read x z (on (z .rest) (z .new) t′ out′ (arrived s′ (length (z .piece)))
-      (record { lies = z .lies; long = omega (arith, r .long, z .long); room = omega (arith, r .room, ap length (x .list)); sound = x .serves .sound })
+      (record { lies = z .lies; long = omega (arith, r .long, z .long); room = omega (arith, r .room, ap length (x .list)); sound = left-sound t t′ (x .turn .next) (r .sound) (x .serves .table) })
       (z .none) (omega (arith, z .less)))
 
   after-answer : (buf′ t′ out′ : List ℕ) (a : NextServe) → ServesNext buf t out s a buf′ t′ out′ → Ran file buf t s
@@ -152,9 +152,9 @@ module _ (call : (buf t out : List ℕ) (s : Window) → Answers buf t out s) (c
       run-on (suc (togo file buf begin)) file buf t out begin (record { lies = record { order = omega arith; within = omega arith }; long = l; room = r; sound = sound-is t d })
       (λ e. never (cc)) (omega arith)
 
-  -- a whole file, however reading cuts it: what its lines give is written, and the table at the end is sound and has the state behind them
+  -- a whole file, however reading cuts it
   pub serves-file : (file buf t out : List ℕ) → longest < length buf → lineRoom ≤ length out → Sound t → (x : Ran file buf t begin)
-      × ((given (x .written) (stateOf (x .table)) ≡ linesStep (linesOf file) (stateOf t)) × Sound (x .table))
+      × (FileGives file t (x .written) (x .table) × Sound (x .table))
   serves-file file buf t out l r d =
       let x = runs-end file buf t out l r d in
       (x, rw (x .all) at (whole-served (x .runs)))

@@ -6,11 +6,12 @@ use mathlib.Core.List.{List, [], _∷_, _++_}
 use Prim.Native.Nat.{ℕ, _≤_, _<_}
 use lib.ListN.{length, take}
 use lib.Seq.{sets}
-use Rattle.line.specs.Line.{longest}
-use Rattle.line.specs.Feed.{Turn, joined}
+use Rattle.line.specs.Line.{longest, linesStep}
+use Rattle.line.specs.Feed.{Turn, linesOf, joined}
 use Rattle.line.specs.Turns.{lineRoom, Turns}
 use Rattle.table.specs.Memory.{stateOf}
 use Rattle.stream.specs.Sound.{isSound}
+use Rattle.stream.specs.Stream.{Left}
 use Rattle.files.specs.declared.Window.{Window}
 use Rattle.files.specs.declared.NextServe.{NextServe}
 use Rattle.files.specs.declared.NextServe.the-variants as next
@@ -27,8 +28,7 @@ pub record Ready (buf t out : List ℕ) (s : Window) : Type 0 where
 pub record Serves (buf t out : List ℕ) (s : Window) (x : Turn) (t′ : List ℕ) : Type 0 where
   pub ready : Ready buf t out s
   pub turns : Turns (s .ended) (s .carried) (inside buf s) (stateOf t) (length out) x
-  pub state : stateOf t′ ≡ x .state
-  pub sound : isSound t′ ≡ true
+  pub table : Left t (x .next) t′
 
 -- "write the first n bytes of out, and call again with s′"
 pub record Writes (buf t out : List ℕ) (s : Window) (n : ℕ) (s′ : Window) (buf′ t′ out′ : List ℕ) : Type 0 where
@@ -90,6 +90,12 @@ pub data Runs : List ℕ → List ℕ → Window → List (List ℕ) → List �
   read : {buf t out buf′ t′ out′ p buf″ w t″ : List ℕ} {s s′ : Window} {ps : List (List ℕ)} → ServesNext buf t out s (next.Read s′) buf′ t′ out′
       → Brings buf′ (s′ .held) p buf″ → Runs buf″ t′ (arrived s′ (length p)) ps w t″ → Runs buf t s (p ∷ ps) w t″
   done : {buf t out buf′ t′ out′ : List ℕ} {s : Window} → ServesNext buf t out s next.Done buf′ t′ out′ → Runs buf t s [] [] t′
+
+-- What serving a file from a table gives: what its lines give is written, and the table is the one that they leave. Where none of them takes effect, the
+-- table keeps its bytes.
+pub record FileGives (file t written t′ : List ℕ) : Type 0 where
+  pub text : written ≡ linesStep (linesOf file) (stateOf t) .text
+  pub table : Left t (linesStep (linesOf file) (stateOf t) .next) t′
 
 -- Between two calls of a run: whatever run goes on from here, the pieces read and the bytes written so far come before its own.
 pub record Ahead (buf t : List ℕ) (s : Window) (buf′ t′ : List ℕ) (s′ : Window) : Type 0 where

@@ -2,14 +2,20 @@
 mod buffer;
 
 use server::Fed;
+use server::Served;
 ghost use mathlib.Core.Path.{_≡_};
-ghost use Rattle.files.specs.Window.{begin, Arrives};
-ghost use Rattle.files.specs.Serving.{ServesNext};
+ghost use mathlib.Core.List.{List};
+ghost use Prim.Native.Nat.{ℕ, _+_, _≤_};
+ghost use lib.ListN.{length};
+ghost use Rattle.server.specs.Lines.{TurnsDone};
+ghost use Rattle.files.specs.Window.{begin, inside, Arrives};
+ghost use Rattle.files.specs.Serving.{Ready, ServesNext};
 ghost use Rattle.files.specs.Loading.{LoadsNext};
 ghost use Rattle.files.specs.Storing.{StoresNext};
 
-// Where reading a file through a buffer stands: the bytes of the buffer from `from` up to `held` are read and not yet taken. carried: what the bytes before hand to those
-// behind; in serving, that the rest of a line is to be passed over; in loading, that the first line is loaded. ended: a read brought nothing.
+// Where reading a file through a buffer stands: the bytes of the buffer from `from` up to `held` are read and not yet taken. carried: what the bytes
+// before hand to those behind; in serving, that the rest of a line is to be passed over; in loading, that the first line is loaded. ended: a read
+// brought nothing.
 pub struct Window {
     pub from: usize,
     pub held: usize,
@@ -101,18 +107,26 @@ pub fn serve_next(buf: &mut [u8], table: &mut [u8], out: &mut [u8], s: Window) -
     if buf.len() <= Fed::LONGEST {
         return NextServe::Refused(12);
     }
-    let f = server::serve_lines(&buf[from..held], table, out, s.carried, s.ended);
-    let k = f.refused;
-    if k != 0 {
-        return NextServe::Refused(k);
+    let r = server::serve_lines(&buf[from..held], table, out, s.carried, s.ended);
+    match r {
+        Served::Refused(k) => NextServe::Refused(k),
+        Served::Fed(f) => go_on(buf, s, f),
     }
-    let at = from + f.taken;
+}
+
+// What is to be done next where lines in the window were served.
+fn go_on(buf: &mut [u8], s: Window, f: Fed) -> NextServe
+    requires { ⌜ s .from + f .taken ≤ s .held ⌝ }
+    requires { ⌜ s .held ≤ length (now buf) ⌝ }
+    ensures { λ r. ⌜ ((t out out′ t′ : List ℕ) → Ready (now (buf .entry)) t out s → TurnsDone (s .ended) (s .carried) (inside (now (buf .entry)) s) t out (Served.Fed f) out′ t′ → ServesNext (now (buf .entry)) t out s r (now (buf .exit)) t′ out′) ⌝ }
+{
+    let at = s.from + f.taken;
     if f.size != 0 {
         return NextServe::Write(
             f.size,
             Window {
                 from: at,
-                held: held,
+                held: s.held,
                 carried: f.passing,
                 ended: s.ended,
             },
@@ -121,7 +135,7 @@ pub fn serve_next(buf: &mut [u8], table: &mut [u8], out: &mut [u8], s: Window) -
     if s.ended {
         return NextServe::Done;
     }
-    let n = buffer::move_down(buf, at, held);
+    let n = buffer::move_down(buf, at, s.held);
     NextServe::Read(Window {
         from: 0,
         held: n,

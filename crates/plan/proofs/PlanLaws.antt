@@ -71,7 +71,7 @@ module _ (G : Option Entry → Plan) where
   same-plan v d f g (some e) = g e
 
 -- a change that is no store is not refused
-pub not-refused : (st : State) (e : Option Entry) (d : code.Change) → OneOf (0 ∷ 2 ∷ 3 ∷ []) (tagOf change-code.the-type d) → 0 ≡ refusalOf st e (asChange d)
+pub not-refused : (st : State) (e : Option Entry) (d : code.Change) → OneOf (0 ∷ 2 ∷ 3 ∷ []) (tagOf change-code.the-type d) → none ≡ refusalOf st e (asChange d)
 unfolding refusalOf
 not-refused st e c.Keep k = refl
 not-refused st e c.Store k = absurd (miss (0 ∷ 2 ∷ 3 ∷ []) 1 tt k)

@@ -11,10 +11,12 @@ use libc::STDERR_FILENO;
 ghost use lib.ListN.{length};
 ghost use mathlib.Core.Path.{_≡_};
 ghost use mathlib.Core.Bool.{true};
-ghost use Rattle.board.specs.Turn.{Loads, FileLoaded};
+ghost use Rattle.table.specs.Memory.{size, Sound};
+ghost use Rattle.board.specs.Turn.{LoadReady, Loads, Builds, Stores};
 
 // Does what is to be done next.
 fn turn(fd: i32, name: &[u8], input: &mut [u8], t: &mut [u8], s: Window) -> Turned
+    requires { ⌜ LoadReady (now input) s ⌝ }
     ensures { λ r. ⌜ Loads (now (input .entry)) (now (t .entry)) s r (now (input .exit)) (now (t .exit)) ⌝ }
 {
     let n = files::load_next(input, t, s);
@@ -47,9 +49,9 @@ fn is_loaded(r: Turned, name: &[u8]) -> bool
     }
 }
 
-// Builds the table of a file, and answers whether the file stores one. The turns are counted down as in serving.
-fn build(fd: i32, name: &[u8], t: &mut [u8]) -> bool
-    ensures { λ r. ⌜ (r ≡ true → FileLoaded (now (t .exit))) ⌝ }
+// Builds the table of a file, and answers how that ends. The turns are counted down as in serving.
+fn build(fd: i32, name: &[u8], t: &mut [u8]) -> Turned
+    ensures { λ r. ⌜ Builds (now (t .entry)) r (now (t .exit)) ⌝ }
 {
     let mut input = io::large_buffer();
     let mut s = files::start();
@@ -57,24 +59,28 @@ fn build(fd: i32, name: &[u8], t: &mut [u8]) -> bool
     while turns > 0 {
         let r = turn(fd, name, &mut input, t, s);
         let Turned::On(next) = r else {
-            return is_loaded(r, name);
+            return r;
         };
         s = next;
         turns -= 1;
     }
-    false
+    Turned::Failed
 }
 
 // Loads the table of a file, a fresh one only where the system says that there is no such file. It answers whether there is a table to serve from.
-pub(crate) fn load_file(path: &[u8], t: &mut [u8]) -> bool {
+pub(crate) fn load_file(path: &[u8], t: &mut [u8]) -> bool
+    requires { ⌜ length (now t) ≡ size ⌝ }
+    ensures { λ r. ⌜ (r ≡ true → Sound (now (t .exit))) ⌝ }
+{
     let fd = os::open_read(path);
     if fd >= 0 {
-        let good = build(fd, path, t);
+        let r = build(fd, path, t);
         libc::close(fd);
-        return good;
+        return is_loaded(r, path);
     }
     if os::errno() == libc::ENOENT {
-        return table::make(t);
+        table::make(t);
+        return true;
     }
     say::no_table(path);
     false
@@ -113,7 +119,10 @@ pub(crate) fn make_file(name: &[u8]) -> i32 {
 }
 
 // Whether all lines were written.
-fn is_stored(r: NextStore) -> bool {
+fn is_stored(r: NextStore) -> bool
+    requires { ⌜ Stores r ⌝ }
+    ensures { λ d. ⌜ (d ≡ true → r ≡ NextStore.Done) ⌝ }
+{
     match r {
         NextStore::Done => true,
         _ => false,
@@ -121,7 +130,9 @@ fn is_stored(r: NextStore) -> bool {
 }
 
 // Writes the lines of the table, as many at a time as there is room for.
-fn write_lines(fd: i32, t: &[u8]) -> bool {
+fn write_lines(fd: i32, t: &[u8]) -> bool
+    requires { ⌜ Sound (now t) ⌝ }
+{
     let mut out = io::large_buffer();
     let mut line = 0;
     loop {
@@ -137,7 +148,9 @@ fn write_lines(fd: i32, t: &[u8]) -> bool {
 }
 
 // Writes the table to the file made for it, which takes the table's name when all has reached the disk. Where that fails, it says so and the file goes.
-pub(crate) fn store_file(fd: i32, t: &[u8], name: &[u8], path: &[u8]) {
+pub(crate) fn store_file(fd: i32, t: &[u8], name: &[u8], path: &[u8])
+    requires { ⌜ Sound (now t) ⌝ }
+{
     let written = write_lines(fd, t) && libc::fsync(fd) == 0;
     let closed = libc::close(fd) == 0;
     if !written || !closed || os::rename(name, path) != 0 {

@@ -8,11 +8,14 @@ use files::Window;
 use libc::STDOUT_FILENO;
 ghost use mathlib.Core.Path.{_≡_};
 ghost use mathlib.Core.Bool.{true};
+ghost use Rattle.table.specs.Memory.{Sound};
+ghost use Rattle.files.specs.Serving.{Ready};
 ghost use Rattle.board.specs.Turn.{Serves, FileServed};
 
 // Does what is to be done next.
 fn turn(fd: i32, name: &[u8], input: &mut [u8], t: &mut [u8], out: &mut [u8], s: Window) -> Turned
-    ensures { λ r. ⌜ Serves (now (input .entry)) (now (t .entry)) s r (now (input .exit)) (now (t .exit)) ⌝ }
+    requires { ⌜ Ready (now input) (now t) (now out) s ⌝ }
+    ensures { λ r. ⌜ Serves (now (input .entry)) (now (t .entry)) s r (now (input .exit)) (now (t .exit)) (now (out .exit)) ⌝ }
 {
     let n = files::serve_next(input, t, out, s);
     match n {
@@ -40,6 +43,7 @@ fn turn(fd: i32, name: &[u8], input: &mut [u8], t: &mut [u8], out: &mut [u8], s:
 // Serves a file, and answers whether it came to its end. A proved loop has to end, and nothing says that a file does: so the turns are counted down,
 // from a number that no run uses up.
 pub(crate) fn serve_file(fd: i32, name: &[u8], t: &mut [u8]) -> bool
+    requires { ⌜ Sound (now t) ⌝ }
     ensures { λ r. ⌜ (r ≡ true → FileServed (now (t .entry)) (now (t .exit))) ⌝ }
 {
     let mut input = io::large_buffer();

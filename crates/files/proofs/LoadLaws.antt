@@ -111,17 +111,22 @@ none-loaded : {buf t buf′ t′ : List ℕ} {s : Window} → LoadsNext buf t s 
 none-loaded (inl x) = absurd (omega (arith, x .number))
 none-loaded (inr x) = x
 
+-- in a buffer that is long enough, only a file that stores no table is refused
+pub only-17 : {buf t buf′ t′ : List ℕ} {s : Window} {k : ℕ} → longestStored < length buf → LoadsNext buf t s (load.Refused k) buf′ t′ → LoadsNone buf t s 17 buf′ t′
+only-17 l (inl x) = absurd (omega (arith, x .short))
+only-17 l (inr x) = rw (x .number) at x
+
 stops : {buf t t′ : List ℕ} {s : Window} {ps : List (List ℕ)} {r : Bool} → Loadings buf t s ps r t′ → r ≡ false → Stopped (s .carried) (inside buf s ++ joined ps) t
 stops (read {p = p} {ps = ps} x b l) e = rw (joined-more p ps) (stopped-on (joined ps) x b (stops l e))
 stops (done x) e = never (cc)
 stops (refused x f) e = stopped-here (none-loaded x) f
 
 -- what comes behind lines that are loaded, in a file that stores a table: nothing, or a line that is not too long
-data NextServe (y : List ℕ) : Type 0 where
-  nothing : y ≡ [] → NextServe y
-  a-next : (bs z : List ℕ) → y ≡ line bs ++ z → length bs ≤ 339 → NextServe y
+data Behind (y : List ℕ) : Type 0 where
+  nothing : y ≡ [] → Behind y
+  a-next : (bs z : List ℕ) → y ≡ line bs ++ z → length bs ≤ 339 → Behind y
 
-next-entries : (us es : List Entry) (y : List ℕ) → Each (λ e. Valid (entryLine form1) e) (us ++ es) → y ≡ entryLines form1 es → NextServe y
+next-entries : (us es : List Entry) (y : List ℕ) → Each (λ e. Valid (entryLine form1) e) (us ++ es) → y ≡ entryLines form1 es → Behind y
 unfolding entryLines
 next-entries us [] y v e = nothing e
 next-entries us (x ∷ es) y v e = a-next (entryLine form1 .enc x) (entryLines form1 es) e (entry-most form1 .most x (each-mid (λ e. Valid (entryLine form1) e) us x es v))
@@ -130,7 +135,7 @@ loads-true : {c : Bool} {s t u : List ℕ} → LoadsWhole form1 true s t c u →
 loads-true no-line = refl
 loads-true (a-line l o e c r) = loads-true r
 
-next-line : {c : Bool} {x t u : List ℕ} (y : List ℕ) (st : State) → LoadsWhole form1 false x t c u → Stores form1 (x ++ y) st → NextServe y
+next-line : {c : Bool} {x t u : List ℕ} (y : List ℕ) (st : State) → LoadsWhole form1 false x t c u → Stores form1 (x ++ y) st → Behind y
 unfolding file
 next-line y st no-line q =
     a-next (headLine form1 .enc (st .last)) (entryLines form1 (st .entries)) (q .same) (omega (arith, head-most form1 .most (st .last) (head-good form1 (st .last) (omega (arith, q .table .last)))))
@@ -149,7 +154,7 @@ open-far (x ∷ l) z n = go (eqb x 0x0a) (open-far l z) n
     go true f e = absurd (omega arith)
     go false f e = let h = f (omega arith) in omega arith
 
-not-long : (l z : List ℕ) → NoEnd l → longestStored < length l → NextServe (l ++ z) → ⊥
+not-long : (l z : List ℕ) → NoEnd l → longestStored < length l → Behind (l ++ z) → ⊥
 not-long l z n h (nothing e) = omega (arith, ap length e, length-append l z)
 not-long l z n h (a-next bs y e k) =
     omega (arith, open-far l z n, ap (indexOf 0x0a) (e ∙ line-cons bs y), first-end (toHex bs) y (no-end bs), hex-length bs)

@@ -24,7 +24,7 @@ use Rattle.files.specs.declared.NextServe.the-variants as next
 use Rattle.files.specs.Window.{begin, inside, Lies, Moves, arrived, Brings, Cuts}
 use Rattle.files.specs.Serving.{Ready, Writes, Reads, Refuses, ServesNext, wrote, read, done, FileGives, Answers, Ran}
 use Rattle.files.proofs.TurnsLaws.{joined-more, no-pieces, turns-within, turns-some}
-use Rattle.files.proofs.WindowLaws.{inside-behind, lies-behind, inside-read, lies-read, inside-front, front-long}
+use Rattle.files.proofs.WindowLaws.{inside-behind, lies-behind, inside-read, lies-read, inside-front, front-long, lies-more, long-more}
 use Rattle.files.proofs.RunLaws.{whole-served}
 use Rattle.files.proofs.NextLaws.{no-text}
 
@@ -86,14 +86,36 @@ cut c file {buf} {buf′} {s} {s′} {n} x =
       less = omega (arith, counts (length p), q, ap length i, c .there room (length file), length-drop k file, length-drop n (inside buf s), ap {B = ℕ} (λ (b : Bool). cond b 0 1) (x .on));
     }
 
--- one that is ready is not refused
-never-refused : {buf t out buf′ t′ out′ : List ℕ} {s : Window} {k : ℕ} → Ready buf t out s → Refuses buf t out s k buf′ t′ out′ → ⊥
+-- what is ready is not refused
+pub never-refused : {buf t out buf′ t′ out′ : List ℕ} {s : Window} {k : ℕ} → Ready buf t out s → Refuses buf t out s k buf′ t′ out′ → ⊥
 never-refused {buf} {t} {out} {k = k} r x = go (x .why)
   where
     go : ((k ≡ 12) × ((length buf ≤ longest) ⊎ (length out < lineRoom))) ⊎ ((k ≡ 13) × (longest < length buf) × (lineRoom ≤ length out) × (isSound t ≡ false)) → ⊥
     go (inl (_, inl h)) = omega (arith, r .long)
     go (inl (_, inr h)) = omega (arith, r .room)
     go (inr (_, _, _, e)) = never (cc (r .sound))
+
+-- behind a call that served, and behind a read, all is ready again
+pub ready-wrote : {buf t out buf′ t′ out′ : List ℕ} {s s′ : Window} {k : ℕ} → Writes buf t out s k s′ buf′ t′ out′ → Ready buf′ t′ out′ s′
+ready-wrote {t = t} {out} {t′ = t′} x =
+    let v = x .serves in
+    let r = v .ready in
+    record {
+      lies = rw (x .next, x .buffer) (lies-behind (r .lies) (x .turn .taken) (x .turn .passing) (turns-within (v .turns)));
+      long = omega (arith, r .long, ap length (x .buffer));
+      room = omega (arith, r .room, ap length (x .list), length-sets out 0 (x .turn .text));
+      sound = left-sound t t′ (x .turn .next) (r .sound) (v .table);
+    }
+
+pub ready-read : {buf t out buf′ t′ out′ p buf″ : List ℕ} {s s′ : Window} → Reads buf t out s s′ buf′ t′ out′ → Brings buf′ (s′ .held) p buf″ → Ready buf″ t′ out′ (arrived s′ (length p))
+ready-read {t = t} {t′ = t′} x b =
+    let r = x .serves .ready in
+    record {
+      lies = lies-more (x .moves) b;
+      long = omega (arith, r .long, long-more (x .moves) b);
+      room = omega (arith, r .room, ap length (x .list));
+      sound = left-sound t t′ (x .turn .next) (r .sound) (x .serves .table);
+    }
 
 -- a run behind a call
 ran-wrote : {file buf t out buf′ t′ out′ : List ℕ} {s s′ : Window} {k : ℕ} → Writes buf t out s k s′ buf′ t′ out′ → Ran file buf′ t′ s′ → Ran file buf t s
@@ -118,19 +140,14 @@ module _ (c : Cuts) {n : ℕ}
       let v = x .serves in
       let w = turns-within (v .turns) in
       let i : inside buf′ s′ ≡ drop (x .turn .taken) (inside buf s) = rw (x .next, x .buffer) (inside-behind (r .lies) (x .turn .taken) (x .turn .passing) w) in
-      let l : Lies buf′ s′ = rw (x .next, x .buffer) (lies-behind (r .lies) (x .turn .taken) (x .turn .passing) w) in
       let e : s′ .ended ≡ s .ended = ap (λ (s : Window). s .ended) (x .next) in
-      let g : Ready buf′ t′ out′ s′ =
-      record { lies = l; long = omega (arith, r .long, ap length (x .buffer)); room = omega (arith, r .room, ap length (x .list), length-sets out 0 (x .turn .text)); sound = left-sound t t′ (x .turn .next) (r .sound) (v .table) } in
-      ran-wrote x (on file buf′ t′ out′ s′ g (λ q. f (sym e ∙ q))
+      ran-wrote x (on file buf′ t′ out′ s′ (ready-wrote x) (λ q. f (sym e ∙ q))
       (rw (e, i) (omega (arith, length-drop (x .turn .taken) (inside buf s), turns-some (v .turns) (omega (arith, x .size, x .some))))))
 
   after-read : {buf′ t′ out′ : List ℕ} {s′ : Window} → Reads buf t out s s′ buf′ t′ out′ → Ran file buf t s
   after-read {t′ = t′} {out′} {s′} x =
       let z = cut c file (x .moves) in
-      ran-read x z (on (z .rest) (z .new) t′ out′ (arrived s′ (length (z .piece)))
-      (record { lies = z .lies; long = omega (arith, r .long, z .long); room = omega (arith, r .room, ap length (x .list)); sound = left-sound t t′ (x .turn .next) (r .sound) (x .serves .table) })
-      (z .none) (omega (arith, z .less)))
+      ran-read x z (on (z .rest) (z .new) t′ out′ (arrived s′ (length (z .piece))) (ready-read x (z .brings)) (z .none) (omega (arith, z .less)))
 
   after-answer : (buf′ t′ out′ : List ℕ) (a : NextServe) → ServesNext buf t out s a buf′ t′ out′ → Ran file buf t s
   after-answer buf′ t′ out′ (next.Write k s′) x = after-write x

@@ -21,7 +21,7 @@ use Rattle.stored.proofs.LineLaws.{entry-most, head-most, head-good, table-good
 use Rattle.stored.proofs.StoreLaws.{laid-done, twice, line-length}
 use Rattle.files.specs.declared.NextStore.{NextStore}
 use Rattle.files.specs.declared.NextStore.the-variants as store
-use Rattle.files.specs.Storing.{storeRoom, fileFrom, StoreReady, StoreWrites, StoresNext, Storings, wrote, done, StoreAnswers}
+use Rattle.files.specs.Storing.{storeRoom, fileFrom, StoreReady, StoreWrites, StoreRefuses, StoresNext, Storings, wrote, done, StoreAnswers}
 use Rattle.files.proofs.RunLaws.{given-out}
 
 module _ (st : State) where
@@ -104,6 +104,14 @@ pub whole-stored : {t w : List ℕ} → Storings t 0 w → w ≡ file form1 (sta
 unfolding fileFrom
 whole-stored r = stored-from r
 
+-- what is ready is not refused
+pub never-refused : {t out out′ : List ℕ} {k : ℕ} → StoreReady t out → StoreRefuses t out k out′ → ⊥
+never-refused {t} {out} {k = k} r x = go (x .why)
+  where
+    go : ((k ≡ 12) × (length out < storeRoom)) ⊎ ((k ≡ 13) × (storeRoom ≤ length out) × (Sound t → ⊥)) → ⊥
+    go (inl (_, e)) = omega (arith, r .room)
+    go (inr (_, _, e)) = e (r .sound)
+
 module _ {t : List ℕ} {n : ℕ} (on : (out : List ℕ) (i : ℕ) → StoreReady t out → length (stateOf t .entries) + 1 - i < n → (w : List ℕ) × Storings t i w)
     {out : List ℕ} (i : ℕ) (r : StoreReady t out) (h : length (stateOf t .entries) + 1 - i < suc n) where
   after-answer : (out′ : List ℕ) (a : NextStore) → StoresNext t out i a out′ → (w : List ℕ) × Storings t i w
@@ -111,11 +119,7 @@ module _ {t : List ℕ} {n : ℕ} (on : (out : List ℕ) (i : ℕ) → StoreRead
       let y = on out′ j (record { room = omega (arith, r .room, ap length (x .list), length-sets out 0 (x .text)); sound = r .sound }) (omega (arith, x .order, x .most)) in
       (take k out′ ++ y .0, wrote x (y .1))
   after-answer out′ store.Done x = ([], done x)
-  after-answer out′ (store.Refused k) x = go (x .why)
-    where
-      go : ((k ≡ 12) × (length out < storeRoom)) ⊎ ((k ≡ 13) × (storeRoom ≤ length out) × (Sound t → ⊥)) → (w : List ℕ) × Storings t i w
-      go (inl (_, e)) = absurd (omega (arith, r .room))
-      go (inr (_, _, e)) = absurd (e (r .sound))
+  after-answer out′ (store.Refused k) x = absurd (never-refused r x)
 
 -- any function that does what `store_next` ensures, called again and again
 module _ (t : List ℕ) (call : (out : List ℕ) (i : ℕ) → StoreAnswers t out i) where

@@ -61,6 +61,12 @@ module _ {buf buf′ p buf″ : List ℕ} {s s′ : Window} {n : ℕ} {c : Bool}
   pub inside-more : inside buf″ (arrived s′ (length p)) ≡ drop n (inside buf s) ++ p
   inside-more = inside-read s′ (ap (λ (s : Window). s .from) (m .next)) b ∙ rw (m .next, m .buffer, inside-front buf (drop n (inside buf s)) left-long)
 
+  pub lies-more : Lies buf″ (arrived s′ (length p))
+  lies-more = lies-read s′ (ap (λ (s : Window). s .from) (m .next)) b
+
+  pub long-more : length buf″ ≡ length buf
+  long-more = b .long ∙ ap length (m .buffer) ∙ front-long buf (drop n (inside buf s)) left-long
+
   pub carried-more : s′ .carried ≡ c
   carried-more = ap (λ (s : Window). s .carried) (m .next)
 

@@ -37,7 +37,7 @@ version-held t k (h.Row i w) g = rw (row-held t k {x = h.Row i w} refl g, g .1)
 version-held t k h.Absent g = rw (none-held t k {x = h.Absent} refl g)
 
 -- a change that is no store is not refused
-pub not-refused : (st : State) (e : Option ℕ) (d : code.Change) → OneOf (0 ∷ 2 ∷ 3 ∷ []) (tagOf change-code.the-type d) → 0 ≡ refusalOf st e (asChange d)
+pub not-refused : (st : State) (e : Option ℕ) (d : code.Change) → OneOf (0 ∷ 2 ∷ 3 ∷ []) (tagOf change-code.the-type d) → none ≡ refusalOf st e (asChange d)
 unfolding refusalOf
 not-refused st e c.Keep k = refl
 not-refused st e c.Store k = absurd (miss (0 ∷ 2 ∷ 3 ∷ []) 1 tt k)

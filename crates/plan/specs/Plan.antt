@@ -16,6 +16,8 @@ use Rattle.plan.specs.declared.Held.the-variants as h
 use Rattle.plan.specs.declared.Change.{Change}
 use Rattle.plan.specs.declared.Change.the-variants as c
 use Rattle.plan.specs.declared.Plan.{Plan}
+use Rattle.plan.specs.declared.Judged.{Judged}
+use Rattle.plan.specs.declared.Judged.the-variants as j
 
 abbrev pub asChange : Change → map.Change
 asChange c.Keep = map.keep
@@ -44,8 +46,13 @@ heldAt t k = find (hasKey k) (stateOf t .entries)
 unfoldable pub isFull : State → Option ℕ → Bool
 isFull st o = map.isNone o && leb map.mostKeys (length (st .entries))
 
-unfoldable pub refusalOf : State → Option ℕ → map.Change → ℕ
-refusalOf st o map.keep = 0
-refusalOf st o map.drop = 0
-refusalOf st o map.empty = 0
-refusalOf st o map.store = cond (isFull st o) 10 (cond (ltb (st .last) map.lastVersion) 0 11)
+unfoldable pub refusalOf : State → Option ℕ → map.Change → Option ℕ
+refusalOf st o map.keep = none
+refusalOf st o map.drop = none
+refusalOf st o map.empty = none
+refusalOf st o map.store = cond (isFull st o) (some 10) (cond (ltb (st .last) map.lastVersion) none (some 11))
+
+-- the number of the refusal, or none
+abbrev pub asJudged : Judged → Option ℕ
+asJudged j.Free = none
+asJudged (j.Refused k) = some k

@@ -6,7 +6,7 @@ use table::Table;
 ghost use mathlib.Core.Path.{_≡_};
 ghost use Rattle.map.specs.Step as map;
 ghost use Rattle.table.specs.Memory.{stateOf};
-ghost use Rattle.plan.specs.Plan.{asPlan, asChange, Holds, heldVersion, isFull, refusalOf};
+ghost use Rattle.plan.specs.Plan.{asPlan, asChange, asJudged, Holds, heldVersion, isFull, refusalOf};
 
 // The row that has the key, with the version of its entry, or that none has it.
 pub enum Held {
@@ -25,6 +25,12 @@ pub enum Change {
 pub struct Plan {
     pub status: u8,
     pub change: Change,
+}
+
+// Whether a change may be made, or the refusal for which it may not.
+pub enum Judged {
+    Free,
+    Refused(u8),
 }
 
 // The row that has the key, with its version.
@@ -104,18 +110,18 @@ fn is_full(t: &[u8], held: Held) -> bool
     Table::KEYS <= table::count(t)
 }
 
-// The refusal of a change: 10 where it adds a key to a full table, 11 where no version is left for it, and 0 where it is not refused.
-pub fn refusal_of(t: &[u8], change: Change, held: Held) -> u8
-    ensures { λ r. ⌜ r ≡ refusalOf (stateOf (now (t .entry))) (heldVersion held) (asChange change) ⌝ }
+// The refusal of a change: 10 where it adds a key to a full table, 11 where no version is left for it.
+pub fn refusal_of(t: &[u8], change: Change, held: Held) -> Judged
+    ensures { λ r. ⌜ asJudged r ≡ refusalOf (stateOf (now (t .entry))) (heldVersion held) (asChange change) ⌝ }
 {
     let Change::Store = change else {
-        return 0;
+        return Judged::Free;
     };
     if is_full(t, held) {
-        return 10;
+        return Judged::Refused(10);
     }
     if Table::LAST_VERSION <= table::last(t).0 {
-        return 11;
+        return Judged::Refused(11);
     }
-    0
+    Judged::Free
 }

@@ -4,6 +4,7 @@ use crate::window;
 use crate::window::Window;
 use field::put;
 use libc::STDERR_FILENO;
+use table::Outcome;
 ghost use lib.ListN.{length};
 ghost use mathlib.Core.Path.{_≡_};
 ghost use Rattle.board.specs.Window.{Lies};
@@ -55,7 +56,11 @@ pub(crate) fn load_file(path: &[u8], t: &mut [u8]) -> bool {
         return good;
     }
     if os::errno() == libc::ENOENT {
-        return table::make(t);
+        let made = table::make(t);
+        let Outcome::Done = made else {
+            return false;
+        };
+        return true;
     }
     say::no_table(path);
     false

@@ -12,14 +12,14 @@ use borrow.Author.Tests.{eqb-true, eq-eqb, ne-eqb, leb-true, le-leb, lt-leb, ltb
 use Rattle.wire.specs.Codec.{Bytes}
 use Rattle.wire.proofs.Laws.{never, both, and, and-false, is-bytes}
 use Rattle.message.specs.Request.{keyLimit, valueLimit}
-use Rattle.map.specs.State.{Entry, State, sameList, find, hasKey, fresh}
+use Rattle.map.specs.State.{Entry, State, sameList, find, hasKey}
 use Rattle.map.specs.Step.{mostKeys, lastVersion, isNone}
 use Rattle.map.specs.Table.{Each, Pairs, Sizes, OtherKey, OtherVersion, Issued, IsTable, Ascending}
 use Rattle.map.proofs.Laws.{same-sym}
 use Rattle.table.specs.Memory.{size, rowAt, entry, countOf, stateOf, Sound}
 use Rattle.table.specs.Bytes.{be8}
 use Rattle.table.specs.Found.{entryAt}
-use Rattle.table.specs.Change.{Changed, Left, made, started, newest, fitting, next, restored}
+use Rattle.table.specs.Change.{Changed, Left, started, newest, fitting, next, restored}
 use Rattle.table.specs.Check.{fitsRow, hasRoom}
 use Rattle.table.specs.Write.{extended}
 use Rattle.map.proofs.Each.{each-map, each-add, pairs-add}
@@ -62,14 +62,6 @@ module _ (x : ℕ) (t : List ℕ) where
   pub started-large : lastVersion < x → Answers t (started x t) false t
   unfolding started
   started-large l = left t bare may-start (rw (lt-leb x lastVersion l, and-false))
-
-pub started-made : (t : List ℕ) → started 0 t ≡ made t
-unfolding started made
-started-made t = go (eqb (length t) size)
-  where
-    go : (b : Bool) → cond (b && leb 0 lastVersion) (some fresh) none ≡ cond b (some fresh) none
-    go true = refl
-    go false = refl
 
 -- the version of the last row
 module _ (t : List ℕ) (h : length t ≡ size) where

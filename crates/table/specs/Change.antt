@@ -9,6 +9,7 @@ use lib.Dec.{eqb, leb, ltb}
 use Rattle.message.specs.Request.{keyLimit, valueLimit}
 use Rattle.map.specs.State.{Entry, State, withEntries, find, hasKey}
 use Rattle.map.specs.Step.{mostKeys, lastVersion, isNone}
+use Rattle.map.specs.Table.{lastDeadline}
 use Rattle.table.specs.Memory.{size, entry, stateOf, Form, Sound}
 use Rattle.table.specs.declared.Outcome.{Outcome}
 use Rattle.table.specs.declared.Outcome.the-variants.{Done, Refused}
@@ -66,7 +67,7 @@ newest es = getD es (length es - 1) (entry [] [] 0 0) .version
 
 -- an entry by itself is within its limits; and it can stand behind those held
 unfoldable pub fitting : List ℕ → List ℕ → ℕ → Bool
-fitting k v d = leb (length k) keyLimit && (leb (length v) valueLimit && leb d 8_589_934_590)
+fitting k v d = leb (length k) keyLimit && (leb (length v) valueLimit && leb d lastDeadline)
 
 unfoldable pub next : List ℕ → ℕ → List ℕ → Bool
 next k n t =

@@ -234,7 +234,7 @@ pub fn add(t: &mut [u8], key: &[u8], value: &[u8], deadline: Second) -> bool
     if last(t).0 >= Table::LAST_VERSION {
         return false;
     }
-    rows::append(t, key, value, deadline.0);
+    rows::append(t, key, value, deadline);
     true
 }
 
@@ -248,13 +248,13 @@ pub fn restore(
 ) -> bool
     ensures { λ r. ⌜ (r ≡ isSome (restored (now (key .entry)) (now (value .entry)) (version .0) (deadline .0) (now (t .entry)))) × Left (now (t .entry)) (restored (now (key .entry)) (now (value .entry)) (version .0) (deadline .0) (now (t .entry))) (now (t .exit)) ⌝ }
 {
-    if !check::fits(key, value, deadline.0) {
+    if !check::fits(key, value, deadline) {
         return false;
     }
-    if !check::follows(t, key, version.0) {
+    if !check::follows(t, key, version) {
         return false;
     }
-    rows::restore(t, key, value, version.0, deadline.0);
+    rows::restore(t, key, value, version, deadline);
     true
 }
 

@@ -1,21 +1,21 @@
--- What the tests of given numbers say, that a code fits, and what a reader tells by each of its answers. Assumes nothing.
+-- What the tests of given numbers say, and that a code fits. Assumes nothing.
 use mathlib.Core.Path.{_≡_, refl, sym, ap, _∙_}
 use mathlib.Core.List.{List, [], _∷_}
-use mathlib.Core.Bool.{Bool, true, false, cond, _&&_}
+use mathlib.Core.Bool.{Bool, true, false, cond}
 use mathlib.Core.Logic.{⊎-elim}
 use Prim.Native.Nat.{ℕ, _+_, _≤_, _<_, _^_}
 use native.Mathlib.Omega.{arith}
 use lib.ListN.{length, getD}
 use lib.Dec.{leb}
-use borrow.Author.Tests.{le-leb, leb-true}
-use Rattle.wire.specs.Codec.{Read, whole, more, refused, Codec}
+use borrow.Author.Tests.{leb-true}
+use Rattle.wire.specs.Codec.{whole, mapped, Codec}
 use Rattle.wire.specs.Write.{Sent, written, kept, send}
-use Rattle.wire.proofs.Laws.{Laws, both}
+use Rattle.wire.proofs.Laws.{Laws, both, after-whole, sized}
 use Rattle.table.specs.Memory.{stateOf}
 use Rattle.table.proofs.Lists.{lt-or-ge}
 use Rattle.stored.specs.File.{form1, file}
 use Rattle.stored.specs.Answer.{sent, Storing}
-use Rattle.exports.specs.Codes.{readCode, sentCode, coded, tell, Tells}
+use Rattle.exports.specs.Codes.{sentCode, tell}
 use Rattle.exports.specs.Messages.{isHead, HeadFits, isAnswer, AnswerFits}
 
 pub head-fits : (ns : List ℕ) → isHead ns ≡ true → HeadFits ns
@@ -67,19 +67,12 @@ storing-fits t old new x h s = ⊎-elim (λ l. l) (λ g. absurd (n g)) (lt-or-ge
               (s .unsound (λ d. omega (arith, ap (λ (p : Sent × List ℕ). sentCode (p .0)) (s .sound d), file-fits (file form1 (stateOf t)) old h))),
         )
 
--- no numbers told leave the list as it was
-pub tell-none : (old : List ℕ) → old ≡ tell [] old
-unfolding tell
-tell-none old = rw (le-leb 0 (length old) (omega arith))
-
 -- a message that was read whole is in the input, and so its length is at most the input's
-pub whole-fits : {A : Type 0} (c : Codec A) → Laws c → (s : List ℕ) → length s < 2 ^ 63 → (a : A) (n : ℕ) → whole a n ≡ c .dec s → 256 + n < 2 ^ 64
-whole-fits c l s h a n e = omega (arith, l .spans s a n (sym e))
-
--- what a reader tells, by the answer that it gives
-pub tells : {R A : Type 0} {means : R → Read A} {numbers : R → List ℕ} {found : Read A} {old new : List ℕ} {n : ℕ} (x y : R)
-    → means x ≡ found → x ≡ y → new ≡ tell (numbers y) old → n ≡ readCode (means y) → Tells means numbers found old new n
-tells x y p q t e = record { answer = x; read = p; told = rw q t; code = rw (← p, q) e }
+pub whole-fits : {A B : Type 0} (c : Codec A) → Laws c → (s : List ℕ) → length s < 2 ^ 63 → (f : A → ℕ → B) (b : B) (n : ℕ) → whole b n ≡ mapped f (c .dec s) → 256 + n < 2 ^ 64
+unfolding mapped
+whole-fits c l s h f b n e =
+    let x = after-whole (c .dec s) _ b n (sym e) in
+    omega (arith, l .spans s (x .val) (x .len) (x .first), sized (x .then))
 
 -- the third number told is another name of it
 pub told-third : (a b : ℕ) {p q : ℕ} (old : List ℕ) {new : List ℕ} → p ≡ q → new ≡ tell (a ∷ b ∷ p ∷ []) old → new ≡ tell (a ∷ b ∷ q ∷ []) old

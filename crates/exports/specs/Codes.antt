@@ -1,5 +1,4 @@
 -- Answers as numbers: 0 for more needed, a refusal's number, or 256 and a count of bytes.
-use mathlib.Core.Path.{_≡_}
 use mathlib.Core.List.{List, _++_}
 use mathlib.Core.Bool.{cond}
 use Prim.Native.Nat.{ℕ, _+_}
@@ -7,11 +6,6 @@ use lib.ListN.{length, drop}
 use lib.Dec.{leb}
 use Rattle.wire.specs.Codec.{Read, whole, more, refused}
 use Rattle.wire.specs.Write.{Sent, written, kept}
-
-abbrev pub readCode : {A : Type 0} → Read A → ℕ
-readCode (whole a n) = 256 + n
-readCode more = 0
-readCode (refused k) = k
 
 abbrev pub sentCode : Sent → ℕ
 sentCode (written n) = 256 + n
@@ -25,10 +19,8 @@ coded p = (sentCode (p .0), p .1)
 unfoldable pub tell : List ℕ → List ℕ → List ℕ
 tell ns old = cond (leb (length ns) (length old)) (ns ++ drop (length ns) old) old
 
--- An answer of a reader that is what reading finds, its numbers told, and its code. The spans among the numbers are the program's choice; every
--- choice shows the parts of the message.
-pub record Tells {R A : Type 0} (means : R → Read A) (numbers : R → List ℕ) (found : Read A) (old new : List ℕ) (n : ℕ) : Type 0 where
-  pub answer : R
-  pub read : means answer ≡ found
-  pub told : new ≡ tell (numbers answer) old
-  pub code : n ≡ readCode found
+-- what an exported reader answers, and what it leaves of the list lent: the numbers of a whole message are told, and of any other none
+unfoldable pub told : {A : Type 0} → (A → ℕ → List ℕ) → Read A → List ℕ → ℕ × List ℕ
+told numbers (whole a n) old = (256 + n, tell (numbers a n) old)
+told numbers more old = (0, old)
+told numbers (refused k) old = (k, old)

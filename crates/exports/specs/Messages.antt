@@ -14,10 +14,6 @@ use Rattle.message.specs.declared.Reply as code-reply
 use Rattle.message.specs.Operation.{codeOf, findCode}
 use Rattle.message.specs.Request.{request, requestOf}
 use Rattle.message.specs.Reply.{Asked, reply, replyOf}
-use Rattle.request.specs.declared.RequestRead.{RequestRead}
-use Rattle.request.specs.declared.RequestRead.the-variants as r
-use Rattle.reply.specs.declared.ReplyRead.{ReplyRead}
-use Rattle.reply.specs.declared.ReplyRead.the-variants as p
 
 -- the count of bytes of a request that was read, its numbers, and where its name, key and value stand
 abbrev pub wholeRequest : code.Request → ℕ → List ℕ
@@ -25,20 +21,10 @@ wholeRequest q n =
     n ∷ q .head .id ∷ q .head .version ∷ codeOf (q .head .op) ∷ q .head .flags ∷ q .head .intelligence ∷ q .head .topology ∷ q .head .lifespan
     ∷ q .head .idle ∷ q .head .entry .0 ∷ q .name .start ∷ q .name .len ∷ q .key .start ∷ q .key .len ∷ q .value .start ∷ q .value .len ∷ []
 
-abbrev pub requestNumbers : RequestRead → List ℕ
-requestNumbers (r.Whole q n) = wholeRequest q n
-requestNumbers r.More = []
-requestNumbers (r.Refused k) = []
-
 -- the same of a reply, and where its value and text stand
 abbrev pub wholeReply : code-reply.Reply → ℕ → List ℕ
 wholeReply q n =
     n ∷ q .answer .id ∷ q .answer .op ∷ q .answer .status ∷ q .answer .entry .0 ∷ q .value .start ∷ q .value .len ∷ q .text .start ∷ q .text .len ∷ []
-
-abbrev pub replyNumbers : ReplyRead → List ℕ
-replyNumbers (p.Whole q n) = wholeReply q n
-replyNumbers p.More = []
-replyNumbers (p.Refused k) = []
 
 -- the numbers of a request to be written: too few, one that does not fit its field, or a code that is not served are none of a request
 abbrev pub headWith : List ℕ → Operation → Head

@@ -8,24 +8,25 @@ use reply::ReplyRead;
 use request::RequestRead;
 use server::Served;
 ghost use mathlib.Core.Path.{_≡_};
+ghost use Rattle.wire.specs.Codec.{mapped};
 ghost use Rattle.message.specs.Request.{request};
 ghost use Rattle.message.specs.Reply.{reply};
-ghost use Rattle.request.specs.Answer.{asRequest};
+ghost use Rattle.request.specs.Answer.{requestAt};
 ghost use Rattle.reply_body.specs.Asked.{asked};
-ghost use Rattle.reply.specs.Answer.{asReply};
+ghost use Rattle.reply.specs.Answer.{replyAt};
 ghost use Rattle.table.specs.Memory.{Sound};
 ghost use Rattle.table.specs.Found.{Tells as Says};
 ghost use Rattle.table.specs.Change.{Left, outcomeOf, made};
 ghost use Rattle.server.specs.Answer.{callOf, contextOf};
 ghost use Rattle.exports.specs.Calls.{TellsDone, TellsTotal, TellsServed, TellsStored, TellsLoaded, outcomeCode};
-ghost use Rattle.exports.specs.Codes.{coded, Tells};
-ghost use Rattle.exports.specs.Messages.{requestNumbers, replyNumbers, sendRequest, sendReply};
+ghost use Rattle.exports.specs.Codes.{coded, told};
+ghost use Rattle.exports.specs.Messages.{wholeRequest, wholeReply, sendRequest, sendReply};
 
 // The request at the front of the input. Numbers told: count of bytes, id, version, operation, flags, intelligence, topology, lifespan, max idle, entry
 // version, and the start and length of name, key and value.
 #[no_mangle]
 pub extern "C" fn fq_read_request(input: &[u8], answer: &mut [u64]) -> u64
-    ensures { λ r. ⌜ Tells (asRequest (now (input .entry))) requestNumbers (request .dec (now (input .entry))) (now (answer .entry)) (now (answer .exit)) r ⌝ }
+    ensures { λ r. ⌜ (r, now (answer .exit)) ≡ told wholeRequest (mapped requestAt (request .dec (now (input .entry)))) (now (answer .entry)) ⌝ }
 {
     let a = request::read_request(input);
     match a {
@@ -42,7 +43,7 @@ pub extern "C" fn fq_read_request(input: &[u8], answer: &mut [u64]) -> u64
 // entry version, and the start and length of value and text.
 #[no_mangle]
 pub extern "C" fn fq_read_reply(input: &[u8], op: u8, flag: bool, answer: &mut [u64]) -> u64
-    ensures { λ r. ⌜ Tells (asReply (now (input .entry))) replyNumbers (reply (asked op flag) .dec (now (input .entry))) (now (answer .entry)) (now (answer .exit)) r ⌝ }
+    ensures { λ r. ⌜ (r, now (answer .exit)) ≡ told wholeReply (mapped replyAt (reply (asked op flag) .dec (now (input .entry)))) (now (answer .entry)) ⌝ }
 {
     let a = reply::read_reply(input, op, flag);
     match a {

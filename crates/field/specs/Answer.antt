@@ -1,9 +1,10 @@
 -- What the readers' answers say of the bytes that they were given.
 use mathlib.Core.List.{List}
-use mathlib.Core.Path.{_≡_}
-use Prim.Native.Nat.{ℕ}
-use lib.ListN.{take, drop}
-use Rattle.wire.specs.Codec.{Read, whole, more, refused, after, Codec, guard}
+use mathlib.Core.Bool.{cond, _&&_}
+use Prim.Native.Nat.{ℕ, _-_}
+use lib.ListN.{length, take, drop}
+use lib.Dec.{eqb, leb}
+use Rattle.wire.specs.Codec.{Read, whole, more, refused, after, Codec, byte, guard}
 use Rattle.wire.specs.Number.{number}
 use Rattle.wire.specs.Field.{limited}
 use Rattle.text.specs.Text.{isText}
@@ -46,9 +47,20 @@ numberOf k = number (refusalOf k) (topOf k) (mostOf k) 0
 unfoldable pub limitedText : ℕ → Codec (List ℕ)
 limitedText lim = guard isText 7 (limited lim)
 
+-- a byte between two bounds: another is refused
+unfoldable pub between : (low high refusal : ℕ) → Codec ℕ
+between low high refusal = guard (λ b. leb low b && leb b high) refusal byte
+
 -- the bytes of a part: as many of them as there are
 abbrev pub partOf : List ℕ → Span → List ℕ
 partOf s p = take (p .len) (drop (p .start) s)
+
+-- Where bytes that end at a place stand: "shown as the part of the caller's own bytes, not copied". No bytes, sent or not, stand nowhere.
+abbrev pub nowhere : Span
+nowhere = record { start = 0; len = 0 }
+
+unfoldable pub spanTo : List ℕ → ℕ → Span
+spanTo bs n = cond (eqb (length bs) 0) nowhere (record { start = n - length bs; len = length bs })
 
 abbrev pub asByte : ByteRead → Read ℕ
 asByte (b.Whole x c) = whole x (c .at)
@@ -67,10 +79,10 @@ abbrev pub asSecond : SecondRead → Read ℕ
 asSecond (d.Whole x c) = whole (x .0) (c .at)
 asSecond d.More = more
 
-abbrev pub asSpan : List ℕ → SpanRead → Read (List ℕ)
-asSpan s (p.Whole x c) = whole (partOf s x) (c .at)
-asSpan s p.More = more
-asSpan s (p.Refused k) = refused k
+abbrev pub asSpan : SpanRead → Read Span
+asSpan (p.Whole x c) = whole x (c .at)
+asSpan p.More = more
+asSpan (p.Refused k) = refused k
 
 -- what stops the reading of a field stops the reading of what it begins
 abbrev pub stopped : {A B : Type 0} → Read A → Read B

@@ -2,12 +2,10 @@
 pub mod put;
 
 ghost use mathlib.Core.Path.{_≡_};
-ghost use Prim.Native.Nat.{ℕ, _<_};
-ghost use mathlib.Core.List.{List};
 ghost use lib.ListN.{take, drop};
-ghost use Rattle.wire.specs.Codec.{readAt, byte};
+ghost use Rattle.wire.specs.Codec.{readAt, byte, mapped};
 ghost use Rattle.wire.specs.Field.{entryVersion, second, limited};
-ghost use Rattle.field.specs.Answer.{asByte, asNumber, asVersion, asSecond, asSpan, numberOf, mostOf, topOf, refusalOf, limitedText, partOf, stopped};
+ghost use Rattle.field.specs.Answer.{asByte, asNumber, asVersion, asSecond, asSpan, numberOf, mostOf, topOf, refusalOf, limitedText, between, partOf, spanTo, stopped};
 
 // A place in the bytes that are read.
 pub struct Cursor {
@@ -89,20 +87,42 @@ fn refusal(k: Kind) -> u8
     }
 }
 
-// A part of the bytes, not copied; as much of it as there is.
+impl Cursor {
+    // So many bytes from the place on, not copied; as many of them as there are.
+    pub fn part(self, s: &[u8], len: usize) -> &[u8]
+        ensures { λ r. ⌜ now r ≡ take len (drop (self .at) (now (s .entry))) ⌝ }
+    {
+        let start = self.at;
+        if s.len() <= start {
+            return &s[0..0];
+        }
+        if s.len() - start <= len {
+            return &s[start..];
+        }
+        let end = start + len;
+        &s[start..end]
+    }
+}
+
+impl SpanRead {
+    // The length of a part that was read.
+    pub fn length(self) -> NumberRead
+        ensures { λ r. ⌜ asNumber r ≡ mapped (λ p n. p .len) (asSpan self) ⌝ }
+    {
+        match self {
+            SpanRead::Whole(p, c) => NumberRead::Whole(p.len as u64, c),
+            SpanRead::More => NumberRead::More,
+            SpanRead::Refused(k) => NumberRead::Refused(k),
+        }
+    }
+}
+
+// A part of the bytes.
 pub fn part(s: &[u8], p: Span) -> &[u8]
     ensures { λ r. ⌜ now r ≡ partOf (now (s .entry)) p ⌝ }
 {
-    let start = p.start;
-    let len = p.len;
-    if s.len() <= start {
-        return &s[0..0];
-    }
-    if s.len() - start <= len {
-        return &s[start..];
-    }
-    let end = start + len;
-    &s[start..end]
+    let c = Cursor { at: p.start };
+    c.part(s, p.len)
 }
 
 pub fn read_byte(s: &[u8], c: Cursor) -> ByteRead
@@ -114,6 +134,23 @@ pub fn read_byte(s: &[u8], c: Cursor) -> ByteRead
     } else {
         ByteRead::More
     }
+}
+
+// A byte from `low` to `high`; another is refused.
+pub fn read_between(s: &[u8], c: Cursor, low: u8, high: u8, refusal: u8) -> NumberRead
+    ensures { λ r. ⌜ asNumber r ≡ readAt (between low high refusal) (now (s .entry)) (c .at) ⌝ }
+{
+    let r = read_byte(s, c);
+    let ByteRead::Whole(b, next) = r else {
+        return NumberRead::More;
+    };
+    if b < low {
+        return NumberRead::Refused(refusal);
+    }
+    if high < b {
+        return NumberRead::Refused(refusal);
+    }
+    NumberRead::Whole(b as u64, next)
 }
 
 // A number of either kind: what is left of the greatest count of bytes is counted down.
@@ -180,7 +217,7 @@ pub fn read_second(s: &[u8], c: Cursor) -> SecondRead
 
 // A length of at most `lim`, and so many bytes.
 pub fn read_limited(s: &[u8], c: Cursor, lim: u64) -> SpanRead
-    ensures { λ r. ⌜ asSpan (now (s .entry)) r ≡ readAt (limited lim) (now (s .entry)) (c .at) ⌝ }
+    ensures { λ r. ⌜ asSpan r ≡ mapped spanTo (readAt (limited lim) (now (s .entry)) (c .at)) ⌝ }
 {
     let r = read_number(s, c, Kind::VInt);
     let NumberRead::Whole(n, next) = r else {
@@ -191,6 +228,9 @@ pub fn read_limited(s: &[u8], c: Cursor, lim: u64) -> SpanRead
     }
     let at = next.at;
     let len = n as usize;
+    if len == 0 {
+        return SpanRead::Whole(Span { start: 0, len: 0 }, next);
+    }
     if s.len() - at < len {
         return SpanRead::More;
     }
@@ -205,7 +245,7 @@ pub fn read_limited(s: &[u8], c: Cursor, lim: u64) -> SpanRead
 
 // The same of a text, which is judged when all its bytes are there.
 pub fn read_text(s: &[u8], c: Cursor, lim: u64) -> SpanRead
-    ensures { λ r. ⌜ asSpan (now (s .entry)) r ≡ readAt (limitedText lim) (now (s .entry)) (c .at) ⌝ }
+    ensures { λ r. ⌜ asSpan r ≡ mapped spanTo (readAt (limitedText lim) (now (s .entry)) (c .at)) ⌝ }
 {
     let r = read_limited(s, c, lim);
     let SpanRead::Whole(p, _) = r else {
@@ -220,7 +260,7 @@ pub fn read_text(s: &[u8], c: Cursor, lim: u64) -> SpanRead
 
 // What a number that is not whole makes of the field that it begins.
 fn stop_number(r: NumberRead) -> SpanRead
-    ensures { λ h. ⌜ ((s : List ℕ) → asSpan s h ≡ stopped (asNumber r)) ⌝ }
+    ensures { λ h. ⌜ asSpan h ≡ stopped (asNumber r) ⌝ }
 {
     match r {
         NumberRead::Whole(_, _) => SpanRead::More,

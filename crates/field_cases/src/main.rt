@@ -6,6 +6,7 @@ use field::SpanRead;
 use field::VersionRead;
 use libc::STDIN_FILENO;
 use libc::STDOUT_FILENO;
+use message::Request;
 ghost use Prim.Native.Nat.{_≤_};
 ghost use Rattle.io.specs.Counts.{Counts};
 
@@ -109,9 +110,9 @@ fn run(letter: u8, s: &[u8]) {
         b'l' => tell_number(field::read_number(s, c, Kind::VLong)),
         b'e' => tell_version(field::read_version(s, c)),
         b't' => tell_text(s),
-        b'n' => tell_span(s, field::read_text(s, c, 32)),
-        b'k' => tell_span(s, field::read_limited(s, c, 64)),
-        b'v' => tell_span(s, field::read_limited(s, c, 256)),
+        b'n' => tell_span(s, field::read_text(s, c, Request::NAME)),
+        b'k' => tell_span(s, field::read_limited(s, c, Request::KEY)),
+        b'v' => tell_span(s, field::read_limited(s, c, Request::VALUE)),
         _ => tell(b"not a case"),
     }
     tell(b"\n");

@@ -5,7 +5,7 @@ use Prim.Native.Nat.{ℕ}
 use lib.ListN.{length}
 use lib.Seq.{drop-append-seam}
 use Rattle.wire.specs.Codec.{whole, Valid}
-use Rattle.wire.proofs.Laws.{never}
+use Rattle.wire.proofs.Laws.{never, same-read}
 use Rattle.message.specs.Request.{Request, request}
 use Rattle.message.specs.Written.{written, WellFormed, Begins}
 use Rattle.message.proofs.RequestLaws.{request-laws, request-starts}
@@ -15,9 +15,6 @@ pub some-byte : (r : Request) → Valid request r → (t : List ℕ) → request
 some-byte r v t e =
     let p : request .dec [] ≡ whole r (length (request .enc r)) = rw e at (request-laws .round r t v) in
     never (cc request-starts)
-
-same-read : {a b : Request} {n m : ℕ} → whole a n ≡ whole b m → a ≡ b
-same-read e = cc
 
 -- two written requests that begin the same list are one
 pub same-first : (r s : Request) (t u : List ℕ) → Valid request r → Valid request s → request .enc r ++ t ≡ request .enc s ++ u → (r ≡ s) × (t ≡ u)

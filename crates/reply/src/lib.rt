@@ -4,9 +4,10 @@ mod read;
 use message::Found;
 use message::Reply;
 ghost use mathlib.Core.Path.{_≡_};
+ghost use Rattle.wire.specs.Codec.{mapped};
 ghost use Rattle.message.specs.Reply.{reply};
 ghost use Rattle.reply_body.specs.Asked.{asked};
-ghost use Rattle.reply.specs.Answer.{asReply};
+ghost use Rattle.reply.specs.Answer.{asReply, replyAt};
 
 // What reading a reply finds: the reply with the count of its bytes, more needed, or a refusal by its number.
 pub enum ReplyRead {
@@ -17,7 +18,7 @@ pub enum ReplyRead {
 
 // The reply to an operation, which was asked with flag 0x0001 or without.
 pub fn read_reply(s: &[u8], op: u8, flag: bool) -> ReplyRead
-    ensures { λ r. ⌜ asReply (now (s .entry)) r ≡ reply (asked op flag) .dec (now (s .entry)) ⌝ }
+    ensures { λ r. ⌜ asReply r ≡ mapped replyAt (reply (asked op flag) .dec (now (s .entry))) ⌝ }
 {
     let found = message::find(op);
     let Found::Known(o) = found else {

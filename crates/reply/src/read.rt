@@ -13,34 +13,16 @@ use message::Operation;
 use message::Reply;
 use reply_body::Form;
 ghost use mathlib.Core.Path.{_≡_};
-ghost use mathlib.Core.List.{List, []};
-ghost use Prim.Native.Nat.{ℕ};
-ghost use lib.Dec.{eqb};
-ghost use Rattle.wire.specs.Codec.{readAt, byte, guard, after, whole};
+ghost use Rattle.wire.specs.Codec.{readAt, after, mapped, whole};
 ghost use Rattle.wire.specs.Field.{limited};
-ghost use Rattle.field.specs.Answer.{asNumber, asSpan, stopped, limitedText};
-ghost use Rattle.message.specs.Reply.{message, isAwaited, rowsOf, versionedBody, textLimit, replyOf};
+ghost use Rattle.field.specs.Answer.{asNumber, nowhere, spanTo, stopped, limitedText};
+ghost use Rattle.message.specs.Reply.{message, isAwaited, rowsOf, versionedBody, textLimit};
 ghost use Rattle.reply_body.specs.Body.{fieldsOf};
-ghost use Rattle.reply.specs.Answer.{asReply, replyWith};
-
-// A byte that has to be `b`; another is refused with the number `k`.
-fn read_fixed(s: &[u8], c: Cursor, b: u8, k: u8) -> NumberRead
-    ensures { λ r. ⌜ asNumber r ≡ readAt (guard (λ m. eqb m b) k byte) (now (s .entry)) (c .at) ⌝ }
-{
-    let r = field::read_byte(s, c);
-    let ByteRead::Whole(m, next) = r else {
-        return NumberRead::More;
-    };
-    if m == b {
-        NumberRead::Whole(m as u64, next)
-    } else {
-        NumberRead::Refused(k)
-    }
-}
+ghost use Rattle.reply.specs.Answer.{asReply, replyAt, replyWith, withParts};
 
 // What a field that is not whole makes of the reply.
-fn stop_number(r: NumberRead) -> ReplyRead
-    ensures { λ h. ⌜ ((s : List ℕ) → asReply s h ≡ stopped (asNumber r)) ⌝ }
+fn stop(r: NumberRead) -> ReplyRead
+    ensures { λ h. ⌜ asReply h ≡ stopped (asNumber r) ⌝ }
 {
     match r {
         NumberRead::Whole(_, _) => ReplyRead::More,
@@ -49,37 +31,27 @@ fn stop_number(r: NumberRead) -> ReplyRead
     }
 }
 
-fn stop_span(r: SpanRead) -> ReplyRead
-    ensures { λ h. ⌜ ((s : List ℕ) → asReply s h ≡ stopped (asSpan s r)) ⌝ }
-{
-    match r {
-        SpanRead::Whole(_, _) => ReplyRead::More,
-        SpanRead::More => ReplyRead::More,
-        SpanRead::Refused(k) => ReplyRead::Refused(k),
-    }
-}
-
 // A body that is a value of at most a length; an entry version and a value; a text.
 fn read_value(s: &[u8], c: Cursor, a: Answer, lim: u64) -> ReplyRead
-    ensures { λ r. ⌜ asReply (now (s .entry)) r ≡ after (readAt (limited lim) (now (s .entry)) (c .at)) (λ v j. whole (replyOf a v []) j) ⌝ }
+    ensures { λ r. ⌜ asReply r ≡ after (mapped spanTo (readAt (limited lim) (now (s .entry)) (c .at))) (λ p j. whole (withParts a p nowhere) j) ⌝ }
 {
     let r = field::read_limited(s, c, lim);
     let SpanRead::Whole(value, next) = r else {
-        return stop_span(r);
+        return stop(r.length());
     };
-    let none = Span { start: 0, len: 0 };
+    let no_text = Span { start: 0, len: 0 };
     ReplyRead::Whole(
         Reply {
             answer: a,
             value: value,
-            text: none,
+            text: no_text,
         },
         next.at,
     )
 }
 
 fn read_versioned(s: &[u8], c: Cursor, a: Answer) -> ReplyRead
-    ensures { λ r. ⌜ asReply (now (s .entry)) r ≡ after (readAt versionedBody (now (s .entry)) (c .at)) (λ p j. whole (replyWith a p) j) ⌝ }
+    ensures { λ r. ⌜ asReply r ≡ mapped replyAt (after (readAt versionedBody (now (s .entry)) (c .at)) (λ p j. whole (replyWith a p) j)) ⌝ }
 {
     let r = field::read_version(s, c);
     let VersionRead::Whole(entry, next) = r else {
@@ -95,17 +67,17 @@ fn read_versioned(s: &[u8], c: Cursor, a: Answer) -> ReplyRead
 }
 
 fn read_text(s: &[u8], c: Cursor, a: Answer) -> ReplyRead
-    ensures { λ r. ⌜ asReply (now (s .entry)) r ≡ after (readAt (limitedText textLimit) (now (s .entry)) (c .at)) (λ t j. whole (replyOf a [] t) j) ⌝ }
+    ensures { λ r. ⌜ asReply r ≡ after (mapped spanTo (readAt (limitedText textLimit) (now (s .entry)) (c .at))) (λ p j. whole (withParts a nowhere p) j) ⌝ }
 {
     let r = field::read_text(s, c, Reply::TEXT);
     let SpanRead::Whole(text, next) = r else {
-        return stop_span(r);
+        return stop(r.length());
     };
-    let none = Span { start: 0, len: 0 };
+    let no_value = Span { start: 0, len: 0 };
     ReplyRead::Whole(
         Reply {
             answer: a,
-            value: none,
+            value: no_value,
             text: text,
         },
         next.at,
@@ -115,7 +87,7 @@ fn read_text(s: &[u8], c: Cursor, a: Answer) -> ReplyRead
 // The body behind a header, whose entry version is not read yet.
 fn read_body(s: &[u8], c: Cursor, a: Answer, f: Form) -> ReplyRead
     requires { ⌜ a .entry .0 ≡ 0 ⌝ }
-    ensures { λ r. ⌜ asReply (now (s .entry)) r ≡ after (readAt (fieldsOf f) (now (s .entry)) (c .at)) (λ p j. whole (replyWith a p) j) ⌝ }
+    ensures { λ r. ⌜ asReply r ≡ mapped replyAt (after (readAt (fieldsOf f) (now (s .entry)) (c .at)) (λ p j. whole (replyWith a p) j)) ⌝ }
 {
     match f {
         Form::Nothing => {
@@ -137,15 +109,15 @@ fn read_body(s: &[u8], c: Cursor, a: Answer, f: Form) -> ReplyRead
 
 // The reply to an operation that is served.
 pub(crate) fn read_message(s: &[u8], o: Operation, flag: bool) -> ReplyRead
-    ensures { λ r. ⌜ asReply (now (s .entry)) r ≡ readAt (message (isAwaited o) (rowsOf o) flag) (now (s .entry)) 0 ⌝ }
+    ensures { λ r. ⌜ asReply r ≡ mapped replyAt (readAt (message (isAwaited o) (rowsOf o) flag) (now (s .entry)) 0) ⌝ }
 {
-    let r1 = read_fixed(s, Cursor { at: 0 }, 0xa1, 1);
+    let r1 = field::read_between(s, Cursor { at: 0 }, 0xa1, 0xa1, 1);
     let NumberRead::Whole(_, c1) = r1 else {
-        return stop_number(r1);
+        return stop(r1);
     };
     let r2 = field::read_number(s, c1, Kind::VLong);
     let NumberRead::Whole(id, c2) = r2 else {
-        return stop_number(r2);
+        return stop(r2);
     };
     let r3 = field::read_byte(s, c2);
     let ByteRead::Whole(op, c3) = r3 else {
@@ -162,9 +134,9 @@ pub(crate) fn read_message(s: &[u8], o: Operation, flag: bool) -> ReplyRead
     if !reply_body::is_allowed(b) {
         return ReplyRead::Refused(8);
     }
-    let r5 = read_fixed(s, c4, 0, 8);
+    let r5 = field::read_between(s, c4, 0, 0, 8);
     let NumberRead::Whole(_, c5) = r5 else {
-        return stop_number(r5);
+        return stop(r5);
     };
     let a = Answer {
         id: id,

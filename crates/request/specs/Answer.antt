@@ -1,21 +1,82 @@
--- What the reader's answer says of the bytes that it was given, and the message id that an error reply answers to.
+-- What the reader answers of a request: its numbers, and where its name, key and value stand in the bytes. And the message id that an error reply answers to.
 use mathlib.Core.List.{List}
-use Prim.Native.Nat.{ℕ}
-use lib.Dec.{eqb}
+use mathlib.Core.Bool.{_&&_}
+use Prim.Native.Nat.{ℕ, _+_}
+use lib.ListN.{length}
+use lib.Dec.{eqb, leb}
 use Rattle.wire.specs.Codec.{Read, whole, more, refused, Codec, byte, guard, seq, as-type, all}
-use Rattle.wire.specs.Number.{vLong}
-use Rattle.message.specs.Request.{Request, requestIn}
+use Rattle.wire.specs.Number.{vInt, vLong}
+use Rattle.wire.specs.Field.{limited}
+use Rattle.field.specs.Answer.{limitedText, spanTo}
+use Rattle.message.specs.declared.Head.{Head}
+use Rattle.message.specs.declared.Request as code
+use Rattle.message.specs.Request.{Request, nameLimit, keyLimit, operation, transaction, isVersion, ed}
+use Rattle.request.specs.declared.Front.{Front}
 use Rattle.request.specs.declared.RequestRead.{RequestRead}
 use Rattle.request.specs.declared.RequestRead.the-variants as r
 
-abbrev pub asRequest : List ℕ → RequestRead → Read Request
-asRequest s (r.Whole q n) = whole (requestIn s q) n
-asRequest s r.More = more
-asRequest s (r.Refused k) = refused k
+abbrev pub asRequest : RequestRead → Read code.Request
+asRequest (r.Whole q n) = whole q n
+asRequest r.More = more
+asRequest (r.Refused k) = refused k
 
--- the magic and the message id
+-- The fields of a request before its arguments, in two parts: up to the operation, of which the magic and the message id come first, ..
 unfoldable pub start : Codec ℕ
 start = as-type all (λ p. p .1) (λ i. (0xa0, i)) (seq (guard (λ m. eqb m 0xa0) 1 byte) λ _. vLong)
+
+unfoldable pub front : Codec Front
+front =
+    as-type all (λ p. record { id = p .0; version = p .1 .0; op = p .1 .1 }) (λ f. (f .id, (f .version, f .op)))
+    (seq start λ _. seq (guard isVersion 3 byte) λ version. operation (ed version))
+
+-- .. and from the name on
+abbrev pub Options : Type 0
+Options = List ℕ × (ℕ × (ℕ × (ℕ × Unit {0})))
+
+unfoldable pub options : ℕ → Codec Options
+options version =
+    seq (limitedText nameLimit) λ _.
+    seq (guard (λ f. leb f (ed version .flags)) 8 vInt) λ _.
+    seq (guard (λ i. leb 1 i && leb i 3) 8 byte) λ _.
+    seq vInt λ _. transaction (ed version .transaction)
+
+abbrev pub frontOf : Request → Front
+frontOf m = record { id = m .id; version = m .version; op = m .op }
+
+abbrev pub optionsOf : Request → Options
+optionsOf m = (m .name, (m .flags, (m .intelligence, (m .topology, tt))))
+
+-- where the name of a written request ends, and its key
+abbrev pub nameEnd : Request → ℕ
+nameEnd m = length (front .enc (frontOf m)) + length (limitedText nameLimit .enc (m .name))
+
+abbrev pub keyEnd : Request → ℕ
+keyEnd m =
+    length (front .enc (frontOf m)) + length (options (m .version) .enc (optionsOf m)) + length (limited keyLimit .enc (m .args .key))
+
+abbrev pub headOf : Request → Head
+headOf m =
+    record {
+      id = m .id;
+      version = m .version;
+      op = m .op;
+      flags = m .flags;
+      intelligence = m .intelligence;
+      topology = m .topology;
+      lifespan = m .args .lifespan;
+      idle = m .args .maxIdle;
+      entry = record { 0 = m .args .entry };
+    }
+
+-- the answer of a request of n bytes: a value that is sent ends it
+unfoldable pub requestAt : Request → ℕ → code.Request
+requestAt m n =
+    record {
+      head = headOf m;
+      name = spanTo (m .name) (nameEnd m);
+      key = spanTo (m .args .key) (keyEnd m);
+      value = spanTo (m .args .value) n;
+    }
 
 abbrev pub idFound : Read ℕ → ℕ
 idFound (whole i n) = i

@@ -1,29 +1,76 @@
--- The parts of a request, for the contracts of the functions that read them.
-use mathlib.Core.List.{List}
-use Prim.Native.Nat.{ℕ}
-use lib.Dec.{leb}
-use mathlib.Core.Bool.{Bool, true, false, _&&_}
-use Rattle.wire.specs.Codec.{Read, whole, more, refused, after, Codec, byte, guard, seq, readAt}
-use Rattle.wire.specs.Number.{vInt}
+-- What the readers of a request's parts answer, for their contracts.
+use mathlib.Core.Bool.{Bool, true, false}
+use Prim.Native.Nat.{ℕ, _+_}
+use lib.ListN.{length}
+use Rattle.wire.specs.Codec.{Read, whole, more, refused}
 use Rattle.wire.specs.Field.{limited}
-use Rattle.field.specs.Answer.{partOf, limitedText}
-use Rattle.message.specs.declared.Operation.{Operation}
-use Rattle.message.specs.declared.Head.{Head}
-use Rattle.message.specs.Request.{Shape, keyed, writes, writesIf, keyedIf, bare, shapeOf, Args, args, argsOf, Request, nameLimit, valueLimit, ed, transaction, toRequest}
-use Rattle.request.specs.declared.CheckedRead.{CheckedRead}
-use Rattle.request.specs.declared.CheckedRead.the-variants as c
+use Rattle.field.specs.Answer.{limitedText, spanTo}
+use Rattle.field.specs.declared.Span.{Span}
+use Rattle.message.specs.declared.Request.{Request}
+use Rattle.message.specs.Request.{Shape, keyed, writes, writesIf, keyedIf, bare, Args, nameLimit, keyLimit}
+use Rattle.request.specs.Answer as a
+use Rattle.request.specs.declared.Front.{Front}
+use Rattle.request.specs.declared.FrontRead.{FrontRead}
+use Rattle.request.specs.declared.FrontRead.the-variants as f
+use Rattle.request.specs.declared.Options.{Options}
+use Rattle.request.specs.declared.OptionsRead.{OptionsRead}
+use Rattle.request.specs.declared.OptionsRead.the-variants as o
+use Rattle.request.specs.declared.Args as code-args
+use Rattle.request.specs.declared.ArgsRead.{ArgsRead}
+use Rattle.request.specs.declared.ArgsRead.the-variants as r
 use Rattle.request.specs.declared.Shape as code
 use Rattle.request.specs.declared.Shape.the-variants as s
-use Rattle.request.specs.declared.Args as code-args
 
-abbrev pub asChecked : CheckedRead → Read ℕ
-asChecked (c.Whole b n) = whole b (n .at)
-asChecked c.More = more
-asChecked (c.Refused k) = refused k
+abbrev pub asFront : FrontRead → Read Front
+asFront (f.Whole x c) = whole x (c .at)
+asFront f.More = more
+asFront (f.Refused k) = refused k
 
--- a byte between two bounds
-unfoldable pub between : (low high refusal : ℕ) → Codec ℕ
-between low high refusal = guard (λ b. leb low b && leb b high) refusal byte
+abbrev pub asOptions : OptionsRead → Read Options
+asOptions (o.Whole x c) = whole x (c .at)
+asOptions o.More = more
+asOptions (o.Refused k) = refused k
+
+abbrev pub asArgs : ArgsRead → Read code-args.Args
+asArgs (r.Whole x c) = whole x (c .at)
+asArgs r.More = more
+asArgs (r.Refused k) = refused k
+
+-- the answers of parts that begin at a place and end at n
+unfoldable pub optionsAt : ℕ → a.Options → ℕ → Options
+optionsAt at x n =
+    record {
+      name = spanTo (x .0) (at + length (limitedText nameLimit .enc (x .0)));
+      flags = x .1 .0;
+      intelligence = x .1 .1 .0;
+      topology = x .1 .1 .1 .0;
+    }
+
+abbrev pub argsWith : Span → (lifespan idle entry : ℕ) → Span → code-args.Args
+argsWith key l i e value = record { key = key; lifespan = l; idle = i; entry = record { 0 = e }; value = value }
+
+unfoldable pub argsAt : ℕ → Args → ℕ → code-args.Args
+argsAt at x n =
+    argsWith (spanTo (x .key) (at + length (limited keyLimit .enc (x .key)))) (x .lifespan) (x .maxIdle) (x .entry) (spanTo (x .value) n)
+
+abbrev pub togetherOf : Front → Options → code-args.Args → Request
+togetherOf f o a =
+    record {
+      head = record {
+        id = f .id;
+        version = f .version;
+        op = f .op;
+        flags = o .flags;
+        intelligence = o .intelligence;
+        topology = o .topology;
+        lifespan = a .lifespan;
+        idle = a .idle;
+        entry = a .entry;
+      };
+      name = o .name;
+      key = a .key;
+      value = a .value;
+    }
 
 abbrev pub asShape : code.Shape → Shape
 asShape s.Keyed = keyed
@@ -40,42 +87,3 @@ keyedBy false = keyed
 abbrev pub writesBy : Bool → Shape
 writesBy true = writesIf
 writesBy false = writes
-
--- the arguments that were read, with a value
-abbrev pub argsIn : List ℕ → code-args.Args → List ℕ → Args
-argsIn s a = args (partOf s (a .key)) (a .lifespan) (a .idle) (a .entry .0)
-
--- the request of a header and its arguments
-abbrev pub requestWith : Head → List ℕ → Args → Request
-requestWith h name a =
-    record {
-      id = h .id;
-      version = h .version;
-      op = h .op;
-      name = name;
-      flags = h .flags;
-      intelligence = h .intelligence;
-      topology = h .topology;
-      args = a;
-    }
-
--- what is found where the arguments begin, by their shape
-unfoldable pub fromArgs : List ℕ → Head → List ℕ → Shape → ℕ → Read Request
-fromArgs s h name shape at = after (readAt (argsOf shape) s at) (λ a n. whole (requestWith h name a) n)
-
--- what is found where the value begins
-unfoldable pub fromValue : List ℕ → Head → List ℕ → (List ℕ → Args) → ℕ → Read Request
-fromValue s h name a at = after (readAt (limited valueLimit) s at) (λ v n. whole (requestWith h name (a v)) n)
-
--- the fields from the name on
-unfoldable pub options : ℕ → Operation → Codec (List ℕ × (ℕ × (ℕ × (ℕ × (Unit {0} × Args)))))
-options version op =
-    seq (limitedText nameLimit) λ _.
-    seq (guard (λ f. leb f (ed version .flags)) 8 vInt) λ _.
-    seq (guard (λ i. leb 1 i && leb i 3) 8 byte) λ _.
-    seq vInt λ _.
-    seq (transaction (ed version .transaction)) λ _. argsOf (shapeOf op)
-
--- what is found where the name begins
-unfoldable pub fromName : List ℕ → (id version : ℕ) → Operation → ℕ → Read Request
-fromName s id version op at = after (readAt (options version op) s at) (λ p n. whole (toRequest (0xa0, (id, (version, (op, p))))) n)

@@ -1,5 +1,5 @@
 -- Reading at a place of a list, through each way of making a codec. Assumes nothing.
-use mathlib.Core.Path.{_≡_, refl}
+use mathlib.Core.Path.{_≡_, refl, sym, ap, subst, _∙_}
 use mathlib.Core.List.{List, []}
 use mathlib.Core.Bool.{Bool, true, false, cond}
 use Prim.Native.Nat.{ℕ, _+_, _-_, _≤_, _<_}
@@ -7,10 +7,10 @@ use native.Mathlib.Nat.{add-assoc, zero-add}
 use native.Mathlib.Omega.{arith}
 use native.Mathlib.Decide.{decLt}
 use lib.ListN.{length, take, drop, length-drop, drop-of-length-le}
-use lib.Seq.{drop-drop}
+use lib.Seq.{drop-drop, length-take-le}
 use lib.Dec.{leb}
-use Rattle.wire.specs.Codec.{Read, whole, more, refused, after, Codec, raw, guard, seq, as-type, readAt}
-use Rattle.wire.proofs.Laws.{Laws, never, after-same, after-after, after-whole, sized}
+use Rattle.wire.specs.Codec.{Read, whole, more, refused, after, Codec, Bytes, raw, guard, seq, as-type, readAt}
+use Rattle.wire.proofs.Laws.{Laws, never, after-same, after-after, after-whole, sized, same-read, bytes-drop}
 
 -- at the front
 pub at-front : {A : Type 0} (c : Codec A) (s : List ℕ) → readAt c s 0 ≡ c .dec s
@@ -76,3 +76,39 @@ at-within c l z s at a j e = go (decLt at (length s))
         let q : drop at s ≡ [] = drop-of-length-le s {i = at} (omega arith) in
         let f : more ≡ whole a j = rw (q, z) at e in
         never (cc)
+
+-- what is read whole ends behind the bytes that are written so
+pub at-exact : {A : Type 0} (c : Codec A) → Laws c → (s : List ℕ) (at : ℕ) (a : A) (j : ℕ) → Bytes s → readAt c s at ≡ whole a j → j ≡ at + length (c .enc a)
+unfolding readAt
+at-exact {A} c l s at a j b e =
+    let x = after-whole (c .dec (drop at s)) _ a j e in
+    let q : at + x .len ≡ j = sized (x .then) in
+    let v : x .val ≡ a = same-read (x .then) in
+    let w = l .spans (drop at s) (x .val) (x .len) (x .first) in
+    let m = l .exact (drop at s) (x .val) (x .len) (bytes-drop at s b) (x .first) .same in
+    omega (arith, length-take-le (x .len) (drop at s) w, ap length (m ∙ ap (λ (y : A). c .enc y) v))
+
+-- a whole value of another type, and two of which one comes after the other, are read of such
+pub record Typed {A B : Type 0} (to : A → B) (c : Codec A) (s : List ℕ) (at : ℕ) (b : B) (j : ℕ) : Type 0 where
+  pub val : A
+  pub read : readAt c s at ≡ whole val j
+  pub same : to val ≡ b
+
+pub typed : {A B : Type 0} (test : B → Bool) (to : A → B) (from : B → A) (c : Codec A) (s : List ℕ) (at : ℕ) (b : B) (j : ℕ)
+    → readAt (as-type test to from c) s at ≡ whole b j → Typed to c s at b j
+typed test to from c s at b j e =
+    let x = after-whole (readAt c s at) _ b j (sym (at-type s at test to from c) ∙ e) in
+    record { val = x .val; read = rw (sized (x .then)) at (x .first); same = same-read (x .then) }
+
+pub record Halves {A : Type 0} {B : A → Type 0} (c : Codec A) (d : (a : A) → Codec (B a)) (s : List ℕ) (at : ℕ) (p : (a : A) × B a) (j : ℕ) : Type 0 where
+  pub mid : ℕ
+  pub first : readAt c s at ≡ whole (p .0) mid
+  pub second : readAt (d (p .0)) s mid ≡ whole (p .1) j
+
+pub halves : {A : Type 0} {B : A → Type 0} (c : Codec A) (d : (a : A) → Codec (B a)) (s : List ℕ) (at : ℕ) (p : (a : A) × B a) (j : ℕ)
+    → readAt (seq c d) s at ≡ whole p j → Halves c d s at p j
+halves {A} {B} c d s at p j e =
+    let x = after-whole (readAt c s at) _ p j (sym (at-seq s at c d) ∙ e) in
+    let y = after-whole (readAt (d (x .val)) s (x .len)) _ p j (x .then) in
+    subst (λ (q : (a : A) × B a). Halves c d s at q j) (same-read (y .then))
+    (record { mid = x .len; first = x .first; second = rw (sized (y .then)) at (y .first) })

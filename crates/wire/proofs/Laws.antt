@@ -9,7 +9,7 @@ use lib.ListN.{length, getD, take, drop, length-append, length-drop, length-take
 use lib.Seq.{drop-append-seam, take-append-seam, length-take-le, take-append-le, take-append-add, take-add, getD-drop, getD-take}
 use lib.Dec.{leb, ltb, eqb}
 use borrow.Author.Tests.{ltb-true, leb-true, lt-ltb, le-leb, lt-leb, eqb-true, eq-eqb}
-use Rattle.wire.specs.Codec.{Read, whole, more, refused, after, Codec, Valid, Bytes, isBytes, empty, refuse, byte, raw, guard, seq, as-type}
+use Rattle.wire.specs.Codec.{Read, whole, more, refused, after, mapped, Codec, Valid, Bytes, isBytes, empty, refuse, byte, raw, guard, seq, as-type}
 
 -- what follows from two equal answers of different kinds
 pub never : {X : Type 0} → _≡_ {A = ℕ} 0 1 → X
@@ -64,6 +64,19 @@ after-after (whole a n) f g = refl
 after-after more f g = refl
 after-after (refused k) f g = refl
 
+-- and so for what is known of a whole answer
+pub after-on : {A B : Type 0} (r : Read A) {f g : A → ℕ → Read B} → ((a : A) (n : ℕ) → r ≡ whole a n → f a n ≡ g a n) → after r f ≡ after r g
+after-on (whole a n) h = h a n refl
+after-on more h = refl
+after-on (refused k) h = refl
+
+-- the way back from what was read, told in another way
+pub mapped-back : {A B : Type 0} (r : Read A) (g : A → ℕ → B) (h : B → ℕ → A) → ((a : A) (n : ℕ) → r ≡ whole a n → h (g a n) n ≡ a) → mapped h (mapped g r) ≡ r
+unfolding mapped
+mapped-back (whole a n) g h e = rw (e a n refl)
+mapped-back more g h e = refl
+mapped-back (refused k) g h e = refl
+
 -- a whole answer after a test
 pub passed : {A : Type 0} {a : A} {n : ℕ} (t : Bool) (x : Read A) (k : ℕ) → cond t x (refused k) ≡ whole a n → (t ≡ true) × (x ≡ whole a n)
 passed true x k e = (refl, e)
@@ -85,6 +98,9 @@ moved {A} {c} {bs} {a} {b} {n} {m} x e =
 
 pub sized : {A : Type 0} {a b : A} {n m : ℕ} → whole a n ≡ whole b m → n ≡ m
 sized e = cc
+
+pub same-read : {A : Type 0} {a b : A} {n m : ℕ} → whole a n ≡ whole b m → a ≡ b
+same-read e = cc
 
 -- one value after another
 pub seq-valid : {A : Type 0} {B : A → Type 0} (c : Codec A) (d : (a : A) → Codec (B a)) (p : (a : A) × B a)

@@ -19,6 +19,10 @@ after (whole a n) f = f a n
 after more f = more
 after (refused k) f = refused k
 
+-- what was read, told in another way: of a whole value a, which ends at n, as `f a n`
+unfoldable pub mapped : {A B : Type 0} → (A → ℕ → B) → Read A → Read B
+mapped f r = after r (λ a n. whole (f a n) n)
+
 pub record Codec (A : Type 0) : Type 1 where
   pub enc : A → List ℕ
   pub dec : List ℕ → Read A

@@ -1,5 +1,7 @@
 -- `request::read_args` meets its contract: the shape decides. Assumes nothing.
 use mathlib.Core.Path.{sym, _∙_}
+use native.Mathlib.Omega.{arith}
+use Rattle.wire.specs.Codec.{Bytes}
 use Rattle.request.proofs.Read.{at-bare}
 use borrow.Author.Needs.{needs}
 use Rattle.request.proofs.read_args.Statement.{statement}
@@ -25,10 +27,14 @@ returns-4 c =
     let e = c .before in
     c .read-keyed2 .ensures ∙ rw (← (e .before .before .shape-of .ensures), e .enum-told4 .given .1)
 
+bytes : (c : tie.After-shared-slice-known) → Bytes (c .before .args .s .now)
+bytes c i = omega (arith, c .shared-slice-known .given i)
+
 returns-5 : tie.Need-returns-5
 returns-5 c =
     let e = c .before in
-    c .finish-keyed .ensures _ ∙ sym (rw (← (e .before .before .shape-of .ensures), e .enum-told5 .given .1) (at-bare _ _ _ _))
+    let s = e .before .before .before in
+    sym (rw (← (e .before .before .shape-of .ensures), e .enum-told5 .given .1, at-bare _ (bytes s), c .keyed .ensures))
 
 pub read-args-spec : {M : Type 1} → statement M
 read-args-spec =

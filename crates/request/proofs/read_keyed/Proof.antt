@@ -1,12 +1,17 @@
--- `request::read_keyed` meets its contract: the key, then the entry version decide. Assumes nothing.
+-- `request::read_keyed` meets its contract: after each field, the next one decides. Assumes nothing.
 use mathlib.Core.Path.{sym, _∙_}
 use mathlib.Core.Bool.{Bool}
+use native.Mathlib.Omega.{arith}
 use borrow.Author.Tests.{not-true, not-false}
-use Rattle.field.proofs.Parts.{span-stops}
+use Rattle.wire.specs.Codec.{Bytes}
+use Rattle.field.proofs.Parts.{span-stops, length-stops}
 use Rattle.request.proofs.Read.{at-keyed}
 use borrow.Author.Needs.{needs}
 use Rattle.request.proofs.read_keyed.Statement.{statement}
 use Rattle.request.proofs.read_keyed.Tie as tie
+
+bytes : (c : tie.After-shared-slice-known) → Bytes (c .before .args .s .now)
+bytes c i = omega (arith, c .shared-slice-known .given i)
 
 -- whether the operation is a conditional one
 abbrev asks : tie.Start → Bool
@@ -14,30 +19,37 @@ asks s = s .args .conditional
 
 returns : tie.Need-returns
 returns c =
-    let v = c .before .before in
+    let v = c .before .before .before in
     let r = v .read-limited in
-    c .stop-span .ensures _ ∙ sym (at-keyed _ _ _ _ (asks (v .before .before)) ∙ rw (← (r .ensures)) (span-stops (r .result) (c .before .match .keys2) _ _))
+    c .stop-args .ensures ∙ length-stops (r .result) (c .before .length .result) (c .before .length .ensures)
+    ∙ sym (at-keyed _ (bytes (v .before)) _ (asks (v .before .before)) ∙ rw (← (r .ensures)) (span-stops (r .result) (c .before .before .match .keys2) _))
 
 returns-2 : tie.Need-returns-2
 returns-2 c =
     let i = c .before in
-    let r = i .before .before in
-    c .finish-keyed .ensures _ ∙ sym (at-keyed _ _ _ _ (asks (r .before .before .before .before)) ∙ rw (← (r .before .before .read-limited .ensures), r .r1 .given .1, not-true (asks (r .before .before .before .before)) (i .if1 .taken)))
+    let r1 = i .before .before in
+    let v = r1 .before .before in
+    let s = v .before .before in
+    sym (at-keyed _ (bytes (v .before)) _ (asks s) ∙ rw (← (v .read-limited .ensures), r1 .r1 .given .1, not-true (asks s) (i .if1 .taken), c .keyed .ensures))
 
 returns-3 : tie.Need-returns-3
 returns-3 c =
-    let v = c .before .before in
-    let i = v .before in
-    let r = i .before .before in
-    sym (at-keyed _ _ _ _ (asks (r .before .before .before .before)) ∙ rw (← (r .before .before .read-limited .ensures), r .r1 .given .1, not-false (asks (r .before .before .before .before)) (i .if1 .left), ← (v .read-version .ensures), c .enum-told .given .1))
+    let e = c .before .before in
+    let i = e .before in
+    let r1 = i .before .before in
+    let v = r1 .before .before in
+    let s = v .before .before in
+    sym (at-keyed _ (bytes (v .before)) _ (asks s) ∙ rw (← (v .read-limited .ensures), r1 .r1 .given .1, not-false (asks s) (i .if1 .left), ← (e .read-version .ensures), c .enum-told .given .1))
 
 returns-4 : tie.Need-returns-4
 returns-4 c =
-    let e = c .before .before in
-    let v = e .before .before in
-    let i = v .before in
-    let r = i .before .before in
-    c .finish-keyed2 .ensures _ ∙ sym (at-keyed _ _ _ _ (asks (r .before .before .before .before)) ∙ rw (← (r .before .before .read-limited .ensures), r .r1 .given .1, not-false (asks (r .before .before .before .before)) (i .if1 .left), ← (v .read-version .ensures), e .r2 .given .1))
+    let r2 = c .before .before in
+    let e = r2 .before .before in
+    let i = e .before in
+    let r1 = i .before .before in
+    let v = r1 .before .before in
+    let s = v .before .before in
+    sym (at-keyed _ (bytes (v .before)) _ (asks s) ∙ rw (← (v .read-limited .ensures), r1 .r1 .given .1, not-false (asks s) (i .if1 .left), ← (e .read-version .ensures), r2 .r2 .given .1, c .keyed2 .ensures))
 
 pub read-keyed-spec : {M : Type 1} → statement M
 read-keyed-spec =
@@ -45,6 +57,7 @@ read-keyed-spec =
     (tie.spec
     (λ c κs. search needs)
     (λ c. search needs)
+    (λ c κs. search needs)
     (λ c κs. search needs)
     returns
     (λ c κs. search needs)

@@ -2,11 +2,13 @@
 use mathlib.Core.Path.{_≡_, sym, ap, _∙_}
 use mathlib.Core.Bool.{true}
 use borrow.Author.Tests.{not-true, not-false}
-use Rattle.wire.specs.Codec.{Read, readAt}
+use Rattle.wire.specs.Codec.{Read, mapped, readAt}
 use Rattle.wire.specs.Number.{vLong}
 use Rattle.field.proofs.Parts.{number-stops}
-use Rattle.message.specs.Reply.{Reply, isAwaited, rowsOf, bodyAt, isAllowed, message}
+use Rattle.message.specs.Reply.{isAwaited, rowsOf, bodyAt, isAllowed, message}
+use Rattle.message.specs.declared.Reply.{Reply}
 use Rattle.reply_body.proofs.BodyLaws.{fields-form}
+use Rattle.reply.specs.Answer.{replyAt}
 use Rattle.reply.proofs.ReadLaws.{rest1, rest2, rest3, rest4, rest5, at-message}
 use borrow.Author.Needs.{needs}
 use Rattle.reply.proofs.read.read_message.Statement.{statement}
@@ -14,12 +16,12 @@ use Rattle.reply.proofs.read.read_message.Tie as tie
 
 -- what reading the reply finds, and what decides after each field
 abbrev Of : tie.Start → Read Reply
-Of s = readAt (message (isAwaited (s .args .o)) (rowsOf (s .args .o)) (s .args .flag)) (s .args .s .now) 0
+Of s = mapped replyAt (readAt (message (isAwaited (s .args .o)) (rowsOf (s .args .o)) (s .args .flag)) (s .args .s .now) 0)
 
 at1 : (c : tie.After-r1) → let s = c .before .before .before .before in
     Of s ≡ rest1 (s .args .o) (s .args .flag) (s .args .s .now) (c .r1 .given .0 .1 .0 .at)
 at1 c = let s = c .before .before .before .before in
-    at-message (s .args .o) (s .args .flag) (s .args .s .now) 0 ∙ rw (← (c .before .before .read-fixed .ensures), c .r1 .given .1)
+    at-message (s .args .o) (s .args .flag) (s .args .s .now) 0 ∙ rw (← (c .before .before .read-between .ensures), c .r1 .given .1)
 
 at2 : (c : tie.After-r2) → let s = c .before .before .before .before .before .before .before .before in
     Of s ≡ rest2 (s .args .o) (s .args .flag) (s .args .s .now) (c .r2 .given .0 .0) (c .r2 .given .0 .1 .0 .at)
@@ -47,18 +49,18 @@ at5 : (c : tie.After-r5) → let r4 = c .before .before .before .before .before 
     Of s ≡ rest5 (s .args .o) (s .args .flag) (s .args .s .now) (r2 .r2 .given .0 .0) (r3 .r3 .given .0 .0) (r4 .r4 .given .0 .0) (c .r5 .given .0 .1 .0 .at)
 unfolding rest4
 at5 c = let e = c .before .before .before in
-    at4 (e .before .before .before .before) ∙ rw (listed (e .before) ∙ not-false _ (e .if2 .left), ← (c .before .before .read-fixed2 .ensures), c .r5 .given .1)
+    at4 (e .before .before .before .before) ∙ rw (listed (e .before) ∙ not-false _ (e .if2 .left), ← (c .before .before .read-between2 .ensures), c .r5 .given .1)
 
 returns : tie.Need-returns
 returns c = let v = c .before .before in
     let s = v .before .before in
-    c .stop-number .ensures _
-    ∙ sym (at-message (s .args .o) (s .args .flag) (s .args .s .now) 0 ∙ rw (← (v .read-fixed .ensures)) (number-stops (v .read-fixed .result) (c .before .match .keys2) _))
+    c .stop .ensures
+    ∙ sym (at-message (s .args .o) (s .args .flag) (s .args .s .now) 0 ∙ rw (← (v .read-between .ensures)) (number-stops (v .read-between .result) (c .before .match .keys2) _))
 
 returns-2 : tie.Need-returns-2
 unfolding rest1 vLong
 returns-2 c = let v = c .before .before in
-    c .stop-number2 .ensures _
+    c .stop2 .ensures
     ∙ sym (at1 (v .before .before) ∙ rw (← (v .read-number .ensures)) (number-stops (v .read-number .result) (c .before .match2 .keys2) _))
 
 returns-3 : tie.Need-returns-3
@@ -81,8 +83,8 @@ returns-6 c = sym (at4 (c .before .before .before .before) ∙ rw (listed (c .be
 returns-7 : tie.Need-returns-7
 unfolding rest4
 returns-7 c = let v = c .before .before in
-    c .stop-number3 .ensures _
-    ∙ sym (at4 (v .before .before .before .before .before) ∙ rw (listed (v .before .before) ∙ not-false _ (v .before .if2 .left), ← (v .read-fixed2 .ensures)) (number-stops (v .read-fixed2 .result) (c .before .match5 .keys2) _))
+    c .stop3 .ensures
+    ∙ sym (at4 (v .before .before .before .before .before) ∙ rw (listed (v .before .before) ∙ not-false _ (v .before .if2 .left), ← (v .read-between2 .ensures)) (number-stops (v .read-between2 .result) (c .before .match5 .keys2) _))
 
 returns-8 : tie.Need-returns-8
 unfolding rest5

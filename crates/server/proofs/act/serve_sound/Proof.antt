@@ -1,11 +1,11 @@
 -- `server::act::serve_sound` meets its contract: what is read says what the call does. Assumes nothing.
-use mathlib.Core.Path.{_≡_, refl, sym, ap, _∙_}
+use mathlib.Core.Path.{_≡_, refl}
 use native.Mathlib.Omega.{arith}
 use Rattle.wire.specs.Codec.{Bytes, whole, refused}
 use Rattle.message.specs.Request.{request, requestIn}
 use Rattle.message.proofs.RequestLaws.{request-laws}
 use Rattle.message.proofs.Refusals.{refusals}
-use Rattle.request.specs.Answer.{asRequest}
+use Rattle.request.proofs.Spans.{request-in}
 use Rattle.stream.specs.Serve.{onRead}
 use Rattle.stream.proofs.Sounds.{is-sound}
 use Rattle.server.proofs.SendLaws.{id-small}
@@ -22,10 +22,10 @@ bytes c i = omega (arith, c .before .before .before .shared-slice-known .given i
 
 -- what is read
 found : (c : tie.After-q) → let s = begin (c .before .before) in request .dec (s .args .input .now) ≡ whole (requestIn (s .args .input .now) (c .q .given .0 .0)) (c .q .given .0 .1 .0)
-found c = let r = c .before .before in sym (r .read-request .ensures) ∙ ap (asRequest (begin r .args .input .now)) (c .q .given .1)
+found c = let r = c .before .before in request-in _ (bytes r) _ _ (r .read-request .ensures) (c .q .given .1)
 
 refusal : (c : tie.After-q2) → request .dec (begin (c .before .before) .args .input .now) ≡ refused (c .q2 .given .0 .0)
-refusal c = let r = c .before .before in sym (r .read-request .ensures) ∙ ap (asRequest (begin r .args .input .now)) (c .q2 .given .1)
+refusal c = let r = c .before .before in request-in _ (bytes r) _ _ (r .read-request .ensures) (c .q2 .given .1)
 
 perform-requires : tie.Need-perform-requires
 perform-requires c κs =
@@ -48,7 +48,7 @@ returns-2 c =
     let k = c .before in
     let r = k .before .before in
     let s = begin r in
-    serves-read _ _ _ _ (s .pre .0) (s .pre .1 .0) (sym (r .read-request .ensures) ∙ ap (asRequest (s .args .input .now)) (k .enum-told .given .1)) (does-still (c .still .ensures))
+    serves-read _ _ _ _ (s .pre .0) (s .pre .1 .0) (request-in _ (bytes r) _ _ (r .read-request .ensures) (k .enum-told .given .1)) (does-still (c .still .ensures))
 
 refuse-requires : tie.Need-refuse-requires
 refuse-requires c κs =

@@ -1,11 +1,11 @@
 -- `server::lines::serve_frame` meets its contract: what is read says what the line gives. Assumes nothing.
-use mathlib.Core.Path.{_≡_, refl, sym, ap, _∙_}
+use mathlib.Core.Path.{_≡_, refl}
 use native.Mathlib.Omega.{arith}
 use Rattle.wire.specs.Codec.{Bytes, whole, refused}
 use Rattle.message.specs.Request.{request, requestIn}
 use Rattle.message.proofs.RequestLaws.{request-laws}
 use Rattle.message.proofs.Refusals.{refusals}
-use Rattle.request.specs.Answer.{asRequest}
+use Rattle.request.proofs.Spans.{request-in}
 use Rattle.server.proofs.LineLaws.{gives-as, gives-same, frame-more, frame-cut, frame-whole, frame-refused}
 use borrow.Author.Needs.{needs}
 use Rattle.server.proofs.lines.serve_frame.Statement.{statement}
@@ -19,10 +19,10 @@ bytes c i = omega (arith, c .before .before .before .shared-slice-known .given i
 
 -- what is read
 found : (c : tie.After-q) → let s = begin (c .before .before) in request .dec (s .args .frame .now) ≡ whole (requestIn (s .args .frame .now) (c .q .given .0 .0)) (c .q .given .0 .1 .0)
-found c = let r = c .before .before in sym (r .read-request .ensures) ∙ ap (asRequest (begin r .args .frame .now)) (c .q .given .1)
+found c = let r = c .before .before in request-in _ (bytes r) _ _ (r .read-request .ensures) (c .q .given .1)
 
 refusal : (c : tie.After-q2) → request .dec (begin (c .before .before) .args .frame .now) ≡ refused (c .q2 .given .0 .0)
-refusal c = let r = c .before .before in sym (r .read-request .ensures) ∙ ap (asRequest (begin r .args .frame .now)) (c .q2 .given .1)
+refusal c = let r = c .before .before in request-in _ (bytes r) _ _ (r .read-request .ensures) (c .q2 .given .1)
 
 returns : tie.Need-returns
 returns c =
@@ -58,7 +58,7 @@ returns-3 c =
     let k = w .before .before .before in
     let r = k .before .before in
     let s = begin r in
-    gives-same (frame-more _ _ (sym (r .read-request .ensures) ∙ ap (asRequest (s .args .frame .now)) (k .enum-told .given .1))) (w .put-text2 .ensures)
+    gives-same (frame-more _ _ (request-in _ (bytes r) _ _ (r .read-request .ensures) (k .enum-told .given .1))) (w .put-text2 .ensures)
 
 returns-4 : tie.Need-returns-4
 returns-4 c =

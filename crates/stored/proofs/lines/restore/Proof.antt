@@ -8,7 +8,8 @@ use Rattle.wire.specs.Field.{bigEndian, limited}
 use Rattle.stored.specs.File.{form1, entryLine}
 use Rattle.stored.specs.Answer.{exactly}
 use Rattle.message.specs.Request.{keyLimit, valueLimit}
-use Rattle.field.proofs.Parts.{span-stops}
+use Rattle.wire.proofs.Laws.{after-after}
+use Rattle.field.proofs.Parts.{span-stops, limited-in}
 use Rattle.field.specs.Answer.{partOf, asSpan}
 use Rattle.map.specs.State.{Entry}
 use Rattle.stored.proofs.LoadLaws.{entry-at, stopped-none}
@@ -28,12 +29,12 @@ deadline c = let b = c .before in sym (b .before .before .read-second .ensures) 
 key : (c : tie.After-known-told3) → let k = c .before in let b = k .before .before .before .before in
     let s = b .before .before .before .before .before .before .before .before .before .args .s .now in
     readAt (limited keyLimit) s (b .b .given .0 .1 .0 .at) ≡ whole (partOf s (k .c .given .0 .0)) (k .c .given .0 .1 .0 .at)
-key c = let k = c .before in sym (k .before .before .read-limited .ensures) ∙ rw (k .c .given .1)
+key c = let k = c .before in limited-in _ _ _ _ _ (k .before .before .read-limited .ensures) (k .c .given .1)
 
 value : (c : tie.After-known-told4) → let v = c .before in let k = v .before .before .before .before in
     let s = k .before .before .before .before .before .before .before .before .before .before .before .before .before .args .s .now in
     readAt (limited valueLimit) s (k .c .given .0 .1 .0 .at) ≡ whole (partOf s (v .d .given .0 .0)) (v .d .given .0 .1 .0 .at)
-value c = let v = c .before in sym (v .before .before .read-limited2 .ensures) ∙ rw (v .d .given .1)
+value c = let v = c .before in limited-in _ _ _ _ _ (v .before .before .read-limited2 .ensures) (v .d .given .1)
 
 returns : tie.Need-returns
 returns c = let b = c .before .before in
@@ -56,7 +57,7 @@ returns-3 c = let r = c .before in
     let a = b .before .before .before .before in
     let s = a .before .before .before .before .before .before .args .s .now in
     let n : exactly (length s) (entryLine form1 .dec s) ≡ none =
-    rw (entry-at, version a, deadline b, ← (r .read-limited .ensures)) (ap (exactly (length s)) (span-stops (r .read-limited .result) (c .match3 .keys2) s _) ∙ stopped-none (length s) (asSpan s (r .read-limited .result))) in
+    rw (entry-at, version a, deadline b, limited-in _ _ _ (r .read-limited .result) (r .read-limited .result) (r .read-limited .ensures) refl, after-after) (ap (exactly (length s)) (span-stops (r .read-limited .result) (c .match3 .keys2) _) ∙ stopped-none (length s) (asSpan (r .read-limited .result))) in
     rw n (refl, refl)
 
 returns-4 : tie.Need-returns-4
@@ -66,7 +67,7 @@ returns-4 c = let r = c .before in
     let a = b .before .before .before .before in
     let s = a .before .before .before .before .before .before .args .s .now in
     let n : exactly (length s) (entryLine form1 .dec s) ≡ none =
-    rw (entry-at, version a, deadline b, key k, ← (r .read-limited2 .ensures)) (ap (exactly (length s)) (span-stops (r .read-limited2 .result) (c .match4 .keys2) s _) ∙ stopped-none (length s) (asSpan s (r .read-limited2 .result))) in
+    rw (entry-at, version a, deadline b, key k, limited-in _ _ _ (r .read-limited2 .result) (r .read-limited2 .result) (r .read-limited2 .ensures) refl, after-after) (ap (exactly (length s)) (span-stops (r .read-limited2 .result) (c .match4 .keys2) _) ∙ stopped-none (length s) (asSpan (r .read-limited2 .result))) in
     rw n (refl, refl)
 
 returns-5 : tie.Need-returns-5

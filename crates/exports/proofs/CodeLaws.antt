@@ -9,12 +9,12 @@ use lib.ListN.{length, getD}
 use lib.Dec.{leb}
 use borrow.Author.Tests.{leb-true}
 use Rattle.wire.specs.Codec.{whole, mapped, Codec}
-use Rattle.wire.specs.Write.{Sent, written, kept, send}
+use Rattle.wire.specs.Write.{Sent, written, kept, sent, send}
 use Rattle.wire.proofs.Laws.{Laws, both, after-whole, sized}
 use Rattle.table.specs.Memory.{stateOf}
 use Rattle.table.proofs.Lists.{lt-or-ge}
 use Rattle.stored.specs.File.{form1, file}
-use Rattle.stored.specs.Answer.{sent, Storing}
+use Rattle.stored.specs.Answer.{Storing}
 use Rattle.exports.specs.Codes.{sentCode, tell}
 use Rattle.exports.specs.Messages.{isHead, HeadFits, isAnswer, AnswerFits}
 
@@ -31,26 +31,22 @@ answer-fits ns e =
     let b = both (leb (getD ns 1 0) 255) _ (a .1) in
     record { long = leb-true _ _ (a .0); op = leb-true _ _ (b .0); status = leb-true _ _ (b .1) }
 
--- bytes that are sent are in the list lent
-file-fits : (bs old : List ℕ) → length old < 2 ^ 63 → sentCode (sent bs old .0) < 2 ^ 64
-unfolding sent
-file-fits bs old h = go (leb (length bs) (length old)) refl _
+-- bytes that are sent are in the list lent, and so their length is at most that list's; a message is sent, or it is 16
+sent-fits-in : (bs old : List ℕ) → length old < 2 ^ 63 → sentCode (sent bs old .0) < 2 ^ 64
+sent-fits-in bs old h = go (leb (length bs) (length old)) refl _
   where
     go : (u : Bool) → leb (length bs) (length old) ≡ u → (new : List ℕ) → sentCode (cond {A = Sent × List ℕ} u (written (length bs), new) (kept 12, old) .0) < 2 ^ 64
     go true e new = omega (arith, leb-true (length bs) (length old) e)
     go false e new = omega arith
 
--- a message is written in the list lent, and so its length is at most that list's
 module _ {A : Type 0} (c : Codec A) (a : A) (old : List ℕ) (h : length old < 2 ^ 63) where
   send-fits : sentCode (send c a old .0) < 2 ^ 64
   unfolding send
-  send-fits = go (c .ok a) (leb (length (c .enc a)) (length old)) refl _
+  send-fits = go (c .ok a)
     where
-      go : (t u : Bool) → leb (length (c .enc a)) (length old) ≡ u → (new : List ℕ)
-          → sentCode (cond {A = Sent × List ℕ} t (cond u (written (length (c .enc a)), new) (kept 12, old)) (kept 16, old) .0) < 2 ^ 64
-      go true true e new = omega (arith, leb-true (length (c .enc a)) (length old) e)
-      go true false e new = omega arith
-      go false u e new = omega arith
+      go : (t : Bool) → sentCode (cond {A = Sent × List ℕ} t (sent (c .enc a) old) (kept 16, old) .0) < 2 ^ 64
+      go true = sent-fits-in (c .enc a) old h
+      go false = omega arith
 
   pub sent-fits : (x : Sent) (new : List ℕ) → (x, new) ≡ send c a old → sentCode x < 2 ^ 64
   sent-fits x new e = rw (ap (λ (p : Sent × List ℕ). p .0) e) send-fits
@@ -64,7 +60,7 @@ storing-fits t old new x h s = ⊎-elim (λ l. l) (λ g. absurd (n g)) (lt-or-ge
         omega (
           arith,
           ap (λ (p : Sent × List ℕ). sentCode (p .0))
-              (s .unsound (λ d. omega (arith, ap (λ (p : Sent × List ℕ). sentCode (p .0)) (s .sound d), file-fits (file form1 (stateOf t)) old h))),
+              (s .unsound (λ d. omega (arith, ap (λ (p : Sent × List ℕ). sentCode (p .0)) (s .sound d), sent-fits-in (file form1 (stateOf t)) old h))),
         )
 
 -- a message that was read whole is in the input, and so its length is at most the input's

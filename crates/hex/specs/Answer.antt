@@ -2,10 +2,10 @@
 use mathlib.Core.List.{List, _++_}
 use mathlib.Core.Bool.{cond}
 use mathlib.Core.Option.{Option, none, some}
-use Prim.Native.Nat.{ℕ, _+_}
+use Prim.Native.Nat.{ℕ}
 use lib.ListN.{length, drop}
-use lib.Seq.{sets}
 use lib.Dec.{leb}
+use Rattle.wire.specs.Write.{laid}
 use Rattle.hex.specs.Hex.{toHex, fromHex}
 use Rattle.hex.specs.declared.Decoded.{Decoded}
 use Rattle.hex.specs.declared.Decoded.the-variants.{Bytes, Bad, Short}
@@ -20,4 +20,4 @@ decoded s old = decodedTo old (fromHex s)
 
 -- the digits at a place, and the place behind them; where there is no room for them, the same place and the same list
 unfoldable pub encoded : List ℕ → ℕ → List ℕ → ℕ × List ℕ
-encoded s at old = cond (leb (at + length (toHex s)) (length old)) (at + length (toHex s), sets old at (toHex s)) (at, old)
+encoded s at old = laid (toHex s) at old

@@ -22,7 +22,7 @@ use Rattle.map.proofs.Keeps.{keeps-table}
 use Rattle.table.specs.Memory as memory
 use Rattle.table.specs.Memory.{stateOf, Sound}
 use Rattle.table.specs.Found.{FoundIs, Tells}
-use Rattle.table.specs.Change.{Changed, Left, added, removed}
+use Rattle.table.specs.Change.{Changed, Left, fitsRow, hasRoom, added, removed}
 use Rattle.table.specs.declared.Found.the-variants as f
 use Rattle.table.proofs.Keys.{found-without, found-less}
 use Rattle.stream.specs.Sound.{isSound}
@@ -169,7 +169,7 @@ module _ (c : Context) (q : Request) (t : List ℕ) (s : Sound t) (v : Valid req
 
   added-is : (t₁ : List ℕ) {d : ℕ} → length t₁ ≡ memory.size → stateOf t₁ ≡ rest → length (rest .entries) < mostKeys → stateOf t .last < lastVersion → d ≡ deadline c q
       → added (q .args .key) (q .args .value) d t₁ ≡ some (stored c q (stateOf t))
-  unfolding added stored entry memory.entry
+  unfolding added fitsRow hasRoom stored entry memory.entry
   added-is t₁ n e f l w =
       let z = small q v in
       rw (e, eq-eqb _ memory.size n, le-leb _ keyLimit (z .key), le-leb _ valueLimit (z .value), lt-ltb _ mostKeys f, lt-ltb _ lastVersion l, w)

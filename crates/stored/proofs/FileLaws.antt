@@ -12,7 +12,7 @@ use lib.Seq.{sets, sets-eq, length-sets, take-suc, take-length}
 use lib.Dec.{eqb}
 use borrow.Author.Tests.{eqb-true, eqb-false, le-leb, lt-leb, lt-ltb}
 use Rattle.wire.specs.Codec.{byte, guard, seq, as-type}
-use Rattle.wire.specs.Write.{written, kept}
+use Rattle.wire.specs.Write.{written, kept, laid}
 use Rattle.wire.proofs.FieldLaws.{big-length}
 use Rattle.map.specs.State.{Entry}
 use Rattle.map.specs.Step.{mostKeys}
@@ -21,7 +21,7 @@ use Rattle.table.specs.Found.{entryAt}
 use Rattle.table.proofs.RowLaws.{length-entries, count-most}
 use Rattle.table.proofs.Answers.{other-entries}
 use Rattle.stored.specs.File.{Form, entryLine, headLine, line, entryLines, file}
-use Rattle.stored.specs.Answer.{lineAt, laid, sent, Storing}
+use Rattle.stored.specs.Answer.{lineAt, Storing}
 use Rattle.stored.proofs.StoreLaws.{laid-done, twice, line-length, line-entry}
 
 pub lines-append : (f : Form) (a b : List Entry) → entryLines f (a ++ b) ≡ entryLines f a ++ entryLines f b
@@ -104,12 +104,10 @@ module _ (f : Form) (t : List ℕ) where
   storing-unsound old n = record { sound = λ s. absurd (n s); unsound = λ _. refl }
 
   pub storing-short : (old : List ℕ) → Sound t → length old < length (file f (stateOf t)) → Storing f t old (kept 12) old
-  unfolding sent
   storing-short old s h = record { sound = λ _. rw (lt-leb _ (length old) h); unsound = λ n. absurd (n s) }
 
   pub storing-done : (old new : List ℕ) (r : ℕ) → Sound t → length (file f (stateOf t)) ≤ length old → r ≡ length (file f (stateOf t)) → new ≡ sets old 0 (file f (stateOf t))
       → Storing f t old (written r) new
-  unfolding sent
   storing-done old new r s h p q =
       let e : new ≡ file f (stateOf t) ++ drop (length (file f (stateOf t))) old = q ∙ sets-eq (file f (stateOf t)) old 0 (omega arith) ∙ rw zero-add in
       record { sound = λ _. rw (le-leb (length (file f (stateOf t))) (length old) h, p, e); unsound = λ n. absurd (n s) }

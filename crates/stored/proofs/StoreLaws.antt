@@ -13,7 +13,7 @@ use borrow.Author.Tests.{le-leb, lt-leb, lt-ltb, le-ltb}
 use Rattle.wire.specs.Codec.{Codec, Valid, Bytes, byte, raw, guard, seq, as-type, all}
 use Rattle.wire.specs.Number.{vLong}
 use Rattle.wire.specs.Field.{bigEndian, limited}
-use Rattle.wire.specs.Write.{Wrote, putAt}
+use Rattle.wire.specs.Write.{Wrote, putAt, laid}
 use Rattle.wire.proofs.Laws.{type-valid, seq-valid}
 use Rattle.wire.proofs.FieldLaws.{big-length, big-good, limited-length, limited-valid}
 use Rattle.wire.proofs.WriteLaws.{wrote-seq, wrote-guard, wrote-type, put-wrote}
@@ -31,17 +31,15 @@ use Rattle.table.proofs.Parts.{bytes-part}
 use Rattle.table.proofs.RowLaws.{entry-is}
 use Rattle.table.proofs.Answers.{held-row, no-row}
 use Rattle.stored.specs.File.{Form, form1, toEntry, fromEntry, entryLine, headLine, line}
-use Rattle.stored.specs.Answer.{lineAt, laid}
+use Rattle.stored.specs.Answer.{lineAt}
 use Rattle.stored.proofs.LineLaws.{fields, entry-good, entry-most}
 
 -- bytes laid at a place
 module _ (bs : List ℕ) (at : ℕ) (old : List ℕ) where
   pub laid-short : length old < at + length bs → (at, old) ≡ laid bs at old
-  unfolding laid
   laid-short h = rw (lt-leb (at + length bs) (length old) h)
 
   pub laid-done : at + length bs ≤ length old → (at + length bs, sets old at bs) ≡ laid bs at old
-  unfolding laid
   laid-done h = rw (le-leb (at + length bs) (length old) h)
 
 pub laid-none : (at : ℕ) (old : List ℕ) → (at, old) ≡ laid [] at old

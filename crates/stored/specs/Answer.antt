@@ -3,13 +3,12 @@ use mathlib.Core.Path.{_≡_}
 use mathlib.Core.List.{List, [], _∷_, _++_}
 use mathlib.Core.Bool.{Bool, true, false, cond}
 use mathlib.Core.Option.{Option, none, some}
-use Prim.Native.Nat.{ℕ, zero, suc, _+_, _≤_}
+use Prim.Native.Nat.{ℕ, zero, suc, _≤_}
 use lib.ListN.{length, take, drop, getD}
-use lib.Seq.{sets}
-use lib.Dec.{eqb, leb, ltb}
+use lib.Dec.{eqb, ltb}
 use Rattle.bytes.specs.Bytes.{indexOf}
 use Rattle.wire.specs.Codec.{Read, whole, more, refused, Codec}
-use Rattle.wire.specs.Write.{Sent, written, kept}
+use Rattle.wire.specs.Write.{Sent, kept, sent}
 use Rattle.map.specs.State.{Entry, State}
 use Rattle.table.specs.Memory.{size, entry, stateOf, Sound}
 use Rattle.table.specs.Change.{Changed, started, restored}
@@ -23,14 +22,6 @@ use Rattle.stored.specs.declared.Loading.{Loading}
 unfoldable pub lineAt : Form → State → ℕ → List ℕ
 lineAt f st zero = line (headLine f .enc (st .last))
 lineAt f st (suc k) = cond (ltb k (length (st .entries))) (line (entryLine f .enc (getD (st .entries) k (entry [] [] 0 0)))) []
-
--- bytes written at a place, and the place behind them; where there is no room for them, the same place and the same list
-unfoldable pub laid : List ℕ → ℕ → List ℕ → ℕ × List ℕ
-laid bs at old = cond (leb (at + length bs) (length old)) (at + length bs, sets old at bs) (at, old)
-
--- bytes at the front of a list, which else is kept; room under their length is 12
-unfoldable pub sent : List ℕ → List ℕ → Sent × List ℕ
-sent bs old = cond (leb (length bs) (length old)) (written (length bs), bs ++ drop (length bs) old) (kept 12, old)
 
 -- "Storing gives 13, then 12"
 pub record Storing (f : Form) (t old : List ℕ) (r : Sent) (new : List ℕ) : Type 0 where

@@ -9,11 +9,12 @@ ghost use mathlib.Core.Path.{_≡_};
 ghost use Prim.Native.Nat.{_≤_};
 ghost use lib.ListN.{length};
 ghost use lib.Seq.{sets};
+ghost use Rattle.wire.specs.Write.{laid};
 ghost use Rattle.message.specs.Answer.{asSent};
 ghost use Rattle.table.specs.Memory.{size, stateOf};
-ghost use Rattle.table.specs.Change.{Left, isSome, outcomeOf};
+ghost use Rattle.table.specs.Change.{Answers, AnswersBy};
 ghost use Rattle.stored.specs.File.{form1, file};
-ghost use Rattle.stored.specs.Answer.{lineAt, laid, Storing, headLoaded, lineLoaded, loaded, LoadsLines, Loaded};
+ghost use Rattle.stored.specs.Answer.{lineAt, Storing, headLoaded, lineLoaded, loaded, LoadsLines, Loaded};
 
 // What a line is made of.
 pub struct Line {}
@@ -96,7 +97,7 @@ pub fn store(t: &[u8], out: &mut [u8]) -> Sent
 
 // Loads a line, without its line end: the first line of a file where none is loaded yet, else an entry's line.
 fn load_next(line: &[u8], t: &mut [u8], begun: bool) -> bool
-    ensures { λ r. ⌜ (r ≡ isSome (loaded form1 begun (now (line .entry)) (now (t .entry)))) × Left (now (t .entry)) (loaded form1 begun (now (line .entry)) (now (t .entry))) (now (t .exit)) ⌝ }
+    ensures { λ r. ⌜ Answers (now (t .entry)) (loaded form1 begun (now (line .entry)) (now (t .entry))) r (now (t .exit)) ⌝ }
 {
     let mut room = lines::room();
     let Decoded::Bytes(n) = hex::decode(line, &mut room) else {
@@ -110,7 +111,7 @@ fn load_next(line: &[u8], t: &mut [u8], begun: bool) -> bool
 
 // Starts the table in t with the first line of a stored file, without its line end. Any other line is 17, and leaves t as it was.
 pub fn load_head(line: &[u8], t: &mut [u8]) -> Outcome
-    ensures { λ r. ⌜ (r ≡ outcomeOf 17 (headLoaded form1 (now (line .entry)) (now (t .entry)))) × Left (now (t .entry)) (headLoaded form1 (now (line .entry)) (now (t .entry))) (now (t .exit)) ⌝ }
+    ensures { λ r. ⌜ AnswersBy 17 (now (t .entry)) (headLoaded form1 (now (line .entry)) (now (t .entry))) r (now (t .exit)) ⌝ }
 {
     table::done_or(load_next(line, t, false), 17)
 }
@@ -118,7 +119,7 @@ pub fn load_head(line: &[u8], t: &mut [u8]) -> Outcome
 // Adds the entry of a line, without its line end, to the table in t. A line of none, or of one that can't stand there, is 17, and leaves t as it
 // was.
 pub fn load_line(line: &[u8], t: &mut [u8]) -> Outcome
-    ensures { λ r. ⌜ (r ≡ outcomeOf 17 (lineLoaded form1 (now (line .entry)) (now (t .entry)))) × Left (now (t .entry)) (lineLoaded form1 (now (line .entry)) (now (t .entry))) (now (t .exit)) ⌝ }
+    ensures { λ r. ⌜ AnswersBy 17 (now (t .entry)) (lineLoaded form1 (now (line .entry)) (now (t .entry))) r (now (t .exit)) ⌝ }
 {
     table::done_or(load_next(line, t, true), 17)
 }

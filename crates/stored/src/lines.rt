@@ -10,12 +10,12 @@ use message::Request;
 ghost use mathlib.Core.Path.{_≡_};
 ghost use Prim.Native.Nat.{_≤_};
 ghost use lib.ListN.{length};
-ghost use Rattle.wire.specs.Write.{Wrote};
+ghost use Rattle.wire.specs.Write.{Wrote, laid};
 ghost use Rattle.table.specs.Memory.{stateOf};
 ghost use Rattle.table.specs.Found.{entryAt};
-ghost use Rattle.table.specs.Change.{Left, isSome};
+ghost use Rattle.table.specs.Change.{Answers};
 ghost use Rattle.stored.specs.File.{form1, entryLine, headLine, line};
-ghost use Rattle.stored.specs.Answer.{laid, exactly, startWith, restoreTo};
+ghost use Rattle.stored.specs.Answer.{exactly, startWith, restoreTo};
 
 // Room for the bytes of a line.
 pub(crate) fn room() -> [u8; 339]
@@ -70,7 +70,7 @@ pub(crate) fn put_line(s: &[u8], out: &mut [u8], at: usize) -> usize
 
 // Starts the table with the last version that the bytes of a first line say.
 pub(crate) fn start(s: &[u8], t: &mut [u8]) -> bool
-    ensures { λ r. ⌜ (r ≡ isSome (startWith (now (t .entry)) (exactly (length (now (s .entry))) (headLine form1 .dec (now (s .entry)))))) × Left (now (t .entry)) (startWith (now (t .entry)) (exactly (length (now (s .entry))) (headLine form1 .dec (now (s .entry))))) (now (t .exit)) ⌝ }
+    ensures { λ r. ⌜ Answers (now (t .entry)) (startWith (now (t .entry)) (exactly (length (now (s .entry))) (headLine form1 .dec (now (s .entry))))) r (now (t .exit)) ⌝ }
 {
     let a = field::read_byte(s, Cursor { at: 0 });
     let ByteRead::Whole(form, at1) = a else {
@@ -91,7 +91,7 @@ pub(crate) fn start(s: &[u8], t: &mut [u8]) -> bool
 
 // Restores the entry that the bytes of a line say.
 pub(crate) fn restore(s: &[u8], t: &mut [u8]) -> bool
-    ensures { λ r. ⌜ (r ≡ isSome (restoreTo (now (t .entry)) (exactly (length (now (s .entry))) (entryLine form1 .dec (now (s .entry)))))) × Left (now (t .entry)) (restoreTo (now (t .entry)) (exactly (length (now (s .entry))) (entryLine form1 .dec (now (s .entry))))) (now (t .exit)) ⌝ }
+    ensures { λ r. ⌜ Answers (now (t .entry)) (restoreTo (now (t .entry)) (exactly (length (now (s .entry))) (entryLine form1 .dec (now (s .entry))))) r (now (t .exit)) ⌝ }
 {
     let a = field::read_version(s, Cursor { at: 0 });
     let VersionRead::Whole(version, at1) = a else {

@@ -1,8 +1,8 @@
 -- What the public functions answer: of memory of another length, of a row that is not held, and where nothing is changed. Assumes nothing.
 use mathlib.Core.Path.{_≡_, refl, sym, ap, _∙_}
 use mathlib.Core.List.{List, []}
-use mathlib.Core.Bool.{Bool, true, false, cond, _&&_, and-assoc}
-use mathlib.Core.Option.{Option, none, some}
+use mathlib.Core.Bool.{Bool, true, false, cond, _&&_}
+use mathlib.Core.Option.{none, some}
 use mathlib.Core.Logic.{⊎-elim}
 use Prim.Native.Nat.{ℕ, _+_, _≤_, _<_}
 use native.Mathlib.Omega.{arith}
@@ -16,10 +16,10 @@ use Rattle.map.specs.Step.{mostKeys, lastVersion}
 use Rattle.table.specs.Bytes.{be8}
 use Rattle.table.specs.Memory.{size, rowAt, entry, entryOf, countOf, stateOf}
 use Rattle.table.specs.Found.{entryAt, FoundIs, NumberAt}
-use Rattle.table.specs.Check.{FoundFrom, fitsRow, hasRoom}
+use Rattle.table.specs.Check.{FoundFrom}
 use Rattle.table.specs.declared.Found.{Found}
 use Rattle.table.specs.declared.Found.the-variants.{At, Absent}
-use Rattle.table.specs.Change.{Changed, Left, isSome, added, removed, cleared}
+use Rattle.table.specs.Change.{Changed, Answers, fitsRow, hasRoom, added, removed, cleared}
 use Rattle.table.specs.Write.{grown, shrunk}
 use Rattle.table.proofs.Lists.{lt-or-ge}
 use Rattle.table.proofs.RowLaws.{length-entries, entry-is}
@@ -61,9 +61,6 @@ unfolding entryOf entry
 deadline-at t i r n = field-is (λ (e : Entry). e .deadline) t i 8 r (λ a. refl) refl n
 
 -- what a writer answers
-abbrev pub Answers : List ℕ → Option State → Bool → List ℕ → Type 0
-Answers old o r new = (r ≡ isSome o) × Left old o new
-
 pub taken : (old new : List ℕ) (st : State) (b : Bool) → b ≡ true → Changed old new st → Answers old (cond b (some st) none) true new
 taken old new st true e h = (refl, h)
 taken old new st false e h = never (cc)
@@ -99,27 +96,15 @@ unfolding hasRoom
 room-is t e = let x = both (eqb (length t) size) (ltb (length (stateOf t .entries)) mostKeys) e in (eqb-true _ _ (x .0), ltb-true _ _ (x .1))
 
 -- what an entry more takes
-regroup : (a b c d e : Bool) → (a && (b && (c && (d && e)))) ≡ ((b && c) && ((a && d) && e))
-regroup true b c d e = sym (and-assoc b c (d && e))
-regroup false b c d e = sym (and-false (b && c))
-
 module _ (k v : List ℕ) (d : ℕ) (t : List ℕ) where
-  abbrev pub room : Bool
-  room =
-      eqb (length t) size && (leb (length k) keyLimit && (leb (length v) valueLimit && (ltb (length (stateOf t .entries)) mostKeys && ltb (stateOf t .last) lastVersion)))
-
-  tests : room ≡ (fitsRow k v && (hasRoom t && ltb (stateOf t .last) lastVersion))
-  unfolding fitsRow hasRoom
-  tests = regroup (eqb (length t) size) (leb (length k) keyLimit) (leb (length v) valueLimit) (ltb (length (stateOf t .entries)) mostKeys) (ltb (stateOf t .last) lastVersion)
-
   pub added-yes : (u : List ℕ) → fitsRow k v ≡ true → hasRoom t ≡ true → stateOf t .last < lastVersion → Changed t u (grown k v d (stateOf t))
       → Answers t (added k v d t) true u
   unfolding added
-  added-yes u hk ht hl x = taken t u _ room (tests ∙ and hk (and ht (lt-ltb _ _ hl))) x
+  added-yes u hk ht hl x = taken t u _ _ (and hk (and ht (lt-ltb _ _ hl))) x
 
   none-more : (fitsRow k v && (hasRoom t && ltb (stateOf t .last) lastVersion)) ≡ false → Answers t (added k v d t) false t
   unfolding added
-  none-more e = left t _ room (tests ∙ e)
+  none-more e = left t _ _ e
 
   pub added-unfit : fitsRow k v ≡ false → Answers t (added k v d t) false t
   added-unfit e = none-more (rw e)

@@ -1,15 +1,14 @@
 -- Bytes behind the last row that is held mean nothing. Assumes nothing.
-use mathlib.Core.Path.{_≡_, sym, ap, _∙_, subst}
+use mathlib.Core.Path.{_≡_, sym, ap, _∙_}
 use mathlib.Core.List.{List}
 use Prim.Native.Nat.{ℕ, _+_, _≤_, _<_}
 use native.Mathlib.Omega.{arith}
 use lib.ListN.{length, take, getD}
 use lib.Seq.{getD-take}
-use Rattle.map.specs.Table.{IsTable}
 use Rattle.table.specs.Bytes.{be8}
-use Rattle.table.specs.Memory.{size, rowAt, countOf, stateOf, Sound}
+use Rattle.table.specs.Memory.{size, rowAt, countOf, stateOf}
 use Rattle.table.proofs.RowLaws.{be8-same, state-is, last-is}
-use Rattle.table.proofs.Writes.{Alike, held-alike, form-alike}
+use Rattle.table.proofs.Writes.{Alike, held-alike}
 
 -- memory of the right length with the same header and the same rows held
 module _ (t u : List ℕ) (ht : length t ≡ size) (hu : length u ≡ size) (same : take (rowAt (countOf t)) t ≡ take (rowAt (countOf t)) u) where
@@ -26,6 +25,3 @@ module _ (t u : List ℕ) (ht : length t ≡ size) (hu : length u ≡ size) (sam
 
   pub behind : stateOf u ≡ stateOf t
   behind = state-is u (stateOf t) hu (held-alike alike) (number 8 (omega arith) ∙ sym (last-is t ht))
-
-  pub behind-sound : Sound t → Sound u
-  behind-sound s = record { form = form-alike alike (s .form); table = subst IsTable (sym behind) (s .table) }

@@ -17,7 +17,7 @@ use Rattle.map.specs.State.{Entry, State}
 use Rattle.map.specs.Step.{mostKeys, lastVersion}
 use Rattle.map.specs.Table.{Each, Sizes, IsTable, Ascending}
 use Rattle.table.specs.Bytes.{be8, upto}
-use Rattle.table.specs.Memory.{size, rowAt, entry, entryOf, countOf, entriesOf, stateOf, Form, Sound}
+use Rattle.table.specs.Memory.{size, rowAt, entry, countOf, entriesOf, stateOf, Sound}
 use Rattle.table.specs.Change.{Changed, Left, made, started}
 use Rattle.table.specs.Write.{put, digits, Written}
 use Rattle.table.specs.Form.{zeros, rowOf, withRow, withRows, form}

@@ -2,7 +2,7 @@
 -- back behind those before it. Assumes nothing.
 use mathlib.Core.Path.{_≡_, refl, sym, ap, _∙_, subst}
 use mathlib.Core.List.{List, [], _∷_, _++_}
-use mathlib.Core.Bool.{Bool, true, false, cond, _&&_, and-assoc}
+use mathlib.Core.Bool.{Bool, true, false, cond, _&&_}
 use mathlib.Core.Option.{Option, none, some}
 use Prim.Native.Nat.{ℕ, _-_, _≤_, _<_}
 use native.Mathlib.Omega.{arith}
@@ -19,14 +19,13 @@ use Rattle.map.proofs.Laws.{same-other, other-differ}
 use Rattle.table.specs.Memory.{size, rowAt, entry, countOf, stateOf, Sound}
 use Rattle.table.specs.Bytes.{be8}
 use Rattle.table.specs.Found.{entryAt}
-use Rattle.table.specs.Change.{Changed, Left, started, newest, fitting, next, restored}
-use Rattle.table.specs.Check.{fitsRow, hasRoom}
+use Rattle.table.specs.Change.{Changed, Left, Answers, started, newest, fitsRow, hasRoom, fitting, next, restored}
 use Rattle.table.specs.Write.{extended}
 use Rattle.map.proofs.Each.{each-map, each-add, pairs-add}
 use Rattle.table.proofs.Order.{each-at, to-newest}
 use Rattle.table.proofs.RowLaws.{length-entries}
 use Rattle.table.proofs.SoundLaws.{version-is}
-use Rattle.table.proofs.Answers.{Answers, taken, left}
+use Rattle.table.proofs.Answers.{taken, left, row-fits, room-is}
 
 passed : (new : State) (b : Bool) (s : State) → cond b (some new) none ≡ some s → (b ≡ true) × (s ≡ new)
 passed new true s e = (refl, cc)
@@ -80,16 +79,13 @@ module _ (t : List ℕ) (h : length t ≡ size) where
 
 -- the tests of `restore`
 module _ (k v : List ℕ) (d : ℕ) where
-  -- the size first, then the deadline
-  tests : fitting k v d ≡ (fitsRow k v && leb d lastDeadline)
-  unfolding fitting fitsRow
-  tests = sym (and-assoc (leb (length k) keyLimit) (leb (length v) valueLimit) (leb d lastDeadline))
-
   pub unfit : fitsRow k v ≡ false → false ≡ fitting k v d
-  unfit e = sym (tests ∙ rw e)
+  unfolding fitting
+  unfit e = rw e
 
   pub fit-rest : fitsRow k v ≡ true → leb d lastDeadline ≡ fitting k v d
-  fit-rest e = sym (tests ∙ rw e)
+  unfolding fitting
+  fit-rest e = rw e
 
   pub record Fits : Type 0 where
     pub key : length k ≤ keyLimit
@@ -99,19 +95,17 @@ module _ (k v : List ℕ) (d : ℕ) where
   pub fits : fitting k v d ≡ true → Fits
   unfolding fitting
   fits e =
-      let x = both (leb (length k) keyLimit) _ e in
-      let y = both (leb (length v) valueLimit) _ (x .1) in
-      record { key = leb-true _ _ (x .0); value = leb-true _ _ (y .0); deadline = leb-true _ _ (y .1) }
+      let x = both (fitsRow k v) _ e in
+      let y = row-fits k v (x .0) in
+      record { key = y .0; value = y .1; deadline = leb-true _ _ (x .1) }
 
 module _ (k : List ℕ) (n : ℕ) (t : List ℕ) where
   abbrev st : State
   st = stateOf t
 
   pub next-full : hasRoom t ≡ false → false ≡ next k n t
-  unfolding next hasRoom
-  next-full e =
-      let rest : Bool = ltb (newest (st .entries)) n && (leb n (st .last) && isNone (find (hasKey k) (st .entries))) in
-      sym (sym (and-assoc (eqb (length t) size) (ltb (length (st .entries)) mostKeys) rest) ∙ ap (λ (b : Bool). b && rest) e)
+  unfolding next
+  next-full e = rw e
 
   pub next-old : n ≤ newest (st .entries) → false ≡ next k n t
   unfolding next
@@ -133,9 +127,9 @@ module _ (k : List ℕ) (n : ℕ) (t : List ℕ) where
     pub absent : find (hasKey k) (st .entries) ≡ none
 
   pub next-yes : Follows → true ≡ next k n t
-  unfolding next
+  unfolding next hasRoom
   next-yes f =
-      sym (and (eq-eqb _ _ (f .long)) (and (lt-ltb _ _ (f .room)) (and (lt-ltb _ _ (f .above)) (and (le-leb _ _ (f .most)) (ap isNone (f .absent))))))
+      sym (and (and (eq-eqb _ _ (f .long)) (lt-ltb _ _ (f .room))) (and (lt-ltb _ _ (f .above)) (and (le-leb _ _ (f .most)) (ap isNone (f .absent)))))
 
   no-entry : (o : Option Entry) → isNone o ≡ true → o ≡ none
   no-entry none e = refl
@@ -144,13 +138,13 @@ module _ (k : List ℕ) (n : ℕ) (t : List ℕ) where
   pub follows : next k n t ≡ true → Follows
   unfolding next
   follows e =
-      let a = both (eqb (length t) size) _ e in
-      let b = both (ltb (length (st .entries)) mostKeys) _ (a .1) in
-      let c = both (ltb (newest (st .entries)) n) _ (b .1) in
+      let a = both (hasRoom t) _ e in
+      let r = room-is t (a .0) in
+      let c = both (ltb (newest (st .entries)) n) _ (a .1) in
       let d = both (leb n (st .last)) _ (c .1) in
       record {
-        long = eqb-true _ _ (a .0);
-        room = ltb-true _ _ (b .0);
+        long = r .0;
+        room = r .1;
         above = ltb-true _ _ (c .0);
         most = leb-true _ _ (d .0);
         absent = no-entry _ (d .1);
@@ -253,13 +247,13 @@ newest-below n (e ∷ es) h l = each-at (λ e. e .version < n) (e ∷ es) (entry
 pub each-restored : (st : State) (e : Entry) (fs : List Entry) (t : List ℕ) → IsTable st → Ascending (st .entries) → length t ≡ size
     → st .entries ≡ stateOf t .entries ++ (e ∷ fs) → st .last ≡ stateOf t .last
     → restored (e .key) (e .value) (e .version) (e .deadline) t ≡ some (extended (e .key) (e .value) (e .version) (e .deadline) (stateOf t))
-unfolding fitting
+unfolding fitting fitsRow
 each-restored st e fs t h a l p q =
     let es : List Entry = stateOf t .entries in
     let s : Sizes e = each-mid Sizes es e fs (subst (Each Sizes) p (h .sizes)) in
     let i : Issued (st .last) e = each-mid (Issued (st .last)) es e fs (subst (Each (Issued (st .last))) p (h .issued)) in
     restored-is (e .key) (e .value) (e .version) (e .deadline) t
-    (and (le-leb _ _ (s .key)) (and (le-leb _ _ (s .value)) (le-leb _ _ (s .deadline))))
+    (and (and (le-leb _ _ (s .key)) (le-leb _ _ (s .value))) (le-leb _ _ (s .deadline)))
     (sym
     (next-yes (e .key) (e .version) t
     (record {

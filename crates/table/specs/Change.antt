@@ -1,16 +1,17 @@
 -- What the table's writers leave. The bytes of the form are the program's choice; what every choice has in common is said here.
 use mathlib.Core.Path.{_≡_}
-use mathlib.Core.List.{List, [], _∷_, _++_}
+use mathlib.Core.List.{List, []}
 use mathlib.Core.Bool.{Bool, true, false, cond, _&&_}
 use mathlib.Core.Option.{Option, none, some}
-use Prim.Native.Nat.{ℕ, suc, _-_}
-use lib.ListN.{length, take, drop, getD}
+use Prim.Native.Nat.{ℕ, _-_}
+use lib.ListN.{length, getD}
 use lib.Dec.{eqb, leb, ltb}
 use Rattle.message.specs.Request.{keyLimit, valueLimit}
 use Rattle.map.specs.State.{Entry, State, withEntries, find, hasKey}
 use Rattle.map.specs.Step.{mostKeys, lastVersion, isNone}
 use Rattle.map.specs.Table.{lastDeadline}
 use Rattle.table.specs.Memory.{size, entry, stateOf, Form, Sound}
+use Rattle.table.specs.Write.{grown, extended, shrunk}
 use Rattle.table.specs.declared.Outcome.{Outcome}
 use Rattle.table.specs.declared.Outcome.the-variants.{Done, Refused}
 
@@ -36,18 +37,27 @@ doneOr k false = Refused k
 abbrev pub outcomeOf : ℕ → Option State → Outcome
 outcomeOf k o = doneOr k (isSome o)
 
+-- what a change answers and leaves: whether it was made, or the outcome by its refusal
+abbrev pub Answers : List ℕ → Option State → Bool → List ℕ → Type 0
+Answers old o r new = (r ≡ isSome o) × Left old o new
+
+abbrev pub AnswersBy : ℕ → List ℕ → Option State → Outcome → List ℕ → Type 0
+AnswersBy k old o r new = (r ≡ outcomeOf k o) × Left old o new
+
+-- a row can hold a key and a value; and memory of the right length has a row for an entry more
+unfoldable pub fitsRow : List ℕ → List ℕ → Bool
+fitsRow k v = leb (length k) keyLimit && leb (length v) valueLimit
+
+unfoldable pub hasRoom : List ℕ → Bool
+hasRoom t = eqb (length t) size && ltb (length (stateOf t .entries)) mostKeys
+
 -- an entry more, of the next version, where there is room for it
 unfoldable pub added : List ℕ → List ℕ → ℕ → List ℕ → Option State
-added k v d t =
-    let st = stateOf t in
-    cond (eqb (length t) size && (leb (length k) keyLimit && (leb (length v) valueLimit && (ltb (length (st .entries)) mostKeys && ltb (st .last) lastVersion))))
-    (some (record { entries = st .entries ++ (entry k v (suc (st .last)) d ∷ []); last = suc (st .last) })) none
+added k v d t = cond (fitsRow k v && (hasRoom t && ltb (stateOf t .last) lastVersion)) (some (grown k v d (stateOf t))) none
 
 -- row i less
 unfoldable pub removed : ℕ → List ℕ → Option State
-removed i t =
-    let st = stateOf t in
-    cond (ltb i (length (st .entries))) (some (withEntries (take i (st .entries) ++ drop (suc i) (st .entries)) st)) none
+removed i t = cond (ltb i (length (stateOf t .entries))) (some (shrunk i (stateOf t))) none
 
 -- all rows less
 unfoldable pub cleared : List ℕ → Option State
@@ -67,15 +77,13 @@ newest es = getD es (length es - 1) (entry [] [] 0 0) .version
 
 -- an entry by itself is within its limits; and it can stand behind those held
 unfoldable pub fitting : List ℕ → List ℕ → ℕ → Bool
-fitting k v d = leb (length k) keyLimit && (leb (length v) valueLimit && leb d lastDeadline)
+fitting k v d = fitsRow k v && leb d lastDeadline
 
 unfoldable pub next : List ℕ → ℕ → List ℕ → Bool
 next k n t =
     let st = stateOf t in
-    eqb (length t) size && (ltb (length (st .entries)) mostKeys && (ltb (newest (st .entries)) n && (leb n (st .last) && isNone (find (hasKey k) (st .entries)))))
+    hasRoom t && (ltb (newest (st .entries)) n && (leb n (st .last) && isNone (find (hasKey k) (st .entries))))
 
 -- an entry more as it is, of a version already issued
 unfoldable pub restored : List ℕ → List ℕ → ℕ → ℕ → List ℕ → Option State
-restored k v n d t =
-    let st = stateOf t in
-    cond (fitting k v d && next k n t) (some (withEntries (st .entries ++ (entry k v n d ∷ [])) st)) none
+restored k v n d t = cond (fitting k v d && next k n t) (some (extended k v n d (stateOf t))) none

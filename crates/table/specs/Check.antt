@@ -1,15 +1,11 @@
 -- What the row functions find in memory of the right length, row by row.
 use mathlib.Core.Path.{_≡_}
 use mathlib.Core.List.{List}
-use mathlib.Core.Bool.{Bool, _&&_}
 use Prim.Native.Nat.{ℕ, _+_, _≤_, _<_}
-use lib.ListN.{length}
-use lib.Dec.{eqb, leb, ltb}
 use Rattle.message.specs.Request.{keyLimit, valueLimit}
-use Rattle.map.specs.Step.{mostKeys}
 use Rattle.map.specs.Table.{lastDeadline}
 use Rattle.table.specs.Bytes.{be8}
-use Rattle.table.specs.Memory.{size, rowAt, entryOf, countOf, stateOf}
+use Rattle.table.specs.Memory.{rowAt, entryOf, countOf}
 use Rattle.table.specs.declared.Found.{Found}
 use Rattle.table.specs.declared.Found.the-variants.{At, Absent}
 
@@ -34,13 +30,6 @@ pub record Within (t : List ℕ) (a : ℕ) : Type 0 where
 
 abbrev pub AllWithin : List ℕ → Type 0
 AllWithin t = (i : ℕ) → i < countOf t → Within t (rowAt i)
-
--- a row can hold a key and a value; and memory of the right length has a row for an entry more
-unfoldable pub fitsRow : List ℕ → List ℕ → Bool
-fitsRow k v = leb (length k) keyLimit && leb (length v) valueLimit
-
-unfoldable pub hasRoom : List ℕ → Bool
-hasRoom t = eqb (length t) size && ltb (length (stateOf t .entries)) mostKeys
 
 -- the versions of the first n rows are 1 at least, rise, and are at most `top`
 pub record Rising (t : List ℕ) (n top : ℕ) : Type 0 where

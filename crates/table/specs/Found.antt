@@ -4,7 +4,7 @@ use mathlib.Core.List.{List, []}
 use mathlib.Core.Bool.{Bool, true}
 use Prim.Native.Nat.{ℕ, _+_, _≤_, _<_}
 use lib.ListN.{length, getD}
-use Rattle.map.specs.State.{Entry, State}
+use Rattle.map.specs.State.{Entry}
 use Rattle.table.specs.Bytes.{be8}
 use Rattle.table.specs.Memory.{rowAt, entry, stateOf}
 use Rattle.table.specs.declared.Found.{Found}

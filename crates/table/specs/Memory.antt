@@ -1,7 +1,7 @@
 -- The table in lent memory: a header of count and last version, and 128 rows of fixed width, dense, ascending by version. A row has version,
 -- deadline, key length and value length, 8 bytes each, highest first, then 64 bytes for the key and 256 for the value.
 use mathlib.Core.Path.{_≡_}
-use mathlib.Core.List.{List, [], _∷_}
+use mathlib.Core.List.{List}
 use mathlib.Core.Bool.{cond}
 use Prim.Native.Nat.{ℕ, _+_, _*_, _≤_, _<_, min}
 use lib.ListN.{length}

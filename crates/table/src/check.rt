@@ -14,8 +14,8 @@ ghost use lib.ListN.{length};
 ghost use Rattle.table.specs.Bytes.{be8};
 ghost use Rattle.table.specs.Memory.{size, countOf, stateOf};
 ghost use Rattle.table.specs.Found.{Tells};
-ghost use Rattle.table.specs.Change.{newest, fitting, next};
-ghost use Rattle.table.specs.Check.{Within, AllWithin, Rising, Differ, fitsRow, hasRoom};
+ghost use Rattle.table.specs.Change.{newest, fitsRow, hasRoom, fitting, next};
+ghost use Rattle.table.specs.Check.{Within, AllWithin, Rising, Differ};
 
 // Whether the lengths and the deadline of the row at a are within their limits.
 fn within(t: &[u8], a: usize) -> bool

@@ -10,7 +10,7 @@ ghost use Prim.Native.Nat.{_≤_};
 ghost use lib.ListN.{length};
 ghost use Rattle.table.specs.Memory.{stateOf, Sound};
 ghost use Rattle.table.specs.Found.{entryAt, FoundIs, NumberAt, Tells};
-ghost use Rattle.table.specs.Change.{Left, isSome, doneOr, outcomeOf, made, started, added, restored, removed, cleared};
+ghost use Rattle.table.specs.Change.{doneOr, Answers, AnswersBy, made, started, added, restored, removed, cleared};
 
 // What a search for a key finds: its row, or that no row has it.
 pub enum Found {
@@ -104,14 +104,14 @@ pub fn done_or(done: bool, refusal: u8) -> Outcome
 
 // Makes the memory a fresh table. Memory of another length is 13.
 pub fn make(t: &mut [u8]) -> Outcome
-    ensures { λ r. ⌜ (r ≡ outcomeOf 13 (made (now (t .entry)))) × Left (now (t .entry)) (made (now (t .entry))) (now (t .exit)) ⌝ }
+    ensures { λ r. ⌜ AnswersBy 13 (now (t .entry)) (made (now (t .entry))) r (now (t .exit)) ⌝ }
 {
     done_or(start(t, EntryVersion(0)), 13)
 }
 
 // Makes the memory a table with no entries, of a last version within its limit.
 pub fn start(t: &mut [u8], last: EntryVersion) -> bool
-    ensures { λ r. ⌜ (r ≡ isSome (started (last .0) (now (t .entry)))) × Left (now (t .entry)) (started (last .0) (now (t .entry))) (now (t .exit)) ⌝ }
+    ensures { λ r. ⌜ Answers (now (t .entry)) (started (last .0) (now (t .entry))) r (now (t .exit)) ⌝ }
 {
     if t.len() != Table::SIZE {
         return false;
@@ -223,7 +223,7 @@ pub fn deadline_at(t: &[u8], i: usize) -> Second
 
 // Adds an entry behind the last, of the next version, where there is room for it and a version is left.
 pub fn add(t: &mut [u8], key: &[u8], value: &[u8], deadline: Second) -> bool
-    ensures { λ r. ⌜ (r ≡ isSome (added (now (key .entry)) (now (value .entry)) (deadline .0) (now (t .entry)))) × Left (now (t .entry)) (added (now (key .entry)) (now (value .entry)) (deadline .0) (now (t .entry))) (now (t .exit)) ⌝ }
+    ensures { λ r. ⌜ Answers (now (t .entry)) (added (now (key .entry)) (now (value .entry)) (deadline .0) (now (t .entry))) r (now (t .exit)) ⌝ }
 {
     if !check::fits_row(key, value) {
         return false;
@@ -246,7 +246,7 @@ pub fn restore(
     version: EntryVersion,
     deadline: Second,
 ) -> bool
-    ensures { λ r. ⌜ (r ≡ isSome (restored (now (key .entry)) (now (value .entry)) (version .0) (deadline .0) (now (t .entry)))) × Left (now (t .entry)) (restored (now (key .entry)) (now (value .entry)) (version .0) (deadline .0) (now (t .entry))) (now (t .exit)) ⌝ }
+    ensures { λ r. ⌜ Answers (now (t .entry)) (restored (now (key .entry)) (now (value .entry)) (version .0) (deadline .0) (now (t .entry))) r (now (t .exit)) ⌝ }
 {
     if !check::fits(key, value, deadline) {
         return false;
@@ -260,7 +260,7 @@ pub fn restore(
 
 // Removes row i. The rows behind it move down, so that freed room is used again.
 pub fn remove(t: &mut [u8], i: usize) -> bool
-    ensures { λ r. ⌜ (r ≡ isSome (removed i (now (t .entry)))) × Left (now (t .entry)) (removed i (now (t .entry))) (now (t .exit)) ⌝ }
+    ensures { λ r. ⌜ Answers (now (t .entry)) (removed i (now (t .entry))) r (now (t .exit)) ⌝ }
 {
     if i < count(t) {
         rows::remove(t, i);
@@ -271,7 +271,7 @@ pub fn remove(t: &mut [u8], i: usize) -> bool
 
 // Removes all rows. The last version issued stays.
 pub fn clear(t: &mut [u8]) -> bool
-    ensures { λ r. ⌜ (r ≡ isSome (cleared (now (t .entry)))) × Left (now (t .entry)) (cleared (now (t .entry))) (now (t .exit)) ⌝ }
+    ensures { λ r. ⌜ Answers (now (t .entry)) (cleared (now (t .entry))) r (now (t .exit)) ⌝ }
 {
     if t.len() != Table::SIZE {
         return false;

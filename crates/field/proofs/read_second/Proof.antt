@@ -1,5 +1,4 @@
 -- `field::read_second` meets its contract: it is what `read_version` finds. Assumes nothing.
-use mathlib.Core.Path.{sym, _∙_}
 use borrow.Author.Needs.{needs}
 use Rattle.field.proofs.read_second.Statement.{statement}
 use Rattle.field.proofs.read_second.Tie as tie

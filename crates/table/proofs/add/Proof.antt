@@ -3,7 +3,7 @@ use mathlib.Core.Path.{_≡_, sym, _∙_}
 use mathlib.Core.Bool.{true}
 use native.Mathlib.Omega.{arith}
 use borrow.Author.Tests.{not-true, not-false}
-use Rattle.table.specs.Check.{fitsRow, hasRoom}
+use Rattle.table.specs.Change.{fitsRow, hasRoom}
 use Rattle.table.proofs.RowLaws.{length-entries, last-is}
 use Rattle.table.proofs.Answers.{row-fits, room-is, added-yes, added-unfit, added-full, added-last}
 use Rattle.table.proofs.add.Statement.{statement}

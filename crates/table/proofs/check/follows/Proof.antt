@@ -4,7 +4,7 @@ use mathlib.Core.Bool.{true}
 use native.Mathlib.Omega.{arith}
 use borrow.Author.Tests.{not-true, not-false}
 use Rattle.table.specs.Found.{FoundIs}
-use Rattle.table.specs.Check.{hasRoom}
+use Rattle.table.specs.Change.{hasRoom}
 use Rattle.table.proofs.Answers.{room-is}
 use Rattle.table.proofs.Keys.{found-held, found-none}
 use Rattle.table.proofs.Restores.{next-full, next-old, next-late, next-held, next-yes}

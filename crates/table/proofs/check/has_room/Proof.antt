@@ -3,7 +3,7 @@ use native.Mathlib.Omega.{arith}
 use borrow.Author.Tests.{eq-eqb, ne-eqb}
 use lib.ListN.{length}
 use Rattle.table.specs.Memory.{size}
-use Rattle.table.specs.Check.{hasRoom}
+use Rattle.table.specs.Change.{hasRoom}
 use Rattle.table.proofs.RowLaws.{length-entries}
 use Rattle.table.proofs.check.has_room.Statement.{statement}
 use Rattle.table.proofs.check.has_room.Tie as tie

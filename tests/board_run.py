@@ -111,15 +111,15 @@ def demand(good, case, why):
 
 
 def demand_sentence(outcome, case):
-    """Something was said in words on standard error, and the run was not ended by a signal."""
-    demand(outcome.ended >= 0, case, f'ended by signal {-outcome.ended}')
+    """Something was said in words on standard error, and the status tells it. The program without its script has no status."""
+    demand(outcome.ended == 1 or BOARD == PROGRAM and outcome.ended == 0, case, f'ended with {outcome.ended}')
     words = outcome.err.decode('utf-8', 'replace').split()
     demand(len(words) >= 3 and outcome.err.endswith(b'\n'), case, f'no sentence on standard error: {short(outcome.err)}')
 
 
 def demand_calm(outcome, case):
-    """Nothing was said on standard error, and the run was not ended by a signal."""
-    demand(outcome.ended >= 0, case, f'ended by signal {-outcome.ended}')
+    """Nothing was said on standard error, and the status is 0."""
+    demand(outcome.ended == 0, case, f'ended with {outcome.ended}')
     demand(outcome.err == b'', case, f'standard error: {short(outcome.err)}')
 
 

@@ -153,7 +153,7 @@ def at_once(bench):
 
 
 def standard_input(bench):
-    """`-` is standard input: a pipe, a file from where it stands, and a socket."""
+    """`-` is standard input: a pipe, a file from where it stands, a socket, and one that can't be read, where nothing is stored."""
     folder = folder_of(bench, 'input')
     write_file(folder.requests, b'passed over\n' + PING)
     with open(folder.requests, 'rb', buffering=0) as file:
@@ -166,7 +166,10 @@ def standard_input(bench):
         ours.shutdown(socket.SHUT_WR)
         outcome = start(BOARD, ['serve', '-'], stdin=theirs)
         demand((outcome.out, outcome.err, outcome.ended) == (PONG, b'', 0), 'a socket as standard input', f'{short(outcome.out)} {short(outcome.err)}')
-    return 3
+    with open('/proc/self/mem', 'rb', buffering=0) as unreadable:
+        said(start(BOARD, ['serve', '-', 'table'], cwd=folder.at, stdin=unreadable), "can't read on in standard input", 'reading fails')
+    demand(read_file(folder.table) == OLD and beside(folder.table) == [], 'reading fails', f'beside TABLE {beside(folder.table)}')
+    return 4
 
 
 def not_files(bench):

@@ -217,6 +217,14 @@ def rights(bench):
             demand((private, now.st_uid, now.st_gid, mode_of(folder.table)) == (0o600, NOBODY, NOBODY, mode), 'another owner',
                    f'{private:o} beside, then {now.st_uid}:{now.st_gid} {mode_of(folder.table):o}')
             count += 1
+        # A file in such a folder gets the folder's group, which may not read this table.
+        os.chown(folder.table, 0, 0)
+        os.chown(folder.at, 0, NOBODY)
+        os.chmod(folder.at, 0o2755)
+        outcome = start(BOARD, ['serve', 'requests', 'table'], cwd=folder.at)
+        now = os.stat(folder.table)
+        demand(outcome.err == b'' and (now.st_gid, mode_of(folder.table)) == (0, mode), 'a folder with a group', f'{now.st_gid} {mode_of(folder.table):o}')
+        count += 1
     return count + 1
 
 

@@ -95,7 +95,10 @@ def signals(bench):
 def control_c(bench):
     """Control-C at a terminal, which reaches script and program."""
     folder = folder_of(bench, 'terminal')
-    ours, theirs = os.openpty()
+    try:
+        ours, theirs = os.openpty()
+    except OSError:
+        return 0  # there are no terminals here
     one = Open(folder, ours, stdin=theirs, start_new_session=True, preexec_fn=lambda: fcntl.ioctl(0, termios.TIOCSCTTY, 0))
     os.write(ours, b'\x03')
     one.run.wait(timeout=60)
@@ -106,14 +109,23 @@ def control_c(bench):
     return 1
 
 
+def children_of(parent):
+    for child in filter(str.isdigit, os.listdir('/proc')):
+        try:
+            stat_line = read_file(f'/proc/{child}/stat')
+        except OSError:
+            continue  # it has ended meanwhile
+        if stat_line and int(stat_line.rsplit(b')', 1)[1].split()[1]) == parent:
+            yield int(child)
+
+
 def program_killed(bench):
     """The program is killed alone: the script says so, and removes what it left."""
     folder = folder_of(bench, 'program')
     one = Open(folder)
-    with open(f'/proc/{one.run.pid}/task/{one.run.pid}/children', encoding='ascii') as children:
-        for child in children.read().split():
-            if os.readlink(f'/proc/{child}/exe') == os.path.realpath(PROGRAM):
-                os.kill(int(child), signal.SIGKILL)
+    children = [child for child in children_of(one.run.pid) if os.readlink(f'/proc/{child}/exe') == os.path.realpath(PROGRAM)]
+    demand(len(children) == 1, 'the program killed', f'{len(children)} programs run')
+    os.kill(children[0], signal.SIGKILL)
     one.run.wait(timeout=60)
     demand(beside(folder.table) == [] and read_file(folder.table) == OLD, 'the program killed', f'beside TABLE {beside(folder.table)}')
     err, ended = one.end()
@@ -166,7 +178,7 @@ def standard_input(bench):
         ours.shutdown(socket.SHUT_WR)
         outcome = start(BOARD, ['serve', '-'], stdin=theirs)
         demand((outcome.out, outcome.err, outcome.ended) == (PONG, b'', 0), 'a socket as standard input', f'{short(outcome.out)} {short(outcome.err)}')
-    with open('/proc/self/mem', 'rb', buffering=0) as unreadable:
+    with open(os.path.join(folder.at, 'unreadable'), 'wb') as unreadable:
         said(start(BOARD, ['serve', '-', 'table'], cwd=folder.at, stdin=unreadable), "can't read on in standard input", 'reading fails')
     demand(read_file(folder.table) == OLD and beside(folder.table) == [], 'reading fails', f'beside TABLE {beside(folder.table)}')
     return 4

@@ -12,8 +12,10 @@ import tempfile
 
 TOP = os.path.dirname(os.path.dirname(os.path.abspath(__file__)))
 BOARD = os.path.abspath(os.environ.get('BOARD', os.path.join(TOP, 'board')))
-# The program below the script ./board, where system calls are counted or memory is measured.
+# The program below the script ./board, whose system calls are counted (tests/kill_at.c) and whose memory is measured.
 PROGRAM = os.path.join(TOP, 'target/bin/board') if BOARD == os.path.join(TOP, 'board') else BOARD
+if BOARD != PROGRAM:
+    os.environ['PROGRAM'] = os.path.realpath(PROGRAM)
 REFERENCE = os.path.join(TOP, 'reference/target/release/reference')
 LONG = sys.argv[1:2] == ['long']
 # The second program may stand in for BOARD. Then the demands that it does not meet by design are left out.

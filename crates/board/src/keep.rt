@@ -1,61 +1,86 @@
 // The table's file: loading it, and storing the table in its place.
+use crate::file;
+use crate::file::Got;
+use crate::file::Turned;
 use crate::say;
-use crate::window;
-use crate::window::Window;
 use field::put;
+use files::NextLoad;
+use files::NextStore;
+use files::Window;
 use libc::STDERR_FILENO;
 ghost use lib.ListN.{length};
 ghost use mathlib.Core.Path.{_≡_};
-ghost use Rattle.board.specs.Window.{Lies};
-ghost use Rattle.board.specs.Turn.{Loads};
+ghost use mathlib.Core.Bool.{true};
+ghost use Rattle.table.specs.Memory.{size, Sound};
+ghost use Rattle.board.specs.Turn.{LoadReady, Loads, Builds, Stores};
 
-// Loads the lines in the window, and goes on in the file. What is carried: whether the first line is loaded.
-fn turn(fd: i32, input: &mut [u8], t: &mut [u8], w: Window) -> Window
-    requires { ⌜ Lies (now input) w ⌝ }
-    ensures { λ r. ⌜ Loads w (now (input .entry)) (now (t .entry)) r (now (input .exit)) (now (t .exit)) ⌝ }
+// Does what is to be done next.
+fn turn(fd: i32, name: &[u8], input: &mut [u8], t: &mut [u8], s: Window) -> Turned
+    requires { ⌜ LoadReady (now input) s ⌝ }
+    ensures { λ r. ⌜ Loads (now (input .entry)) (now (t .entry)) s r (now (input .exit)) (now (t .exit)) ⌝ }
 {
-    let p = stored::load_lines(window::bytes(input, w), t, w.carried);
-    if !p.good {
-        return window::stopped(w, p.begun, false);
+    let n = files::load_next(input, t, s);
+    match n {
+        NextLoad::Read(after) => {
+            let g = file::read_on(fd, input, after);
+            let Got::More(next) = g else {
+                say::no_table(name);
+                return Turned::Failed;
+            };
+            Turned::On(next)
+        }
+        NextLoad::Done => Turned::Done,
+        NextLoad::Refused(_) => Turned::Broken,
+        NextLoad::Astray => Turned::Broken,
     }
-    window::go_on(fd, input, w, p.taken, p.begun)
 }
 
-// Whether the whole file was good: its lines are, the first is there, and nothing is left behind the last. Else it says what is wrong.
-fn is_whole(w: Window, name: &[u8]) -> bool {
-    if w.failed {
-        say::no_table(name);
-        return false;
+// Whether a table was loaded. Where the file stores none, it says so.
+fn is_loaded(r: Turned, name: &[u8]) -> bool
+    ensures { λ d. ⌜ (d ≡ true → r ≡ Turned.Done) ⌝ }
+{
+    match r {
+        Turned::Done => true,
+        Turned::Broken => {
+            say::broken(name);
+            false
+        }
+        _ => false,
     }
-    if w.ended && w.carried && w.from == w.held {
-        return true;
-    }
-    say::broken(name);
-    false
 }
 
-// Builds the table of a file, and answers whether the file stores one. The turns are counted down as in serving.
-fn build(fd: i32, name: &[u8], t: &mut [u8]) -> bool {
+// Builds the table of a file, and answers how that ends. The turns are counted down as in serving.
+fn build(fd: i32, name: &[u8], t: &mut [u8]) -> Turned
+    ensures { λ r. ⌜ Builds (now (t .entry)) r (now (t .exit)) ⌝ }
+{
     let mut input = io::large_buffer();
-    let mut w = window::start();
+    let mut s = files::start();
     let mut turns = u64::MAX;
-    while turns > 0 && w.on {
-        w = turn(fd, &mut input, t, w);
+    while turns > 0 {
+        let r = turn(fd, name, &mut input, t, s);
+        let Turned::On(next) = r else {
+            return r;
+        };
+        s = next;
         turns -= 1;
     }
-    is_whole(w, name)
+    Turned::Failed
 }
 
 // Loads the table of a file, a fresh one only where the system says that there is no such file. It answers whether there is a table to serve from.
-pub(crate) fn load_file(path: &[u8], t: &mut [u8]) -> bool {
+pub(crate) fn load_file(path: &[u8], t: &mut [u8]) -> bool
+    requires { ⌜ length (now t) ≡ size ⌝ }
+    ensures { λ r. ⌜ (r ≡ true → Sound (now (t .exit))) ⌝ }
+{
     let fd = os::open_read(path);
     if fd >= 0 {
-        let good = build(fd, path, t);
+        let r = build(fd, path, t);
         libc::close(fd);
-        return good;
+        return is_loaded(r, path);
     }
     if os::errno() == libc::ENOENT {
-        return table::make(t);
+        table::make(t);
+        return true;
     }
     say::no_table(path);
     false
@@ -93,29 +118,39 @@ pub(crate) fn make_file(name: &[u8]) -> i32 {
     fd
 }
 
-// Writes the lines of the table, gathered in a buffer. Half of it has room for any line.
-fn write_lines(fd: i32, t: &[u8]) -> bool {
+// Whether all lines were written.
+fn is_stored(r: NextStore) -> bool
+    requires { ⌜ Stores r ⌝ }
+    ensures { λ d. ⌜ (d ≡ true → r ≡ NextStore.Done) ⌝ }
+{
+    match r {
+        NextStore::Done => true,
+        _ => false,
+    }
+}
+
+// Writes the lines of the table, as many at a time as there is room for.
+fn write_lines(fd: i32, t: &[u8]) -> bool
+    requires { ⌜ Sound (now t) ⌝ }
+{
     let mut out = io::large_buffer();
-    let n = table::count(t);
-    let mut at = 0;
-    let mut i = 0;
+    let mut line = 0;
     loop {
-        at = stored::store_line(t, i, &mut out, at);
-        if i == n {
-            return window::write(fd, &out, at);
+        let r = files::store_next(t, &mut out, line);
+        let NextStore::Write(n, next) = r else {
+            return is_stored(r);
+        };
+        if !file::write(fd, &out, n) {
+            return false;
         }
-        i += 1;
-        if at > 32768 {
-            if !window::write(fd, &out, at) {
-                return false;
-            }
-            at = 0;
-        }
+        line = next;
     }
 }
 
 // Writes the table to the file made for it, which takes the table's name when all has reached the disk. Where that fails, it says so and the file goes.
-pub(crate) fn store_file(fd: i32, t: &[u8], name: &[u8], path: &[u8]) {
+pub(crate) fn store_file(fd: i32, t: &[u8], name: &[u8], path: &[u8])
+    requires { ⌜ Sound (now t) ⌝ }
+{
     let written = write_lines(fd, t) && libc::fsync(fd) == 0;
     let closed = libc::close(fd) == 0;
     if !written || !closed || os::rename(name, path) != 0 {

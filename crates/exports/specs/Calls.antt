@@ -8,7 +8,8 @@ use Rattle.map.specs.Step.{Context}
 use Rattle.stream.specs.Serve.{Verdict, served, more, refused}
 use Rattle.stream.specs.Stream.{Call, Done, Serves}
 use Rattle.stream.specs.Many.{Total, Streams}
-use Rattle.server.specs.declared.Fed.{Fed}
+use Rattle.server.specs.declared.Served.{Served}
+use Rattle.server.specs.declared.Served.the-variants as s
 use Rattle.server.specs.Lines.{ServesLines}
 use Rattle.stored.specs.File.{form1}
 use Rattle.stored.specs.Answer.{Storing}
@@ -41,12 +42,21 @@ abbrev pub bit : Bool → ℕ
 bit true = 1
 bit false = 0
 
--- the same of a piece of a file of lines: 1 is told where the rest of a line is still to be passed over, and the code is the refusal or 0
-pub record TellsFed (last pass : Bool) (input t lent out t' old new : List ℕ) (n : ℕ) : Type 0 where
-  pub fed : Fed
-  pub serves : ServesLines last pass input t lent fed out t'
-  pub told : new ≡ tell (fed .taken ∷ fed .size ∷ bit (fed .passing) ∷ []) old
-  pub code : n ≡ fed .refused
+abbrev pub servedCode : Served → ℕ
+servedCode (s.Fed f) = 256
+servedCode (s.Refused k) = k
+
+-- 1 is told where the rest of a line is still to be passed over; where nothing was done, nothing is told
+abbrev pub servedTold : Served → List ℕ → List ℕ
+servedTold (s.Fed f) old = tell (f .taken ∷ f .size ∷ bit (f .passing) ∷ []) old
+servedTold (s.Refused k) old = old
+
+-- the same of a piece of a file of lines
+pub record TellsServed (last pass : Bool) (input t lent out t' old new : List ℕ) (n : ℕ) : Type 0 where
+  pub answer : Served
+  pub serves : ServesLines last pass input t lent answer out t'
+  pub told : new ≡ servedTold answer old
+  pub code : n ≡ servedCode answer
 
 -- the length of a stored file, which is at least 19, or the refusal
 abbrev pub storedCode : Sent → ℕ

@@ -6,6 +6,7 @@ mod tell;
 use message::Found;
 use reply::ReplyRead;
 use request::RequestRead;
+use server::Served;
 ghost use mathlib.Core.Path.{_≡_};
 ghost use Rattle.message.specs.Request.{request};
 ghost use Rattle.message.specs.Reply.{reply};
@@ -18,7 +19,7 @@ ghost use Rattle.table.specs.Change.{Left, isSome, made};
 ghost use Rattle.server.specs.Answer.{callOf, contextOf};
 ghost use Rattle.stored.specs.File.{form1};
 ghost use Rattle.stored.specs.Answer.{Loaded};
-ghost use Rattle.exports.specs.Calls.{TellsDone, TellsTotal, TellsFed, TellsStored};
+ghost use Rattle.exports.specs.Calls.{TellsDone, TellsTotal, TellsServed, TellsStored};
 ghost use Rattle.exports.specs.Codes.{coded, Tells};
 ghost use Rattle.exports.specs.Messages.{requestNumbers, replyNumbers, sendRequest, sendReply};
 
@@ -148,7 +149,8 @@ pub extern "C" fn fq_serve_stream(
     tell::verdict(v)
 }
 
-// Serves the lines of a piece of a file.
+// Serves the lines of a piece of a file: 256 is served. Numbers told: bytes taken, bytes of the output, and 1 where the rest of a line is still to be
+// passed over. Where it is refused, none are told.
 #[no_mangle]
 pub extern "C" fn fq_serve_lines(
     input: &[u8],
@@ -158,12 +160,17 @@ pub extern "C" fn fq_serve_lines(
     last: bool,
     answer: &mut [u64],
 ) -> u64
-    ensures { λ r. ⌜ TellsFed last passing (now (input .entry)) (now (table .entry)) (now (out .entry)) (now (out .exit)) (now (table .exit)) (now (answer .entry)) (now (answer .exit)) r ⌝ }
+    ensures { λ r. ⌜ TellsServed last passing (now (input .entry)) (now (table .entry)) (now (out .entry)) (now (out .exit)) (now (table .exit)) (now (answer .entry)) (now (answer .exit)) r ⌝ }
 {
-    let a = server::serve_lines(input, table, out, passing, last);
-    let p = tell::bit(a.passing);
-    tell::numbers(answer, &[a.taken as u64, a.size as u64, p]);
-    a.refused as u64
+    let r = server::serve_lines(input, table, out, passing, last);
+    match r {
+        Served::Fed(a) => {
+            let p = tell::bit(a.passing);
+            tell::numbers(answer, &[a.taken as u64, a.size as u64, p]);
+            256
+        }
+        Served::Refused(k) => k as u64,
+    }
 }
 
 // Writes the stored file of a table.

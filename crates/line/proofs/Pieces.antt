@@ -2,6 +2,7 @@
 use mathlib.Core.Path.{_≡_, refl, sym, ap, _∙_}
 use mathlib.Core.List.{List, [], _∷_, _++_, append-assoc, append-nil}
 use mathlib.Core.Bool.{Bool, true, false, cond, _&&_}
+use mathlib.Core.Option.{Option, none, some}
 use Prim.Native.Nat.{ℕ, suc, _+_, _≤_, _<_}
 use native.Mathlib.Numerals.{add-one}
 use native.Mathlib.Omega.{arith}
@@ -11,8 +12,21 @@ use lib.Dec.{eqb, ltb}
 use borrow.Author.Tests.{ltb-true, ltb-false, lt-ltb, lt-leb}
 use Rattle.wire.proofs.Laws.{both}
 use Rattle.map.specs.State.{State}
-use Rattle.line.specs.Line.{longest, asks, Given, given, refused14, lineStep, linesStep}
+use Rattle.line.specs.Line.{longest, asks, Given, given, stateLeft, later, refused14, lineStep, linesStep}
 use Rattle.line.specs.Feed.{lineEnd, Turn, turn, ended, turnOf, longer, linesOf, joined, Feeds, took, read, end}
+
+-- two lefts, one after the other
+pub later-none : (o : Option State) → later none o ≡ o
+later-none none = refl
+later-none (some st) = refl
+
+pub later-assoc : (a b c : Option State) → later (later a b) c ≡ later a (later b c)
+later-assoc a b none = refl
+later-assoc a b (some st) = refl
+
+pub left-later : (st : State) (a b : Option State) → stateLeft (stateLeft st a) b ≡ stateLeft st (later a b)
+left-later st a none = refl
+left-later st a (some next) = refl
 
 -- what a file gives, and what it gives where the rest of its first line is passed over
 unfoldable pub restStep : Bool → List ℕ → State → Given
@@ -94,7 +108,7 @@ open-line b (c ∷ s) t h = go (eqb b 0x0a) (open-line c s t) h
     go false ih e = ap (longer b) (ih (omega arith))
 
 -- a line that is too long is refused 14, whatever follows
-too-long : (s : List ℕ) (st : State) → longest < length s → lineStep s st ≡ given refused14 st
+too-long : (s : List ℕ) (st : State) → longest < length s → lineStep s st ≡ given refused14 none
 unfolding lineStep asks
 too-long s st h = rw (lt-leb (length s) longest h)
 
@@ -118,39 +132,39 @@ open-last s l h =
 
 module _ (st : State) where
   -- a line given, and what comes behind it
-  one-line : (l : List ℕ) (ls : List (List ℕ)) → linesStep (l ∷ ls) st ≡ given (ended (lineStep l st) ++ linesStep ls (lineStep l st .state) .text) (linesStep ls (lineStep l st .state) .state)
+  one-line : (l : List ℕ) (ls : List (List ℕ)) → linesStep (l ∷ ls) st ≡ given (ended (lineStep l st) ++ linesStep ls (stateLeft st (lineStep l st .next)) .text) (later (lineStep l st .next) (linesStep ls (stateLeft st (lineStep l st .next)) .next))
   unfolding linesStep
-  one-line l ls = rw (append-assoc (lineStep l st .text) (0x0a ∷ []) (linesStep ls (lineStep l st .state) .text))
+  one-line l ls = rw (append-assoc (lineStep l st .text) (0x0a ∷ []) (linesStep ls (stateLeft st (lineStep l st .next)) .text))
 
   -- what a turn gives, and what is left of the file behind it
   abbrev Keeps : Turn → List ℕ → List ℕ → Given → Type 0
   Keeps x s t g =
-      g ≡ given (x .text ++ restStep (x .passing) (drop (x .taken) s ++ t) (x .state) .text) (restStep (x .passing) (drop (x .taken) s ++ t) (x .state) .state)
+      (let r = restStep (x .passing) (drop (x .taken) s ++ t) (stateLeft st (x .next)) in g ≡ given (x .text ++ r .text) (later (x .next) (r .next)))
 
   keeps-turn : (passing last : Bool) (s t : List ℕ) → (last ≡ true → t ≡ []) → Keeps (turnOf passing last s st) s t (restStep passing (s ++ t) st)
   unfolding turnOf restStep
   keeps-turn true last s t f = go (ltb (lineEnd s) (length s)) refl
     where
       go : (x : Bool) → ltb (lineEnd s) (length s) ≡ x
-          → Keeps (cond x (turn (lineEnd s + 1) [] false st) (turn (length s) [] true st)) s t (linesStep (linesOf (drop (lineEnd (s ++ t) + 1) (s ++ t))) st)
+          → Keeps (cond x (turn (lineEnd s + 1) [] false none) (turn (length s) [] true none)) s t (linesStep (linesOf (drop (lineEnd (s ++ t) + 1) (s ++ t))) st)
       go true e =
           let h = ltb-true (lineEnd s) (length s) e in
           let p : drop (lineEnd (s ++ t) + 1) (s ++ t) ≡ drop (lineEnd s + 1) s ++ t = rw (whole-end s t h) (drop-append-le (lineEnd s + 1) s t (omega arith)) in
-          rw p
+          rw (p, later-none)
       go false e =
           let h : lineEnd s ≡ length s = omega (arith, ltb-false (lineEnd s) (length s) e, end-within s) in
           let q : length s + lineEnd t + 1 ≡ length s + (lineEnd t + 1) = omega arith in
           let p : drop (lineEnd (s ++ t) + 1) (s ++ t) ≡ drop (lineEnd t + 1) t = rw (open-end s t h, q) (drop-append-add s t (lineEnd t + 1)) in
-          rw (p, drop-length s)
+          rw (p, drop-length s, later-none)
   keeps-turn false last s t f = go (ltb (lineEnd s) (length s)) (ltb longest (length s)) (last && ltb 0 (length s)) refl refl refl
     where
       whole : Turn
-      whole = turn (lineEnd s + 1) (ended (lineStep (take (lineEnd s) s) st)) false (lineStep (take (lineEnd s) s) st .state)
+      whole = turn (lineEnd s + 1) (ended (lineStep (take (lineEnd s) s) st)) false (lineStep (take (lineEnd s) s) st .next)
 
       go : (x y z : Bool) → ltb (lineEnd s) (length s) ≡ x → ltb longest (length s) ≡ y → last && ltb 0 (length s) ≡ z
-          → Keeps (cond x (turn (lineEnd s + 1) (ended (lineStep (take (lineEnd s) s) st)) false (lineStep (take (lineEnd s) s) st .state))
-          (cond y (turn (length s) (ended (lineStep s st)) true (lineStep s st .state))
-          (cond z (turn (length s) (ended (lineStep s st)) false (lineStep s st .state)) (turn 0 [] false st)))) s t (linesStep (linesOf (s ++ t)) st)
+          → Keeps (cond x (turn (lineEnd s + 1) (ended (lineStep (take (lineEnd s) s) st)) false (lineStep (take (lineEnd s) s) st .next))
+          (cond y (turn (length s) (ended (lineStep s st)) true (lineStep s st .next))
+          (cond z (turn (length s) (ended (lineStep s st)) false (lineStep s st .next)) (turn 0 [] false none)))) s t (linesStep (linesOf (s ++ t)) st)
       go true y z e f g =
           rw (whole-line s t (ltb-true (lineEnd s) (length s) e), add-one) (one-line (take (lineEnd s) s) (linesOf (drop (suc (lineEnd s)) s ++ t)))
       go false true z e y g =
@@ -163,7 +177,7 @@ module _ (st : State) where
           let b = both last (ltb 0 (length s)) g in
           let n : t ≡ [] = f (b .0) in
           rw (n, append-nil s, drop-length s, open-last s (ltb-true 0 (length s) (b .1)) h, no-lines) (one-line s [])
-      go false false false e f g = refl
+      go false false false e f g = rw later-none
 
 no-more : (ps : List (List ℕ)) → ps ≡ [] → joined ps ≡ []
 unfolding joined
@@ -177,20 +191,20 @@ some-taken : (passing : Bool) (b : ℕ) (s : List ℕ) (st : State) → 1 ≤ tu
 unfolding turnOf
 some-taken true b s st = go (ltb (lineEnd (b ∷ s)) (suc (length s)))
   where
-    go : (x : Bool) → 1 ≤ cond x (turn (lineEnd (b ∷ s) + 1) [] false st) (turn (suc (length s)) [] true st) .taken
+    go : (x : Bool) → 1 ≤ cond x (turn (lineEnd (b ∷ s) + 1) [] false none) (turn (suc (length s)) [] true none) .taken
     go true = omega arith
     go false = omega arith
 some-taken false b s st = go (ltb (lineEnd (b ∷ s)) (suc (length s))) (ltb longest (suc (length s)))
   where
-    go : (x y : Bool) → 1 ≤ cond x (turn (lineEnd (b ∷ s) + 1) (ended (lineStep (take (lineEnd (b ∷ s)) (b ∷ s)) st)) false (lineStep (take (lineEnd (b ∷ s)) (b ∷ s)) st .state))
-        (cond y (turn (suc (length s)) (ended (lineStep (b ∷ s) st)) true (lineStep (b ∷ s) st .state))
-        (cond (ltb 0 (suc (length s))) (turn (suc (length s)) (ended (lineStep (b ∷ s) st)) false (lineStep (b ∷ s) st .state)) (turn 0 [] false st))) .taken
+    go : (x y : Bool) → 1 ≤ cond x (turn (lineEnd (b ∷ s) + 1) (ended (lineStep (take (lineEnd (b ∷ s)) (b ∷ s)) st)) false (lineStep (take (lineEnd (b ∷ s)) (b ∷ s)) st .next))
+        (cond y (turn (suc (length s)) (ended (lineStep (b ∷ s) st)) true (lineStep (b ∷ s) st .next))
+        (cond (ltb 0 (suc (length s))) (turn (suc (length s)) (ended (lineStep (b ∷ s) st)) false (lineStep (b ∷ s) st .next)) (turn 0 [] false none))) .taken
     go true y = omega arith
     go false true = omega arith
     go false false = rw (lt-ltb 0 (suc (length s)) (omega arith)) (omega arith)
 
 -- a turn on the last piece that takes nothing: there was nothing left
-nothing-left : (passing : Bool) (s : List ℕ) (st : State) → turnOf passing true s st .taken ≡ 0 → given [] st ≡ restStep passing (s ++ joined []) st
+nothing-left : (passing : Bool) (s : List ℕ) (st : State) → turnOf passing true s st .taken ≡ 0 → given [] none ≡ restStep passing (s ++ joined []) st
 unfolding joined restStep linesOf linesStep lineEnd
 nothing-left true [] st z = refl
 nothing-left false [] st z = refl

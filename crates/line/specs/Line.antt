@@ -43,36 +43,46 @@ refused14 = 0x72 ∷ 0x65 ∷ 0x66 ∷ 0x75 ∷ 0x73 ∷ 0x65 ∷ 0x64 ∷ 0x20 
 abbrev pub refused15 : List ℕ
 refused15 = 0x72 ∷ 0x65 ∷ 0x66 ∷ 0x75 ∷ 0x73 ∷ 0x65 ∷ 0x64 ∷ 0x20 ∷ 0x31 ∷ 0x35 ∷ []
 
--- the line that a line gives, without its line end, and the state after it
+-- the line that a line gives, without its line end, and the state that it leaves, or none where it is refused and changes nothing
 pub record Given : Type 0 where
   pub text : List ℕ
-  pub state : State
+  pub next : Option State
 
-abbrev pub given : List ℕ → State → Given
-given t st = record { text = t; state = st }
+abbrev pub given : List ℕ → Option State → Given
+given t o = record { text = t; next = o }
 
-unfoldable pub onOutcome : Request → State → Outcome → Given
-onOutcome r st (map.refused k) = given (toHex (errorReply .enc (refusal k (r .id)))) st
-onOutcome r st (answered a next) = given (toHex (flat (pieces r a))) next
+-- the state after a line, from the state before it
+abbrev pub stateLeft : State → Option State → State
+stateLeft st none = st
+stateLeft st (some next) = next
+
+-- what is left by two, one after the other
+abbrev pub later : Option State → Option State → Option State
+later a none = a
+later a (some st) = some st
+
+unfoldable pub onOutcome : Request → Outcome → Given
+onOutcome r (map.refused k) = given (toHex (errorReply .enc (refusal k (r .id)))) none
+onOutcome r (answered a next) = given (toHex (flat (pieces r a))) (some next)
 
 -- "The order is 14, 1 to 8, 15, the rest": a whole frame with bytes behind it, and one that is cut, is 15 and changes nothing
 unfoldable pub onFrame : Asks → State → Read Request → Given
-onFrame a st (wire.refused k) = given (toHex (errorReply .enc (refusal k (idIn (a .frame))))) st
-onFrame a st wire.more = given refused15 st
-onFrame a st (wire.whole r n) = cond (eqb n (length (a .frame))) (onOutcome r st (step (a .context) r st)) (given refused15 st)
+onFrame a st (wire.refused k) = given (toHex (errorReply .enc (refusal k (idIn (a .frame))))) none
+onFrame a st wire.more = given refused15 none
+onFrame a st (wire.whole r n) = cond (eqb n (length (a .frame))) (onOutcome r (step (a .context) r st)) (given refused15 none)
 
 abbrev pub onAsked : State → Option Asks → Given
-onAsked st none = given refused14 st
+onAsked st none = given refused14 none
 onAsked st (some a) = onFrame a st (request .dec (a .frame))
 
 -- "Each line gives one line: the reply's digits, or `refused 14` or `refused 15`."
 unfoldable pub lineStep : List ℕ → State → Given
 lineStep s st = onAsked st (asks s)
 
--- lines one after the other: what they give, each with its line end, and the state after them
+-- lines one after the other: what they give, each with its line end, and the state that they leave, or none where each of them is refused
 unfoldable pub linesStep : List (List ℕ) → State → Given
-linesStep [] st = given [] st
+linesStep [] st = given [] none
 linesStep (l ∷ ls) st =
     let g = lineStep l st in
-    let h = linesStep ls (g .state) in
-    given (g .text ++ (0x0a ∷ h .text)) (h .state)
+    let h = linesStep ls (stateLeft st (g .next)) in
+    given (g .text ++ (0x0a ∷ h .text)) (later (g .next) (h .next))

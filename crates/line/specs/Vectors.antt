@@ -17,7 +17,7 @@ use Rattle.message.specs.Request.{shapeOf, argsOf, operation, transaction, fiel
 use Rattle.request.specs.Answer.{start, idIn}
 use Rattle.map.specs.Reply.{flat, shownPieces, pieces}
 use Rattle.map.specs.Step.{plans, plan, shows, entry, stored, held, full, planned, answer, act, step}
-use Rattle.line.specs.Line.{asks, onOutcome, onFrame, lineStep}
+use Rattle.line.specs.Line.{asks, onOutcome, onFrame, stateLeft, lineStep}
 use Rattle.map.specs.State.{State, fresh, sameList, find, without}
 
 pub data Kind : Type 0 where
@@ -45,7 +45,7 @@ shownLine s f = toHex s ++ (0x20 ∷ toHex f)
 abbrev pub All : List Case → State → Type 0
 All [] st = Unit {0}
 All (num k bs a ∷ cs) st = ((format k .dec bs ≡ a) × Written k bs a) × All cs st
-All (line s f r ∷ cs) st = (lineStep (shownLine s f) st .text ≡ toHex r) × All cs (lineStep (shownLine s f) st .state)
+All (line s f r ∷ cs) st = (lineStep (shownLine s f) st .text ≡ toHex r) × All cs (stateLeft st (lineStep (shownLine s f) st .next))
 
 unfoldable pub cases : List Case
 cases =

@@ -9,34 +9,21 @@ use Prim.Native.Nat.{ℕ, suc, _≤_}
 use native.Mathlib.Omega.{arith}
 use lib.Dec.{ltb}
 use borrow.Author.Tests.{ne-eqb, eq-eqb}
-use Rattle.message.specs.declared.Operation.{Operation}
-use Rattle.message.specs.declared.Operation.the-variants.{Put, Get, PutIfAbsent, Replace, ReplaceIfUnmodified, Remove, RemoveIfUnmodified, ContainsKey, GetWithVersion, Clear, Ping}
 use Rattle.message.specs.Request.{Request, isEmpty}
 use Rattle.message.specs.Value.{withValue}
 use Rattle.message.specs.Reply as reply
 use Rattle.message.specs.Reply.{Body}
-use Rattle.map.specs.State.{Entry, State, without, hasKey}
-use Rattle.map.specs.Step.{Context, Change, keep, store, drop, empty, plan, shows, Answer, answered, lastVersion, deadline, entry, stored, dropped, emptied, isNone, held, full, planned, answer, act, step}
+use Rattle.map.specs.State.{Entry, State, without}
+use Rattle.map.specs.Step.{Context, Change, keep, store, drop, empty, shows, Answer, answered, lastVersion, deadline, entry, stored, dropped, emptied, isNone, names, held, versionOf, full, planned, answer, act, step}
 use Rattle.map.specs.Table.{Each}
 use Rattle.map.specs.Revalue.{entriesWith, stateWith, foundWith, shownWith, answerWith, outcomeWith, outcomeState}
 use Rattle.map.proofs.Answered.{changed, did}
 use Rattle.map.proofs.Finding.{cond-of, find-with, without-with, length-with, append-with, fresh}
 
 module _ (v : ℕ) (w : List ℕ) where
-  plan-with : (o : Operation) (x : ℕ) (f : Option Entry) → plan o x (foundWith v w f) ≡ plan o x f
-  unfolding plan
-  plan-with o x none = refl
-  plan-with Put x (some e) = refl
-  plan-with Get x (some e) = refl
-  plan-with PutIfAbsent x (some e) = refl
-  plan-with Replace x (some e) = refl
-  plan-with ReplaceIfUnmodified x (some e) = refl
-  plan-with Remove x (some e) = refl
-  plan-with RemoveIfUnmodified x (some e) = refl
-  plan-with ContainsKey x (some e) = refl
-  plan-with GetWithVersion x (some e) = refl
-  plan-with Clear x (some e) = refl
-  plan-with Ping x (some e) = refl
+  version-with : (f : Option Entry) → versionOf (foundWith v w f) ≡ versionOf f
+  version-with none = refl
+  version-with (some e) = refl
 
   shows-with : (t : Bool) (b : Body) (f : Option Entry) → shows t b (foundWith v w f) ≡ shownWith v w (shows t b f)
   unfolding shows shownWith
@@ -59,11 +46,11 @@ module _ (v : ℕ) (w : List ℕ) where
   module _ (c : Context) (r : Request) (st : State) where
     held-with : held r (stateWith v w st) ≡ foundWith v w (held r st)
     unfolding held stateWith
-    held-with = find-with v w (hasKey (r .args .key)) (λ e. refl) (st .entries)
+    held-with = find-with v w (names r) (λ e. refl) (st .entries)
 
     planned-with : planned r (stateWith v w st) ≡ planned r st
     unfolding planned
-    planned-with = rw held-with (plan-with (r .op) (r .args .entry) (held r st))
+    planned-with = rw (held-with, version-with)
 
     full-with : full r (stateWith v w st) ≡ full r st
     unfolding full stateWith
@@ -75,12 +62,12 @@ module _ (v : ℕ) (w : List ℕ) where
 
     drops : dropped r (stateWith v w st) ≡ stateWith v w (dropped r st)
     unfolding dropped stateWith
-    drops = rw (without-with v w (hasKey (r .args .key)) (λ e. refl) (st .entries))
+    drops = rw (without-with v w (names r) (λ e. refl) (st .entries))
 
     stored-with : v ≤ st .last → stored c r (stateWith v w st) ≡ stateWith v w (stored c r st)
     unfolding stored stateWith entriesWith entry
     stored-with h =
-        rw (without-with v w (hasKey (r .args .key)) (λ e. refl) (st .entries), append-with, ne-eqb (suc (st .last)) v (λ q. omega arith))
+        rw (without-with v w (names r) (λ e. refl) (st .entries), append-with, ne-eqb (suc (st .last)) v (λ q. omega arith))
 
     act-with : v ≤ st .last → (a : Answer) (d : Change) → act c r (stateWith v w st) (answerWith v w a) d ≡ outcomeWith v w (act c r st a d)
     unfolding act outcomeWith emptied stateWith entriesWith
@@ -101,8 +88,8 @@ module _ (w : List ℕ) (c : Context) (r : Request) (st : State) (h : Each (λ e
   none-there : entriesWith (suc (st .last)) w (st .entries) ≡ st .entries
   none-there = fresh (suc (st .last)) w (st .last) (st .entries) h (omega arith)
 
-  rest-there : entriesWith (suc (st .last)) w (without (hasKey (r .args .key)) (st .entries)) ≡ without (hasKey (r .args .key)) (st .entries)
-  rest-there = sym (without-with (suc (st .last)) w (hasKey (r .args .key)) (λ e. refl) (st .entries)) ∙ rw none-there
+  rest-there : entriesWith (suc (st .last)) w (without (names r) (st .entries)) ≡ without (names r) (st .entries)
+  rest-there = sym (without-with (suc (st .last)) w (names r) (λ e. refl) (st .entries)) ∙ rw none-there
 
   stores-value : stored c (withValue w r) st ≡ stateWith (suc (st .last)) w (stored c r st)
   unfolding stored stateWith entriesWith entry deadline

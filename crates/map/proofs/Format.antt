@@ -22,8 +22,8 @@ use Rattle.message.proofs.RequestLaws.{code-found, pick}
 use Rattle.message.proofs.RequestParts as asked
 use Rattle.message.proofs.ReplyParts.{whole-reply}
 use Rattle.message.proofs.ReplySize.{reply-most}
-use Rattle.map.specs.State.{Entry, State, hasKey}
-use Rattle.map.specs.Step.{lastVersion, Plan, plans, plan, Shown, nothing, noValue, value, shows, Answer, wantsOld, held, planned, answer}
+use Rattle.map.specs.State.{Entry, State}
+use Rattle.map.specs.Step.{lastVersion, Plan, plans, plan, Shown, nothing, noValue, value, shows, Answer, wantsOld, names, held, versionOf, planned, answer}
 use Rattle.map.specs.Table.{Sizes, Issued, IsTable}
 use Rattle.map.specs.Reply.{askedBy, entryOf, valueOf, replyTo, flat, shownPieces, pieces}
 use Rattle.map.proofs.Each.{each-both, Maybe, each-find}
@@ -43,7 +43,7 @@ Fit m.text f = ⊥
 abbrev Told : Operation → Option Entry → Plan → Type 0
 Told o f p = Valid (guard (λ s. isAllowed (bodyAt s (table o))) 8 byte) (p .status) × Fit (allowed (bodyAt (p .status) (table o))) f
 
-told : (o : Operation) (x : ℕ) (f : Option Entry) → Told o f (plan o x f)
+told : (o : Operation) (x : ℕ) (f : Option Entry) → Told o f (plan o x (versionOf f))
 unfolding plan plans bodyAt guard byte
 told Put x none = (refl, tt)
 told Put x (some e) = (refl, tt)
@@ -118,7 +118,7 @@ Fits e = Sizes e × (e .version ≤ lastVersion)
 held-fits : (r : Request) (st : State) → IsTable st → Maybe Fits (held r st)
 unfolding held
 held-fits r st s =
-    each-find (hasKey (r .args .key)) Fits (st .entries)
+    each-find (names r) Fits (st .entries)
     (each-both Sizes (Issued (st .last)) Fits (λ e z i. (z, omega (arith, i .1, s .last))) (st .entries) (s .sizes) (s .issued))
 
 value-good : (e : Entry) → Fits e → Valid (limited valueLimit) (e .value)

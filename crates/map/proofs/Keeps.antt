@@ -13,8 +13,8 @@ use Rattle.wire.proofs.Laws.{never}
 use Rattle.message.specs.Request.{Request, request}
 use Rattle.message.proofs.RequestLaws.{pick}
 use Rattle.message.proofs.Sizes.{small}
-use Rattle.map.specs.State.{Entry, State, find, without, hasKey}
-use Rattle.map.specs.Step.{mostKeys, lastVersion, Context, Change, keep, store, drop, empty, Answer, answered, noLifespan, deadline, entry, stored, dropped, emptied, isNone, held, full, planned, step}
+use Rattle.map.specs.State.{Entry, State, find, without}
+use Rattle.map.specs.Step.{mostKeys, lastVersion, Context, Change, keep, store, drop, empty, Answer, answered, noLifespan, deadline, entry, stored, dropped, emptied, isNone, names, held, full, planned, step}
 use Rattle.map.specs.Table.{Each, Sizes, OtherKey, OtherVersion, Issued, IsTable, Ascending}
 use Rattle.map.proofs.Each.{each-map, each-without, pairs-without, each-left, each-add, pairs-add}
 use Rattle.map.proofs.Answered.{changed, did}
@@ -63,20 +63,20 @@ Less e f = e .version < f .version
 
 module _ (c : Context) (r : Request) (st : State) (s : IsTable st) where
   abbrev rest : List Entry
-  rest = without (hasKey (r .args .key)) (st .entries)
+  rest = without (names r) (st .entries)
 
   rest-issued : Each (Issued (st .last)) rest
-  rest-issued = each-without (hasKey (r .args .key)) (Issued (st .last)) (st .entries) (s .issued)
+  rest-issued = each-without (names r) (Issued (st .last)) (st .entries) (s .issued)
 
   room : (n : Bool) → isNone (held r st) ≡ n → n && leb mostKeys (length (st .entries)) ≡ false → length rest < mostKeys
   unfolding held
-  room true e h = omega (arith, leb-false mostKeys (length (st .entries)) h, fewer (hasKey (r .args .key)) (st .entries))
-  room false e h = omega (arith, less (hasKey (r .args .key)) (st .entries) e, s .few)
+  room true e h = omega (arith, leb-false mostKeys (length (st .entries)) h, fewer (names r) (st .entries))
+  room false e h = omega (arith, less (names r) (st .entries) e, s .few)
 
   rest-table : IsTable (dropped r st)
   unfolding dropped
   rest-table =
-      let p = hasKey (r .args .key) in
+      let p = names r in
       record {
         few = omega (arith, fewer p (st .entries), s .few);
         keys = pairs-without p OtherKey (st .entries) (s .keys);
@@ -95,8 +95,8 @@ module _ (c : Context) (r : Request) (st : State) (s : IsTable st) where
         record {
           few = omega (arith, length-append rest (x ∷ []), room (isNone (held r st)) refl h);
           keys = pairs-add x OtherKey rest (t .keys)
-              (each-map (λ e. hasKey (r .args .key) e ≡ false) (λ e. OtherKey e x) (λ e q. same-sym (e .key) (r .args .key) q) rest
-              (each-left (hasKey (r .args .key)) (st .entries)));
+              (each-map (λ e. names r e ≡ false) (λ e. OtherKey e x) (λ e q. same-sym (e .key) (r .args .key) q) rest
+              (each-left (names r) (st .entries)));
           sizes = each-add x Sizes rest (t .sizes) fits;
           versions = pairs-add x OtherVersion rest (t .versions)
               (each-map (Issued (st .last)) (λ e. OtherVersion e x) (λ e i q. omega (arith, i .1)) rest rest-issued);
@@ -115,7 +115,7 @@ module _ (c : Context) (r : Request) (st : State) (s : IsTable st) where
 
   module _ (o : Ascending (st .entries)) where
     rest-order : Ascending rest
-    rest-order = pairs-without (hasKey (r .args .key)) Less (st .entries) o
+    rest-order = pairs-without (names r) Less (st .entries) o
 
     order-changed : (d : Change) → Ascending (changed c r st d .entries)
     unfolding changed stored dropped emptied entry

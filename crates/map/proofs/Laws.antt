@@ -1,6 +1,6 @@
 -- What is found in a list of entries behind a write, and that no version is issued twice. Assumes nothing.
 use mathlib.Core.Path.{_≡_, refl, ap₂, _∙_}
-use mathlib.Core.List.{List, [], _∷_, _++_}
+use mathlib.Core.List.{List, [], _∷_, _++_, map}
 use mathlib.Core.Bool.{Bool, true, false, cond}
 use mathlib.Core.Option.{Option, none, some}
 use mathlib.Core.Logic.{_⊎_, inl, inr}
@@ -13,6 +13,7 @@ use Rattle.message.specs.Request.{Request}
 use Rattle.map.specs.State.{Entry, State, sameList, find, without, hasKey}
 use Rattle.map.specs.Step.{Context, Outcome, refused, answered, step, stateAfter, Taken, run}
 use Rattle.map.specs.Table.{Each}
+use Rattle.map.specs.Issued.{issued, Above, Ascends, IssuedOnce}
 use Rattle.map.proofs.Each.{each-left}
 use Rattle.map.proofs.Commute.{issues}
 
@@ -81,41 +82,37 @@ find-stored k es e = find-append (hasKey k) (without (hasKey (e .key)) es) e ∙
         or-none (find (hasKey k) (without (hasKey (e .key)) es))
         ∙ find-without (hasKey k) (hasKey (e .key)) (λ f j. rw (same-true (f .key) (e .key) j) i) es
 
--- the versions that the steps of a run issue, where n is the last one before it
-unfoldable pub issued : ℕ → List Taken → List ℕ
-issued n [] = []
-issued n (x ∷ xs) = cond (ltb n (x .state .last)) (x .state .last ∷ issued (x .state .last) xs) (issued (x .state .last) xs)
-
-abbrev pub Above : ℕ → List ℕ → Type 0
-Above n [] = Unit {0}
-Above n (v ∷ vs) = (n < v) × Above n vs
-
--- each is less than all behind it
-abbrev pub Ascends : List ℕ → Type 0
-Ascends [] = Unit {0}
-Ascends (v ∷ vs) = Above v vs × Ascends vs
-
 above-less : (n m : ℕ) → n < m → (vs : List ℕ) → Above m vs → Above n vs
 above-less n m l [] h = tt
 above-less n m l (v ∷ vs) h = (omega (arith, h .0), above-less n m l vs (h .1))
 
-abbrev pub AscendFrom : ℕ → List ℕ → Type 0
-AscendFrom n vs = Above n vs × Ascends vs
+-- a step issues none, or the next one
+abbrev pub Next : ℕ → ℕ → Type 0
+Next n m = (m ≡ n) ⊎ (m ≡ suc n)
 
--- the state behind a step, answered or refused: none is issued, or the next one
-pub issues-after : (c : Context) (r : Request) (st : State) (o : Outcome) → step c r st ≡ o
-    → (stateAfter st o .last ≡ st .last) ⊎ (stateAfter st o .last ≡ suc (st .last))
+-- the state behind a step, answered or refused
+pub issues-after : (c : Context) (r : Request) (st : State) (o : Outcome) → step c r st ≡ o → Next (st .last) (stateAfter st o .last)
 issues-after c r st (refused k) e = inl refl
 issues-after c r st (answered a t) e = issues c r st a t e
 
-ascend-next : (n m : ℕ) (vs : List ℕ) → (m ≡ n) ⊎ (m ≡ suc n) → AscendFrom m vs → AscendFrom n (cond (ltb n m) (m ∷ vs) vs)
-ascend-next n m vs (inl e) h = rw (e, le-ltb n n (omega arith)) (rw e at h)
-ascend-next n m vs (inr e) h = rw (lt-ltb n m (omega arith)) ((omega arith, above-less n m (omega arith) vs (h .0)), h)
+pub once-none : (n : ℕ) → IssuedOnce n []
+unfolding issued
+once-none n = record { above = tt; ascends = tt }
 
--- no version is issued twice: those of a run ascend, from the last one before the run
-pub never-twice : (xs : List (Context × Request)) (st : State) → AscendFrom (st .last) (issued (st .last) (run xs st))
-unfolding issued run
-never-twice [] st = (tt, tt)
+pub once-next : (n m : ℕ) (ms : List ℕ) → Next n m → IssuedOnce m ms → IssuedOnce n (m ∷ ms)
+unfolding issued
+once-next n m ms (inl e) h =
+    let g : IssuedOnce n ms = rw e at h in
+    let z : issued n (n ∷ ms) ≡ issued n ms = rw (le-ltb n n (omega arith)) in
+    rw e (record { above = rw z (g .above); ascends = rw z (g .ascends) })
+once-next n m ms (inr e) h =
+    let z : issued n (m ∷ ms) ≡ m ∷ issued m ms = rw (lt-ltb n m (omega arith)) in
+    record { above = rw z (omega arith, above-less n m (omega arith) (issued m ms) (h .above)); ascends = rw z (h .above, h .ascends) }
+
+-- of the steps of a run
+pub never-twice : (xs : List (Context × Request)) (st : State) → IssuedOnce (st .last) (map (λ (x : Taken). x .state .last) (run xs st))
+unfolding run
+never-twice [] st = once-none (st .last)
 never-twice (x ∷ xs) st =
     let o = step (x .0) (x .1) st in
-    ascend-next (st .last) (stateAfter st o .last) _ (issues-after (x .0) (x .1) st o refl) (never-twice xs (stateAfter st o))
+    once-next (st .last) (stateAfter st o .last) _ (issues-after (x .0) (x .1) st o refl) (never-twice xs (stateAfter st o))

@@ -9,7 +9,7 @@ use lib.Dec.{ltb}
 use Rattle.wire.proofs.Laws.{never}
 use Rattle.message.specs.Request.{Request, isEmpty}
 use Rattle.map.specs.State.{Entry, State, sameList, find, without, hasKey}
-use Rattle.map.specs.Step.{Context, Change, keep, store, drop, empty, Answer, Outcome, lastVersion, stored, dropped, emptied, held, full, planned, answer, act, step}
+use Rattle.map.specs.Step.{Context, Change, keep, store, drop, empty, Answer, Outcome, lastVersion, stored, dropped, emptied, names, held, full, planned, answer, act, step}
 use Rattle.map.specs.Table.{Each, Pairs, OtherKey, IsTable}
 use Rattle.map.specs.Order as spec
 use Rattle.map.specs.Order.{Same, cons, swap, then, SameState, SameOutcome}
@@ -109,8 +109,8 @@ module _ (c : Context) (r : Request) (st us : State) (s : SameState st us) (h : 
   unfolding answer
   same-answer = rw (same-planned, same-held)
 
-  same-rest : Same (without (hasKey (r .args .key)) (st .entries)) (without (hasKey (r .args .key)) (us .entries))
-  same-rest = same-without (hasKey (r .args .key)) (s .entries)
+  same-rest : Same (without (names r) (st .entries)) (without (names r) (us .entries))
+  same-rest = same-without (names r) (s .entries)
 
   same-stored : SameState (stored c r st) (stored c r us)
   unfolding stored

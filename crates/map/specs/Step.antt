@@ -35,28 +35,29 @@ pub record Plan : Type 0 where
 unfoldable pub plans : ℕ → Change → Plan
 plans s c = record { status = s; change = c }
 
--- The reply table's status and condition: by the operation, the version asked for, and the entry that has the key.
-unfoldable pub plan : Operation → ℕ → Option Entry → Plan
-plan Put v none = plans 0x00 store
-plan Put v (some e) = plans 0x00 store
-plan PutIfAbsent v none = plans 0x00 store
-plan PutIfAbsent v (some e) = plans 0x01 keep
-plan Replace v none = plans 0x01 keep
-plan Replace v (some e) = plans 0x00 store
-plan ReplaceIfUnmodified v none = plans 0x02 keep
-plan ReplaceIfUnmodified v (some e) = cond (eqb (e .version) v) (plans 0x00 store) (plans 0x01 keep)
-plan Remove v none = plans 0x02 keep
-plan Remove v (some e) = plans 0x00 drop
-plan RemoveIfUnmodified v none = plans 0x02 keep
-plan RemoveIfUnmodified v (some e) = cond (eqb (e .version) v) (plans 0x00 drop) (plans 0x01 keep)
-plan Get v none = plans 0x02 keep
-plan Get v (some e) = plans 0x00 keep
-plan GetWithVersion v none = plans 0x02 keep
-plan GetWithVersion v (some e) = plans 0x00 keep
-plan ContainsKey v none = plans 0x02 keep
-plan ContainsKey v (some e) = plans 0x00 keep
-plan Clear v f = plans 0x00 empty
-plan Ping v f = plans 0x00 keep
+-- one plan where an entry has the key, and another where none has: a plan goes by the version held, if one is
+abbrev pub ifHeld : Option ℕ → Plan → Plan → Plan
+ifHeld none present absent = absent
+ifHeld (some w) present absent = present
+
+-- the change where the version held is the one asked for, and what is answered where it is another, or none is held
+abbrev pub ifSame : Option ℕ → ℕ → Change → Plan
+ifSame none v change = plans 0x02 keep
+ifSame (some w) v change = cond (eqb w v) (plans 0x00 change) (plans 0x01 keep)
+
+-- The reply table's status and condition: by the operation, the version asked for, and the version of the entry that has the key.
+unfoldable pub plan : Operation → ℕ → Option ℕ → Plan
+plan Put v h = plans 0x00 store
+plan PutIfAbsent v h = ifHeld h (plans 0x01 keep) (plans 0x00 store)
+plan Replace v h = ifHeld h (plans 0x00 store) (plans 0x01 keep)
+plan ReplaceIfUnmodified v h = ifSame h v store
+plan Remove v h = ifHeld h (plans 0x00 drop) (plans 0x02 keep)
+plan RemoveIfUnmodified v h = ifSame h v drop
+plan Get v h = ifHeld h (plans 0x00 keep) (plans 0x02 keep)
+plan GetWithVersion v h = ifHeld h (plans 0x00 keep) (plans 0x02 keep)
+plan ContainsKey v h = ifHeld h (plans 0x00 keep) (plans 0x02 keep)
+plan Clear v h = plans 0x00 empty
+plan Ping v h = plans 0x00 keep
 
 -- what a reply shows: nothing, length 0, the value of an entry, or its version and value
 pub data Shown : Type 0 where
@@ -103,32 +104,40 @@ deadline c r = cond (eqb (r .args .lifespan) 0) 0 (cond (noLifespan r) 0 (c .sec
 unfoldable pub entry : Context → Request → ℕ → Entry
 entry c r version = record { key = r .args .key; value = r .args .value; version = version; deadline = deadline c r }
 
+-- what an entry is named by: the key
+abbrev pub names : Request → Entry → Bool
+names r = hasKey (r .args .key)
+
 -- "'stored', or a put, sets the key's entry to the value, the next version and the deadline"
 unfoldable pub stored : Context → Request → State → State
-stored c r st = record { entries = without (hasKey (r .args .key)) (st .entries) ++ (entry c r (suc (st .last)) ∷ []); last = suc (st .last) }
+stored c r st = record { entries = without (names r) (st .entries) ++ (entry c r (suc (st .last)) ∷ []); last = suc (st .last) }
 
 -- "'removed' drops it"
 unfoldable pub dropped : Request → State → State
-dropped r st = withEntries (without (hasKey (r .args .key)) (st .entries)) st
+dropped r st = withEntries (without (names r) (st .entries)) st
 
 -- "Clear empties the table and keeps the number."
 unfoldable pub emptied : State → State
 emptied st = withEntries [] st
 
-abbrev pub isNone : Option Entry → Bool
+abbrev pub isNone : {A : Type 0} → Option A → Bool
 isNone none = true
 isNone (some e) = false
 
--- the entry that has the request's key
+-- the entry that the request names
 unfoldable pub held : Request → State → Option Entry
-held r st = find (hasKey (r .args .key)) (st .entries)
+held r st = find (names r) (st .entries)
+
+abbrev pub versionOf : Option Entry → Option ℕ
+versionOf none = none
+versionOf (some e) = some (e .version)
 
 -- "10: the write would add a key and 128 are held"
 unfoldable pub full : Request → State → Bool
 full r st = isNone (held r st) && leb mostKeys (length (st .entries))
 
 unfoldable pub planned : Request → State → Plan
-planned r st = plan (r .op) (r .args .entry) (held r st)
+planned r st = plan (r .op) (r .args .entry) (versionOf (held r st))
 
 unfoldable pub answer : Request → State → Answer
 answer r st =

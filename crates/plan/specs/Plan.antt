@@ -1,11 +1,11 @@
 -- What the code plans, by the meaning of it.
 use mathlib.Core.Path.{_≡_}
-use mathlib.Core.List.{List, []}
+use mathlib.Core.List.{List}
 use mathlib.Core.Bool.{Bool, cond, _&&_}
 use mathlib.Core.Option.{Option, none, some}
 use Prim.Native.Nat.{ℕ}
 use lib.ListN.{length}
-use lib.Dec.{eqb, leb, ltb}
+use lib.Dec.{leb, ltb}
 use Rattle.map.specs.State.{Entry, State, find, hasKey}
 use Rattle.map.specs.Step as map
 use Rattle.table.specs.Memory.{stateOf}
@@ -16,6 +16,8 @@ use Rattle.plan.specs.declared.Held.the-variants as h
 use Rattle.plan.specs.declared.Change.{Change}
 use Rattle.plan.specs.declared.Change.the-variants as c
 use Rattle.plan.specs.declared.Plan.{Plan}
+use Rattle.plan.specs.declared.Judged.{Judged}
+use Rattle.plan.specs.declared.Judged.the-variants as j
 
 abbrev pub asChange : Change → map.Change
 asChange c.Keep = map.keep
@@ -31,29 +33,26 @@ abbrev pub Holds : List ℕ → List ℕ → Held → Type 0
 Holds t k (h.Row i v) = FoundIs t k (f.At i) × (v .0 ≡ entryAt t i .version)
 Holds t k h.Absent = FoundIs t k f.Absent
 
--- what a plan goes by: whether an entry is held, and its version
-abbrev pub heldEntry : Held → Option Entry
-heldEntry (h.Row i v) = some (record { key = []; value = []; version = v .0; deadline = 0 })
-heldEntry h.Absent = none
+-- the version held
+abbrev pub heldVersion : Held → Option ℕ
+heldVersion (h.Row i v) = some (v .0)
+heldVersion h.Absent = none
 
 -- the entry that has the key
 abbrev pub heldAt : List ℕ → List ℕ → Option Entry
 heldAt t k = find (hasKey k) (stateOf t .entries)
 
-abbrev pub ifHeld : Option Entry → map.Plan → map.Plan → map.Plan
-ifHeld none present absent = absent
-ifHeld (some e) present absent = present
-
-abbrev pub ifSame : Option Entry → ℕ → map.Change → map.Plan
-ifSame none v change = map.plans 0x02 map.keep
-ifSame (some e) v change = cond (eqb (e .version) v) (map.plans 0x00 change) (map.plans 0x01 map.keep)
-
 -- "10: the write would add a key and 128 are held"; "11: the write would take effect and no version is left"
-unfoldable pub isFull : State → Option Entry → Bool
+unfoldable pub isFull : State → Option ℕ → Bool
 isFull st o = map.isNone o && leb map.mostKeys (length (st .entries))
 
-unfoldable pub refusalOf : State → Option Entry → map.Change → ℕ
-refusalOf st o map.keep = 0
-refusalOf st o map.drop = 0
-refusalOf st o map.empty = 0
-refusalOf st o map.store = cond (isFull st o) 10 (cond (ltb (st .last) map.lastVersion) 0 11)
+unfoldable pub refusalOf : State → Option ℕ → map.Change → Option ℕ
+refusalOf st o map.keep = none
+refusalOf st o map.drop = none
+refusalOf st o map.empty = none
+refusalOf st o map.store = cond (isFull st o) (some 10) (cond (ltb (st .last) map.lastVersion) none (some 11))
+
+-- the number of the refusal, or none
+abbrev pub asJudged : Judged → Option ℕ
+asJudged j.Free = none
+asJudged (j.Refused k) = some k

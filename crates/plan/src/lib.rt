@@ -6,7 +6,7 @@ use table::Table;
 ghost use mathlib.Core.Path.{_≡_};
 ghost use Rattle.map.specs.Step as map;
 ghost use Rattle.table.specs.Memory.{stateOf};
-ghost use Rattle.plan.specs.Plan.{asPlan, asChange, Holds, heldEntry, ifHeld, ifSame, isFull, refusalOf};
+ghost use Rattle.plan.specs.Plan.{asPlan, asChange, asJudged, Holds, heldVersion, isFull, refusalOf};
 
 // The row that has the key, with the version of its entry, or that none has it.
 pub enum Held {
@@ -25,6 +25,12 @@ pub enum Change {
 pub struct Plan {
     pub status: u8,
     pub change: Change,
+}
+
+// Whether a change may be made, or the refusal for which it may not.
+pub enum Judged {
+    Free,
+    Refused(u8),
 }
 
 // The row that has the key, with its version.
@@ -49,7 +55,7 @@ fn planned(status: u8, change: Change) -> Plan
 
 // One plan where the key is held, and another where it is not.
 fn if_held(held: Held, present: Plan, absent: Plan) -> Plan
-    ensures { λ r. ⌜ asPlan r ≡ ifHeld (heldEntry held) (asPlan present) (asPlan absent) ⌝ }
+    ensures { λ r. ⌜ asPlan r ≡ map.ifHeld (heldVersion held) (asPlan present) (asPlan absent) ⌝ }
 {
     match held {
         Held::Row(_, _) => present,
@@ -59,7 +65,7 @@ fn if_held(held: Held, present: Plan, absent: Plan) -> Plan
 
 // The plan of an operation that asks for a version: the change where the version held is the same one.
 fn if_same(held: Held, asked: EntryVersion, change: Change) -> Plan
-    ensures { λ r. ⌜ asPlan r ≡ ifSame (heldEntry held) (asked .0) (asChange change) ⌝ }
+    ensures { λ r. ⌜ asPlan r ≡ map.ifSame (heldVersion held) (asked .0) (asChange change) ⌝ }
 {
     match held {
         Held::Row(_, version) => {
@@ -75,7 +81,7 @@ fn if_same(held: Held, asked: EntryVersion, change: Change) -> Plan
 
 // The reply table: the status, and what becomes of the entries.
 pub fn plan_of(op: Operation, asked: EntryVersion, held: Held) -> Plan
-    ensures { λ r. ⌜ asPlan r ≡ map.plan op (asked .0) (heldEntry held) ⌝ }
+    ensures { λ r. ⌜ asPlan r ≡ map.plan op (asked .0) (heldVersion held) ⌝ }
 {
     let stored = planned(0x00, Change::Store);
     let kept = planned(0x00, Change::Keep);
@@ -96,7 +102,7 @@ pub fn plan_of(op: Operation, asked: EntryVersion, held: Held) -> Plan
 }
 
 fn is_full(t: &[u8], held: Held) -> bool
-    ensures { λ r. ⌜ r ≡ isFull (stateOf (now (t .entry))) (heldEntry held) ⌝ }
+    ensures { λ r. ⌜ r ≡ isFull (stateOf (now (t .entry))) (heldVersion held) ⌝ }
 {
     let Held::Absent = held else {
         return false;
@@ -104,18 +110,18 @@ fn is_full(t: &[u8], held: Held) -> bool
     Table::KEYS <= table::count(t)
 }
 
-// The refusal of a change: 10 where it adds a key to a full table, 11 where no version is left for it, and 0 where it is not refused.
-pub fn refusal_of(t: &[u8], change: Change, held: Held) -> u8
-    ensures { λ r. ⌜ r ≡ refusalOf (stateOf (now (t .entry))) (heldEntry held) (asChange change) ⌝ }
+// The refusal of a change: 10 where it adds a key to a full table, 11 where no version is left for it.
+pub fn refusal_of(t: &[u8], change: Change, held: Held) -> Judged
+    ensures { λ r. ⌜ asJudged r ≡ refusalOf (stateOf (now (t .entry))) (heldVersion held) (asChange change) ⌝ }
 {
     let Change::Store = change else {
-        return 0;
+        return Judged::Free;
     };
     if is_full(t, held) {
-        return 10;
+        return Judged::Refused(10);
     }
     if Table::LAST_VERSION <= table::last(t).0 {
-        return 11;
+        return Judged::Refused(11);
     }
-    0
+    Judged::Free
 }

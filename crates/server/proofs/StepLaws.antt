@@ -2,7 +2,7 @@
 use mathlib.Core.Path.{_≡_, refl, ap₂, _∙_}
 use mathlib.Core.List.{List, [], _∷_}
 use mathlib.Core.Bool.{Bool, true, false, cond}
-use mathlib.Core.Option.{Option, some}
+use mathlib.Core.Option.{Option, none, some}
 use Prim.Native.Nat.{ℕ, suc, _≤_, _<_}
 use native.Mathlib.Omega.{arith}
 use lib.ListN.{length, length-append}
@@ -15,7 +15,7 @@ use Rattle.message.proofs.Sizes.{small}
 use Rattle.map.specs.State.{Entry, State, without, hasKey}
 use Rattle.map.specs.Table.{Sizes, Issued, OtherKey, OtherVersion, IsTable}
 use Rattle.map.specs.Step as map
-use Rattle.map.specs.Step.{Context, Change, Outcome, answered, mostKeys, lastVersion, deadline, entry, stored, isNone, held, full, planned, answer, act, step}
+use Rattle.map.specs.Step.{Context, Change, Outcome, answered, mostKeys, lastVersion, deadline, entry, stored, isNone, held, versionOf, full, planned, answer, act, step}
 use Rattle.map.specs.Reply.{flat, pieces}
 use Rattle.map.proofs.Each.{each-without, pairs-without}
 use Rattle.map.proofs.Keeps.{keeps-table}
@@ -77,10 +77,14 @@ module _ (c : Context) (q : Request) (t : List ℕ) (s : Sound t) (v : Valid req
   does-answered e w d = let l = sound-after e d in rw e (does w l)
 
 -- the refusal of a store, by its two tests
-abbrev number : Bool → Bool → ℕ
-number full left = cond full 10 (cond left 0 11)
+abbrev number : Bool → Bool → Option ℕ
+number full left = cond full (some 10) (cond left none (some 11))
 
 -- the step of a request without a name
+none-version : (f : Option Entry) → isNone (versionOf f) ≡ isNone f
+none-version none = refl
+none-version (some e) = refl
+
 module _ (c : Context) (q : Request) (st : State) where
   pub step-named : isEmpty (q .name) ≡ false → step c q st ≡ map.refused 9
   unfolding step
@@ -91,46 +95,46 @@ module _ (c : Context) (q : Request) (st : State) where
   step-acts e p = rw (e, p)
 
   -- the change that is planned, by what the code holds: it is refused, or it is made
-  module _ (o : Option Entry) (n : isNone o ≡ isNone (held q st)) where
+  module _ (o : Option ℕ) (n : o ≡ versionOf (held q st)) where
     full-same : isFull st o ≡ full q st
     unfolding isFull full
-    full-same = rw n
+    full-same = rw (n, none-version)
 
-    pub act-refused : (d : Change) → (refusalOf st o d ≡ 0 → ⊥) → (act c q st (answer q st) d ≡ map.refused (refusalOf st o d)) × (refusalOf st o d ≤ 11)
+    pub act-refused : (d : Change) (k : ℕ) → refusalOf st o d ≡ some k → (act c q st (answer q st) d ≡ map.refused k) × ((1 ≤ k) × (k ≤ 11))
     unfolding refusalOf act
-    act-refused map.keep h = absurd (h refl)
-    act-refused map.drop h = absurd (h refl)
-    act-refused map.empty h = absurd (h refl)
-    act-refused map.store h = rw full-same (go (full q st) (ltb (st .last) lastVersion) (rw full-same at h))
+    act-refused map.keep k h = never (cc)
+    act-refused map.drop k h = never (cc)
+    act-refused map.empty k h = never (cc)
+    act-refused map.store k h = go (full q st) (ltb (st .last) lastVersion) (rw full-same at h)
       where
-        go : (x y : Bool) → (number x y ≡ 0 → ⊥)
-            → (cond x (map.refused 10) (cond y (answered (answer q st) (stored c q st)) (map.refused 11)) ≡ map.refused (number x y)) × (number x y ≤ 11)
-        go true y h = (refl, omega arith)
-        go false true h = absurd (h refl)
-        go false false h = (refl, omega arith)
+        go : (x y : Bool) → number x y ≡ some k
+            → (cond x (map.refused 10) (cond y (answered (answer q st) (stored c q st)) (map.refused 11)) ≡ map.refused k) × ((1 ≤ k) × (k ≤ 11))
+        go true y h = let e : _≡_ {A = ℕ} 10 k = cc in rw (← e) (refl, (omega arith, omega arith))
+        go false true h = never (cc)
+        go false false h = let e : _≡_ {A = ℕ} 11 k = cc in rw (← e) (refl, (omega arith, omega arith))
 
-    pub act-made : (d : Change) → refusalOf st o d ≡ 0 → act c q st (answer q st) d ≡ answered (answer q st) (after c q st d)
+    pub act-made : (d : Change) → refusalOf st o d ≡ none → act c q st (answer q st) d ≡ answered (answer q st) (after c q st d)
     unfolding refusalOf act
     act-made map.keep e = refl
     act-made map.drop e = refl
     act-made map.empty e = refl
     act-made map.store e = go (full q st) (ltb (st .last) lastVersion) (rw full-same at e)
       where
-        go : (x y : Bool) → number x y ≡ 0
+        go : (x y : Bool) → number x y ≡ none
             → cond x (map.refused 10) (cond y (answered (answer q st) (stored c q st)) (map.refused 11)) ≡ answered (answer q st) (stored c q st)
-        go true y e = absurd (omega arith)
+        go true y e = never (cc)
         go false true e = refl
-        go false false e = absurd (omega arith)
+        go false false e = never (cc)
 
 -- a store that is not refused has a version left
-pub version-left : (st : State) (o : Option Entry) → refusalOf st o map.store ≡ 0 → st .last < lastVersion
+pub version-left : (st : State) (o : Option ℕ) → refusalOf st o map.store ≡ none → st .last < lastVersion
 unfolding refusalOf
 version-left st o e = go (isFull st o) (ltb (st .last) lastVersion) refl e
   where
-    go : (x y : Bool) → ltb (st .last) lastVersion ≡ y → number x y ≡ 0 → st .last < lastVersion
-    go true y z e = absurd (omega arith)
+    go : (x y : Bool) → ltb (st .last) lastVersion ≡ y → number x y ≡ none → st .last < lastVersion
+    go true y z e = never (cc)
     go false true z e = ltb-true (st .last) lastVersion z
-    go false false z e = absurd (omega arith)
+    go false false z e = never (cc)
 
 -- a name
 pub named : (s : List ℕ) → (length s ≡ 0 → ⊥) → isEmpty s ≡ false

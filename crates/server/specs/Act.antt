@@ -18,7 +18,7 @@ use Rattle.table.specs.Memory.{stateOf, Sound}
 use Rattle.stream.specs.Serve.{room, served, onStep}
 use Rattle.stream.specs.Stream.{Done, Does}
 use Rattle.plan.specs.declared.Held.{Held}
-use Rattle.plan.specs.Plan.{Holds, heldEntry, refusalOf}
+use Rattle.plan.specs.Plan.{Holds, heldVersion, refusalOf}
 use Rattle.server.specs.declared.Answer.{Answer}
 use Rattle.server.specs.Answer.{Sends}
 
@@ -70,7 +70,7 @@ pub record Agreed (t : List ℕ) (q : Request) (second : ℕ) (held : Held) (d :
   pub valid : Valid request q
   pub holds : Holds t (q .args .key) held
   pub within : second < 0x1_0000_0000
-  pub free : refusalOf (stateOf t) (heldEntry held) d ≡ 0
+  pub free : refusalOf (stateOf t) (heldVersion held) d ≡ none
   pub step : map.step (at second) q (stateOf t) ≡ map.answered (map.answer q (stateOf t)) (after (at second) q (stateOf t) d)
 
 -- the map's reply to the request is sent

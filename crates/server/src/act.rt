@@ -8,6 +8,7 @@ use message::Request;
 use message::Sent;
 use plan::Change;
 use plan::Held;
+use plan::Judged;
 use reply_body::Form;
 use request::RequestRead;
 use table::Table;
@@ -188,13 +189,15 @@ pub(crate) fn perform(
     let asked = h.entry;
     let p = plan::plan_of(op, asked, held);
     let c = p.change;
-    let k = plan::refusal_of(t, c, held);
-    if k != 0 {
-        return refuse(out, h.id, k, n);
+    let j = plan::refusal_of(t, c, held);
+    match j {
+        Judged::Refused(k) => refuse(out, h.id, k, n),
+        Judged::Free => {
+            let a = respond(out, t, h, p.status, held, n);
+            change(input, r, t, second, c, held);
+            a
+        }
     }
-    let a = respond(out, t, h, p.status, held, n);
-    change(input, r, t, second, c, held);
-    a
 }
 
 // The request at the front of the input.

@@ -123,13 +123,11 @@ pub enum Lined {
     Refused(u8),
 }
 
-// What serving the lines of a piece of a file answers: the bytes taken, the bytes of the output, whether the rest of a line is still to be
-// passed over, and the refusal for which nothing was done, or 0.
+// What serving the lines of a piece of a file gives: the bytes taken, the bytes of the output, and whether the rest of a line is still to be passed over.
 pub struct Fed {
     pub taken: usize,
     pub size: usize,
     pub passing: bool,
-    pub refused: u8,
 }
 
 impl Fed {
@@ -137,6 +135,12 @@ impl Fed {
     pub const ROOM: usize = 559;
 
     pub const LONGEST: usize = 1024;
+}
+
+// What serving the lines of a piece of a file answers: what it gave, or the refusal for which nothing was done.
+pub enum Served {
+    Fed(Fed),
+    Refused(u8),
 }
 
 // Serves a line, without its line end, and writes the line that it gives, with its line end.
@@ -154,24 +158,20 @@ pub fn serve_line(line: &[u8], table: &mut [u8], out: &mut [u8]) -> Lined
 
 // Serves the lines of a piece of a file, as long as there is room for a line. passing: the rest of the first line is passed over;
 // last: nothing comes behind the piece.
-pub fn serve_lines(input: &[u8], table: &mut [u8], out: &mut [u8], passing: bool, last: bool) -> Fed
+pub fn serve_lines(
+    input: &[u8],
+    table: &mut [u8],
+    out: &mut [u8],
+    passing: bool,
+    last: bool,
+) -> Served
     ensures { λ r. ⌜ ServesLines last passing (now (input .entry)) (now (table .entry)) (now (out .entry)) r (now (out .exit)) (now (table .exit)) ⌝ }
 {
     if out.len() < Fed::ROOM {
-        return Fed {
-            taken: 0,
-            size: 0,
-            passing: passing,
-            refused: 12,
-        };
+        return Served::Refused(12);
     }
     if !table::is_table(table) {
-        return Fed {
-            taken: 0,
-            size: 0,
-            passing: passing,
-            refused: 13,
-        };
+        return Served::Refused(13);
     }
-    lines::feed(input, table, out, passing, last)
+    Served::Fed(lines::feed(input, table, out, passing, last))
 }

@@ -1,5 +1,6 @@
 // Serving the lines of a file of requests on a table that is sound, with room for a line.
 use crate::Fed;
+use crate::Served;
 use crate::act;
 use field::Second;
 use field::put;
@@ -192,7 +193,7 @@ fn is_due(end: usize, len: usize, last: bool) -> bool
 fn turn(s: &[u8], t: &mut [u8], out: &mut [u8], at: usize, passing: bool, last: bool) -> Turned
     requires { ⌜ isSound (now t) ≡ true ⌝ }
     requires { ⌜ at + lineRoom ≤ length (now out) ⌝ }
-    ensures { λ r. ⌜ TurnDone (turnOf passing last (now (s .entry)) (stateOf (now (t .entry)))) (now (out .entry)) (now (out .exit)) at r (now (t .exit)) ⌝ }
+    ensures { λ r. ⌜ TurnDone (turnOf passing last (now (s .entry)) (stateOf (now (t .entry)))) (now (out .entry)) (now (out .exit)) at r (now (t .entry)) (now (t .exit)) ⌝ }
 {
     let end = line_end(s);
     if passing {
@@ -215,7 +216,7 @@ fn turn(s: &[u8], t: &mut [u8], out: &mut [u8], at: usize, passing: bool, last: 
 pub(crate) fn feed(input: &[u8], t: &mut [u8], out: &mut [u8], passing: bool, last: bool) -> Fed
     requires { ⌜ isSound (now t) ≡ true ⌝ }
     requires { ⌜ lineRoom ≤ length (now out) ⌝ }
-    ensures { λ r. ⌜ TurnsDone last passing (now (input .entry)) (now (t .entry)) (now (out .entry)) r (now (out .exit)) (now (t .exit)) ⌝ }
+    ensures { λ r. ⌜ TurnsDone last passing (now (input .entry)) (now (t .entry)) (now (out .entry)) (Served.Fed r) (now (out .exit)) (now (t .exit)) ⌝ }
 {
     let mut taken = 0;
     let mut size = 0;
@@ -227,7 +228,6 @@ pub(crate) fn feed(input: &[u8], t: &mut [u8], out: &mut [u8], passing: bool, la
                 taken: taken,
                 size: size,
                 passing: pass,
-                refused: 0,
             };
         }
         taken += r.taken;
@@ -238,6 +238,5 @@ pub(crate) fn feed(input: &[u8], t: &mut [u8], out: &mut [u8], passing: bool, la
         taken: taken,
         size: size,
         passing: pass,
-        refused: 0,
     }
 }

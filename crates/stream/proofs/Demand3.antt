@@ -1,4 +1,4 @@
--- Demand 3, of every meaning of a table's bytes in which a sound table holds no version above the last issued.
+-- The proof of the claim about lists of requests and streams. Assumes nothing.
 use mathlib.Core.Path.{_≡_, refl, sym, subst, _∙_}
 use mathlib.Core.List.{List, [], _∷_, _++_, append-assoc}
 use Prim.Native.Nat.{ℕ}

@@ -9,3 +9,4 @@ pub mod Demand3
 pub mod Determined
 pub mod Exist
 pub mod Bounds
+pub mod Once

@@ -1,82 +1,57 @@
 -- `plan::plan_of` meets its contract: each arm is a row of the map's plan. Assumes nothing.
-use mathlib.Core.Path.{refl, _∙_}
-use Rattle.message.specs.declared.Operation.the-variants as o
-use mathlib.Core.Option.{Option}
-use Rattle.map.specs.State.{Entry}
+use mathlib.Core.Path.{_∙_}
 use Rattle.map.specs.Step as map
-use Rattle.plan.specs.Plan.{heldEntry}
-use Rattle.plan.proofs.PlanLaws.{held-plan, any-plan, same-plan}
 use borrow.Author.Needs.{needs}
 use Rattle.plan.proofs.plan_of.Statement.{statement}
 use Rattle.plan.proofs.plan_of.Tie as tie
 
-abbrev held : tie.Start → Option Entry
-held s = heldEntry (s .args .held)
-
 returns : tie.Need-returns
 unfolding map.plan
-returns c =
-    let p = c .before .before .before .before in
-    rw (c .enum-told .given .1) (any-plan (map.plan o.Put (p .before .args .asked .0)) (p .planned .ensures) (λ e. p .planned .ensures) (held (p .before)))
+returns c = rw (c .enum-told .given .1) (c .before .before .before .before .planned .ensures)
 
 returns-2 : tie.Need-returns-2
 unfolding map.plan
 returns-2 c =
     let a = c .before in
-    let p = a .before .before .before in
-    rw (a .before .enum-told2 .given .1)
-    (c .if-held .ensures ∙ held-plan (map.plan o.PutIfAbsent (p .before .before .before .args .asked .0)) (p .before .before .planned .ensures) (λ e. a .planned4 .ensures) (held (p .before .before .before)))
+    rw (a .before .enum-told2 .given .1) (c .if-held .ensures ∙ rw (a .planned4 .ensures, a .before .before .before .before .before .planned .ensures))
 
 returns-3 : tie.Need-returns-3
 unfolding map.plan
 returns-3 c =
     let a = c .before in
-    let p = a .before .before .before in
-    rw (a .before .enum-told3 .given .1)
-    (c .if-held2 .ensures ∙ held-plan (map.plan o.Replace (p .before .before .before .args .asked .0)) (a .planned5 .ensures) (λ e. p .before .before .planned .ensures) (held (p .before .before .before)))
+    rw (a .before .enum-told3 .given .1) (c .if-held2 .ensures ∙ rw (a .before .before .before .before .before .planned .ensures, a .planned5 .ensures))
 
 returns-4 : tie.Need-returns-4
 unfolding map.plan
-returns-4 c =
-    let s = c .before .before .before .before .before .before in
-    let v = s .args .asked .0 in
-    rw (c .before .enum-told4 .given .1) (c .if-same .ensures ∙ same-plan (map.plan o.ReplaceIfUnmodified v) v map.store refl (λ e. refl) (held s))
+returns-4 c = rw (c .before .enum-told4 .given .1) (c .if-same .ensures)
 
 returns-5 : tie.Need-returns-5
 unfolding map.plan
 returns-5 c =
     let a = c .before in
-    let p = a .before .before .before in
-    rw (a .before .enum-told5 .given .1)
-    (c .if-held3 .ensures ∙ held-plan (map.plan o.Remove (p .before .before .before .args .asked .0)) (p .planned3 .ensures) (λ e. a .planned6 .ensures) (held (p .before .before .before)))
+    rw (a .before .enum-told5 .given .1) (c .if-held3 .ensures ∙ rw (a .planned6 .ensures, a .before .before .before .planned3 .ensures))
 
 returns-6 : tie.Need-returns-6
 unfolding map.plan
-returns-6 c =
-    let s = c .before .before .before .before .before .before in
-    let v = s .args .asked .0 in
-    rw (c .before .enum-told6 .given .1) (c .if-same2 .ensures ∙ same-plan (map.plan o.RemoveIfUnmodified v) v map.drop refl (λ e. refl) (held s))
+returns-6 c = rw (c .before .enum-told6 .given .1) (c .if-same2 .ensures)
 
 returns-7 : tie.Need-returns-7
 unfolding map.plan
 returns-7 c =
     let p = c .before .before .before in
-    rw (c .before .enum-told7 .given .1)
-    (c .if-held4 .ensures ∙ held-plan (map.plan o.Get (p .before .before .before .args .asked .0)) (p .planned3 .ensures) (λ e. p .before .planned2 .ensures) (held (p .before .before .before)))
+    rw (c .before .enum-told7 .given .1) (c .if-held4 .ensures ∙ rw (p .before .planned2 .ensures, p .planned3 .ensures))
 
 returns-8 : tie.Need-returns-8
 unfolding map.plan
 returns-8 c =
     let p = c .before .before .before in
-    rw (c .before .enum-told8 .given .1)
-    (c .if-held5 .ensures ∙ held-plan (map.plan o.GetWithVersion (p .before .before .before .args .asked .0)) (p .planned3 .ensures) (λ e. p .before .planned2 .ensures) (held (p .before .before .before)))
+    rw (c .before .enum-told8 .given .1) (c .if-held5 .ensures ∙ rw (p .before .planned2 .ensures, p .planned3 .ensures))
 
 returns-9 : tie.Need-returns-9
 unfolding map.plan
 returns-9 c =
     let p = c .before .before .before in
-    rw (c .before .enum-told9 .given .1)
-    (c .if-held6 .ensures ∙ held-plan (map.plan o.ContainsKey (p .before .before .before .args .asked .0)) (p .planned3 .ensures) (λ e. p .before .planned2 .ensures) (held (p .before .before .before)))
+    rw (c .before .enum-told9 .given .1) (c .if-held6 .ensures ∙ rw (p .before .planned2 .ensures, p .planned3 .ensures))
 
 returns-10 : tie.Need-returns-10
 unfolding map.plan

@@ -2,19 +2,19 @@
 use mathlib.Core.Path.{_∙_}
 use borrow.Author.Tests.{not-true, not-false}
 use Rattle.server.proofs.StepLaws.{told-sound}
-use Rattle.server.proofs.LineLaws.{if-short, if-unsound, if-sound, line-written, unwritten}
+use Rattle.server.proofs.LineLaws.{if-short, if-unsound, if-sound, line-written, unserved}
 use borrow.Author.Needs.{needs}
 use Rattle.server.proofs.serve_line.Statement.{statement}
 use Rattle.server.proofs.serve_line.Tie as tie
 
 returns : tie.Need-returns
-returns c = if-short _ _ _ _ (c .if1 .taken) (unwritten 12 _ _)
+returns c = if-short _ _ _ _ (c .if1 .taken) (unserved _ _ _)
 
 returns-2 : tie.Need-returns-2
 returns-2 c =
     let w = c .before in
     if-unsound _ _ _ _ (w .before .before .if1 .left) (told-sound _ _ (w .is-table .ensures) ∙ not-true _ (c .if2 .taken))
-    (unwritten 13 _ _)
+    (unserved _ _ _)
 
 line-sound-requires : tie.Need-line-sound-requires
 line-sound-requires c κs =

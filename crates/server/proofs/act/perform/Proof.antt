@@ -1,14 +1,15 @@
 -- `server::act::perform` meets its contract: a step of the map, by what is planned. Assumes nothing.
 use mathlib.Core.Path.{_≡_, sym, ap, subst, _∙_}
-use Prim.Native.Nat.{_≤_}
+use Prim.Native.Nat.{ℕ, _≤_}
 use native.Mathlib.Omega.{arith}
 use Rattle.message.specs.Request.{Request, requestIn}
 use Rattle.message.proofs.Sizes.{request-small}
 use Rattle.map.specs.Step as map
 use Rattle.map.specs.State.{State}
 use Rattle.table.specs.Memory.{stateOf}
-use Rattle.plan.specs.Plan.{asPlan, asChange, heldEntry, refusalOf, Holds}
-use Rattle.plan.proofs.PlanLaws.{plan-held, none-same}
+use Rattle.plan.specs.Plan.{asPlan, asChange, asJudged, heldVersion, Holds}
+use Rattle.plan.specs.declared.Judged.the-variants as judged
+use Rattle.plan.proofs.PlanLaws.{version-held}
 use Rattle.server.specs.Act.{at, after, Planned, Agreed}
 use Rattle.server.proofs.StepLaws.{does-refused, does-answered, step-named, step-acts, act-refused, act-made, named, unnamed}
 use borrow.Author.Needs.{needs}
@@ -52,9 +53,13 @@ module _ (c : tie.After-refusal-of) where
   holds : Holds (start .args .t .now) (asked start .args .key) (found .held-in .result)
   holds = subst (λ k. Holds (start .args .t .now) k (found .held-in .result)) (found .before .key-in .ensures) (found .held-in .ensures)
 
+  same : heldVersion (found .held-in .result) ≡ map.versionOf (map.held (asked start) (state start))
+  unfolding map.held
+  same = version-held _ _ (found .held-in .result) holds
+
   planned : map.planned (asked start) (state start) ≡ asPlan (c .before .before .plan-of .result)
-  unfolding map.planned map.held
-  planned = sym (c .before .before .plan-of .ensures ∙ plan-held _ _ _ _ (found .held-in .result) holds)
+  unfolding map.planned
+  planned = sym (c .before .before .plan-of .ensures ∙ rw same)
 
   given : Planned (start .args .t .now) (asked start) (found .held-in .result) (c .before .before .plan-of .result .status)
   given = record { sound = start .pre .0 .sound; valid = start .pre .1; holds = holds; status = rw planned }
@@ -66,20 +71,15 @@ module _ (c : tie.After-refusal-of) where
       let n = i .before .name-in in
       step-acts _ _ _ (rw (← (n .ensures)) (unnamed (n .result .now) (i .if1 .left))) (rw planned)
 
-  same : map.isNone (heldEntry (found .held-in .result)) ≡ map.isNone (map.held (asked start) (state start))
-  unfolding map.held
-  same = none-same _ _ (found .held-in .result) holds
+  refused : (k : ℕ) → c .refusal-of .result ≡ judged.Refused k
+      → (map.step (at (start .args .second .0)) (asked start) (state start) ≡ map.refused k) × ((1 ≤ k) × (k ≤ 11))
+  refused k h =
+      let z = act-refused _ _ _ _ same change k (sym (c .refusal-of .ensures) ∙ ap asJudged h) in
+      (acts ∙ z .0, z .1)
 
-  refused : (c .refusal-of .result ≡ 0 → ⊥)
-      → (map.step (at (start .args .second .0)) (asked start) (state start) ≡ map.refused (c .refusal-of .result)) × (c .refusal-of .result ≤ 11)
-  refused h =
-      let e = c .refusal-of .ensures in
-      let z = act-refused _ _ _ _ same change (λ n. h (e ∙ n)) in
-      (acts ∙ z .0 ∙ ap map.refused (sym e), omega (arith, e, z .1))
-
-  agreed : c .refusal-of .result ≡ 0 → Agreed (start .args .t .now) (asked start) (start .args .second .0) (found .held-in .result) change
-  agreed z =
-      let e = sym (c .refusal-of .ensures) ∙ z in
+  agreed : c .refusal-of .result ≡ judged.Free → Agreed (start .args .t .now) (asked start) (start .args .second .0) (found .held-in .result) change
+  agreed h =
+      let e = sym (c .refusal-of .ensures) ∙ ap asJudged h in
       record {
         sound = start .pre .0 .sound;
         valid = start .pre .1;
@@ -91,28 +91,28 @@ module _ (c : tie.After-refusal-of) where
 
 refuse-requires-2 : tie.Need-refuse-requires-2
 refuse-requires-2 c κs =
-    let i = c .before in
-    let s = start (i .before) in
-    (s .pre .0 .room, (request-small (asked s) (s .pre .1) .id, (omega (arith, i .if2 .taken), refused (i .before) (i .if2 .taken) .1)))
+    let j = c .before .before in
+    let s = start (j .before .before) in
+    (s .pre .0 .room, (request-small (asked s) (s .pre .1) .id, refused (j .before .before) _ (j .j .given .1) .1))
+
+change-requires : tie.Need-change-requires
+change-requires c κs = let f = c .before .before .before .before .before .before in agreed (f .before .before) (f .enum-told .given .1)
 
 returns-2 : tie.Need-returns-2
 returns-2 c =
     let w = c .before .before in
-    let i = w .before .before in
-    does-refused (asked (start (i .before))) (refused (i .before) (i .if2 .taken) .0) (w .refuse2 .ensures)
-
-change-requires : tie.Need-change-requires
-change-requires c κs = let i = c .before .before .before .before .before .before in agreed (i .before) (i .if2 .left)
+    let j = w .before .before .before in
+    does-refused (asked (start (j .before .before))) (refused (j .before .before) _ (j .j .given .1) .0) (w .refuse2 .ensures)
 
 returns-3 : tie.Need-returns-3
 returns-3 c =
     let d = c .before .before in
     let w = d .before .before .before .before in
-    let i = w .before .before .before in
-    let s = start (i .before) in
+    let f = w .before .before .before in
+    let s = start (f .before .before) in
     let q = asked s in
-    does-answered _ q _ (s .pre .0 .sound) (s .pre .1) (s .pre .0 .second) (agreed (i .before) (i .if2 .left) .step)
-    (w .respond .ensures (q .name) (q .args .key) (q .args .value) (given (i .before))) (d .change .ensures)
+    does-answered _ q _ (s .pre .0 .sound) (s .pre .1) (s .pre .0 .second) (agreed (f .before .before) (f .enum-told .given .1) .step)
+    (w .respond .ensures (q .name) (q .args .key) (q .args .value) (given (f .before .before))) (d .change .ensures)
 
 pub perform-spec : {M : Type 1} → statement M
 perform-spec =
@@ -126,12 +126,14 @@ perform-spec =
     (λ c κs. search needs)
     (λ c κs. search needs)
     (λ c κs. search needs)
+    (λ c. search needs)
     refuse-requires-2
+    (λ c. search needs)
+    (λ c κs. search needs)
+    change-requires
     (λ c. search needs)
     (λ c. search needs)
     returns-2
-    (λ c κs. search needs)
-    change-requires
     (λ c. search needs)
     (λ c. search needs)
     returns-3)

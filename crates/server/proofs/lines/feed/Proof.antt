@@ -5,7 +5,7 @@ use Prim.Native.Nat.{_-_}
 use native.Mathlib.Omega.{arith}
 use lib.ListN.{length}
 use Rattle.server.proofs.LineLaws.{puts-long}
-use Rattle.server.proofs.TurnLaws.{Going, going-begin, taken-within, going-on, going-full, going-done, sound-long}
+use Rattle.server.proofs.TurnLaws.{Going, going-begin, taken-within, going-on, going-full, going-done, done-sound, sound-long}
 use borrow.Author.Needs.{needs}
 use Rattle.server.proofs.lines.feed.Statement.{statement}
 use Rattle.server.proofs.lines.feed.Tie as tie
@@ -43,7 +43,8 @@ turn-requires c κs =
 same-length : tie.Need-same-length Inv-loop μ-loop
 same-length c =
     let w = c .before .before .before .before .before .before in
-    sound-long _ _ (w .turn .ensures .sound) (begin (w .before .before .before .before .before) .pre .0)
+    let l = w .before .before .before .before .before in
+    sound-long _ _ (done-sound (l .loop .inv .sound) (w .turn .ensures)) (begin l .pre .0)
 
 same-length-2 : tie.Need-same-length-2 Inv-loop μ-loop
 same-length-2 c =

@@ -33,7 +33,7 @@ returns-2 c =
     let k = w .before .before .before in
     let r = k .before .before .before in
     let e = subst (Formed _ _) (k .enum-told .given .1) (r .read-form .ensures) in
-    gives-same (line-asks _ _ (e .form)) (w .put-text .ensures) (begin r .pre .0) refl
+    gives-same (line-asks _ _ (e .form)) (w .put-text .ensures)
 
 pub line-sound-spec : {M : Type 1} → statement M
 line-sound-spec =

@@ -6,7 +6,6 @@ use Rattle.table.specs.Memory.{stateOf}
 use Rattle.line.specs.Line.{onOutcome}
 use Rattle.stream.proofs.Sounds.{is-sound}
 use Rattle.server.specs.Act.{at}
-use Rattle.server.specs.Lines.{nextOf}
 use Rattle.server.proofs.LineLaws.{Shows, shows, gives}
 use borrow.Author.Needs.{needs}
 use Rattle.server.proofs.lines.send_reply.Statement.{statement}
@@ -23,7 +22,7 @@ begin c = c .before .before .before .before .before .before
 
 reply : (c : tie.After-perform) → let s = begin c in let q = requestIn (s .args .frame .now) (s .args .r) in let st = stateOf (s .args .t .now) in
     let o = step (at (s .args .second .0)) q st in
-    Shows (onOutcome q st o) (nextOf o) (c .perform .result .size) (c .perform .last .1 .1 .1 .1 .1 .0) (s .args .t .now) (c .perform .last .1 .1 .1 .0)
+    Shows (onOutcome q o) (c .perform .result .size) (c .perform .last .1 .1 .1 .1 .1 .0) (s .args .t .now) (c .perform .last .1 .1 .1 .0)
 reply c = let s = begin c in shows _ _ _ (s .pre .0) (s .pre .1 .1 .1) 0 _ (c .perform .ensures) (omega arith)
 
 put-reply-requires : tie.Need-put-reply-requires

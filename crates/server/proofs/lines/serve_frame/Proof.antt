@@ -29,7 +29,7 @@ returns c =
     let w = c .before .before in
     let i = w .before .before .before in
     let f = i .before .before in
-    gives-same (frame-cut _ _ (found f) (i .if1 .taken)) (w .put-text .ensures) (begin (f .before .before) .pre .0) refl
+    gives-same (frame-cut _ _ (found f) (i .if1 .taken)) (w .put-text .ensures)
 
 send-reply-requires : tie.Need-send-reply-requires
 send-reply-requires c κs =
@@ -58,13 +58,13 @@ returns-3 c =
     let k = w .before .before .before in
     let r = k .before .before in
     let s = begin r in
-    gives-same (frame-more _ _ (sym (r .read-request .ensures) ∙ ap (asRequest (s .args .frame .now)) (k .enum-told .given .1))) (w .put-text2 .ensures) (s .pre .0) refl
+    gives-same (frame-more _ _ (sym (r .read-request .ensures) ∙ ap (asRequest (s .args .frame .now)) (k .enum-told .given .1))) (w .put-text2 .ensures)
 
 returns-4 : tie.Need-returns-4
 returns-4 c =
     let w = c .before .before in
     let f = w .before .before .before in
-    gives-same (frame-refused _ _ (refusal f)) (w .send-error .ensures) (begin (f .before .before) .pre .0) refl
+    gives-same (frame-refused _ _ (refusal f)) (w .send-error .ensures)
 
 pub serve-frame-spec : {M : Type 1} → statement M
 serve-frame-spec =

@@ -18,20 +18,20 @@ returns : tie.Need-returns
 returns c =
     let d = c .before in
     let l = d .before .before in
-    quiet (turn-passed _ _ _ (l .line-end .ensures) (d .before .if1 .taken) (d .if2 .taken)) (begin l .pre .0) (omega arith) (c .counts .ensures)
+    quiet (turn-passed _ _ _ (l .line-end .ensures) (d .before .if1 .taken) (d .if2 .taken)) (omega arith) (c .counts .ensures)
 
 returns-2 : tie.Need-returns-2
 returns-2 c =
     let d = c .before in
     let l = d .before .before in
-    quiet (turn-passing _ _ _ (l .line-end .ensures) (d .before .if1 .taken) (d .if2 .left)) (begin l .pre .0) (omega arith) (c .counts2 .ensures)
+    quiet (turn-passing _ _ _ (l .line-end .ensures) (d .before .if1 .taken) (d .if2 .left)) (omega arith) (c .counts2 .ensures)
 
 returns-3 : tie.Need-returns-3
 returns-3 c =
     let i = c .before in
     let d = i .before in
     let l = d .before .before in
-    quiet (turn-more _ _ _ (l .line-end .ensures) (d .before .if1 .left) (sym (d .is-due .ensures) ∙ not-true _ (i .if3 .taken))) (begin l .pre .0) (omega arith) (c .counts3 .ensures)
+    quiet (turn-more _ _ _ (l .line-end .ensures) (d .before .if1 .left) (sym (d .is-due .ensures) ∙ not-true _ (i .if3 .taken))) (omega arith) (c .counts3 .ensures)
 
 -- a line that is due
 due : (c : tie.Else3) → let d = c .before in isDue (d .before .before .line-end .result) (length (begin (d .before .before) .args .s .now)) (begin (d .before .before) .args .last) ≡ true

@@ -1,4 +1,4 @@
--- `board::window::move_down` meets its contract. The loop's invariant: the bytes up to i are moved. Assumes nothing.
+-- `files::buffer::move_down` meets its contract. The loop's invariant: the bytes up to i are moved. Assumes nothing.
 use mathlib.Core.Path.{_≡_, refl}
 use Prim.Native.Nat.{_+_, _-_, _≤_}
 use native.Mathlib.Omega.{arith}
@@ -7,8 +7,8 @@ use Rattle.table.specs.Bytes.{part}
 use Rattle.table.specs.Write.{put}
 use Rattle.table.proofs.Parts.{put-none, shift-more}
 use borrow.Author.Needs.{needs}
-use Rattle.board.proofs.window.move_down.Statement.{statement}
-use Rattle.board.proofs.window.move_down.Tie as tie
+use Rattle.files.proofs.buffer.move_down.Statement.{statement}
+use Rattle.files.proofs.buffer.move_down.Tie as tie
 
 abbrev Inv-loop : tie.InvT-loop
 Inv-loop buf₀ from held n i₀ buf i = (i ≤ n) × (length buf ≡ length buf₀) × (buf ≡ put buf₀ 0 (part buf₀ from i))

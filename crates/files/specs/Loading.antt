@@ -1,0 +1,103 @@
+-- Loading a stored table through a buffer: what one call of `load_next` does, and what a whole run is.
+use mathlib.Core.Path.{_≡_}
+use mathlib.Core.Logic.{_⊎_}
+use mathlib.Core.Bool.{Bool, true, false}
+use mathlib.Core.List.{List, [], _∷_, _++_}
+use Prim.Native.Nat.{ℕ, _≤_, _<_}
+use lib.ListN.{length, drop}
+use Rattle.line.specs.Feed.{joined}
+use Rattle.stored.specs.File.{form1}
+use Rattle.stored.specs.Answer.{LoadsLines}
+use Rattle.stored.specs.declared.Loading.{Loading}
+use Rattle.files.specs.declared.Window.{Window}
+use Rattle.files.specs.declared.NextLoad.{NextLoad}
+use Rattle.files.specs.declared.NextLoad.the-variants as load
+use Rattle.files.specs.Window.{inside, Lies, Moves, arrived, Brings}
+
+-- the longest line of a stored table, its line end not counted: 339 bytes in digits
+abbrev pub longestStored : ℕ
+longestStored = 678
+
+-- the whole lines in the window are loaded, up to the first that is not good
+pub record Loads (buf t : List ℕ) (s : Window) (p : Loading) (t′ : List ℕ) : Type 0 where
+  pub lies : Lies buf s
+  pub long : longestStored < length buf
+  pub lines : LoadsLines form1 (s .carried) (inside buf s) t p t′
+
+-- "read into the buffer behind the bytes that s′ holds"
+pub record LoadsOn (buf t : List ℕ) (s s′ : Window) (buf′ t′ : List ℕ) : Type 0 where
+  pub piece : Loading
+  pub loads : Loads buf t s piece t′
+  pub good : piece .good ≡ true
+  pub moves : Moves buf s (piece .taken) (piece .begun) s′ buf′
+
+-- "done": the file's end is reached, its first line is loaded, and nothing is left behind the last one
+pub record LoadsAll (buf t : List ℕ) (s : Window) (buf′ t′ : List ℕ) : Type 0 where
+  pub piece : Loading
+  pub loads : Loads buf t s piece t′
+  pub ended : s .ended ≡ true
+  pub begun : piece .begun ≡ true
+  pub all : piece .taken ≡ length (inside buf s)
+  pub buffer : buf′ ≡ buf
+
+-- Why a file stores no table: a line is not good; the file ends without its first line, or within a line; or a line is too long.
+pub data Wrong (buf : List ℕ) (s : Window) (p : Loading) : Type 0 where
+  bad : p .good ≡ false → Wrong buf s p
+  cut-off : p .good ≡ true → s .ended ≡ true → (p .begun ≡ true → p .taken ≡ length (inside buf s) → ⊥) → Wrong buf s p
+  too-long : p .good ≡ true → longestStored < length (drop (p .taken) (inside buf s)) → Wrong buf s p
+
+pub record LoadsNone (buf t : List ℕ) (s : Window) (k : ℕ) (buf′ t′ : List ℕ) : Type 0 where
+  pub number : k ≡ 17
+  pub piece : Loading
+  pub loads : Loads buf t s piece t′
+  pub wrong : Wrong buf s piece
+  pub buffer : buf′ ≡ buf
+
+-- the buffer is too short for a line: nothing was changed
+pub record TooShort (buf t : List ℕ) (s : Window) (k : ℕ) (buf′ t′ : List ℕ) : Type 0 where
+  pub number : k ≡ 12
+  pub lies : Lies buf s
+  pub short : length buf ≤ longestStored
+  pub buffer : buf′ ≡ buf
+  pub table : t′ ≡ t
+
+pub record LoadStrays (buf t : List ℕ) (s : Window) (buf′ t′ : List ℕ) : Type 0 where
+  pub outside : Lies buf s → ⊥
+  pub buffer : buf′ ≡ buf
+  pub table : t′ ≡ t
+
+-- what `load_next` answers, and what it leaves of what it was lent
+abbrev pub LoadsNext : List ℕ → List ℕ → Window → NextLoad → List ℕ → List ℕ → Type 0
+LoadsNext buf t s (load.Read s′) buf′ t′ = LoadsOn buf t s s′ buf′ t′
+LoadsNext buf t s load.Done buf′ t′ = LoadsAll buf t s buf′ t′
+LoadsNext buf t s (load.Refused k) buf′ t′ = TooShort buf t s k buf′ t′ ⊎ LoadsNone buf t s k buf′ t′
+LoadsNext buf t s load.Astray buf′ t′ = LoadStrays buf t s buf′ t′
+
+-- A whole run, from a buffer, a table and a window on: the pieces of the file, whether it ends with 'done', and the memory at the end. Where it ends
+-- with 17, the pieces from there on are not read.
+pub data Loadings : List ℕ → List ℕ → Window → List (List ℕ) → Bool → List ℕ → Type 0 where
+  read : {buf t buf′ t′ p buf″ t″ : List ℕ} {s s′ : Window} {ps : List (List ℕ)} {r : Bool} → LoadsNext buf t s (load.Read s′) buf′ t′
+      → Brings buf′ (s′ .held) p buf″ → Loadings buf″ t′ (arrived s′ (length p)) ps r t″ → Loadings buf t s (p ∷ ps) r t″
+  done : {buf t buf′ t′ : List ℕ} {s : Window} → LoadsNext buf t s load.Done buf′ t′ → Loadings buf t s [] true t′
+  refused : {buf t buf′ t′ : List ℕ} {s : Window} {ps : List (List ℕ)} → LoadsNext buf t s (load.Refused 17) buf′ t′ → (s .ended ≡ true → ps ≡ [])
+      → Loadings buf t s ps false t′
+
+-- Between two calls of a run: whatever run goes on from here, the pieces read so far come before its own.
+pub record LoadAhead (buf t : List ℕ) (s : Window) (buf′ t′ : List ℕ) (s′ : Window) : Type 0 where
+  pub pieces : List (List ℕ)
+  pub on : {ps : List (List ℕ)} {r : Bool} {t″ : List ℕ} → Loadings buf′ t′ s′ ps r t″ → Loadings buf t s (pieces ++ ps) r t″
+
+-- what a call answers, and what it leaves
+pub record LoadAnswers (buf t : List ℕ) (s : Window) : Type 0 where
+  pub answer : NextLoad
+  pub buffer : List ℕ
+  pub table : List ℕ
+  pub does : LoadsNext buf t s answer buffer table
+
+-- a run that loads a file, to its end or to a refusal
+pub record LoadRan (file buf t : List ℕ) (s : Window) : Type 0 where
+  pub pieces : List (List ℕ)
+  pub all : joined pieces ≡ file
+  pub good : Bool
+  pub table : List ℕ
+  pub runs : Loadings buf t s pieces good table

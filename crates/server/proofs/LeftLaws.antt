@@ -1,0 +1,23 @@
+-- What a line leaves of a table, and what two lines leave one after the other. Assumes nothing.
+use mathlib.Core.Path.{_≡_, refl}
+use mathlib.Core.List.{List}
+use mathlib.Core.Bool.{true}
+use mathlib.Core.Option.{Option, none, some}
+use Prim.Native.Nat.{ℕ}
+use Rattle.map.specs.State.{State}
+use Rattle.line.specs.Line.{stateLeft, later}
+use Rattle.table.specs.Memory.{stateOf}
+use Rattle.stream.specs.Sound.{isSound}
+use Rattle.stream.specs.Stream.{Left}
+
+pub left-state : (t left : List ℕ) (o : Option State) → Left t o left → stateOf left ≡ stateLeft (stateOf t) o
+left-state t left none e = rw e
+left-state t left (some st) e = e .0
+
+pub left-sound : (t left : List ℕ) (o : Option State) → isSound t ≡ true → Left t o left → isSound left ≡ true
+left-sound t left none s e = rw e s
+left-sound t left (some st) s e = e .1
+
+pub left-both : (t u v : List ℕ) (a b : Option State) → Left t a u → Left u b v → Left t (later a b) v
+left-both t u v a none e f = rw f e
+left-both t u v a (some st) e f = f

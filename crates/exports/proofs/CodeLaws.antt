@@ -2,6 +2,7 @@
 use mathlib.Core.Path.{_≡_, refl, sym, ap, _∙_}
 use mathlib.Core.List.{List, [], _∷_}
 use mathlib.Core.Bool.{Bool, true, false, cond, _&&_}
+use mathlib.Core.Logic.{⊎-elim}
 use Prim.Native.Nat.{ℕ, _+_, _≤_, _<_, _^_}
 use native.Mathlib.Omega.{arith}
 use lib.ListN.{length, getD}
@@ -10,6 +11,10 @@ use borrow.Author.Tests.{le-leb, leb-true}
 use Rattle.wire.specs.Codec.{Read, whole, more, refused, Codec}
 use Rattle.wire.specs.Write.{Sent, written, kept, send}
 use Rattle.wire.proofs.Laws.{Laws, both}
+use Rattle.table.specs.Memory.{stateOf}
+use Rattle.table.proofs.Lists.{lt-or-ge}
+use Rattle.stored.specs.File.{form1, file}
+use Rattle.stored.specs.Answer.{sent, Storing}
 use Rattle.exports.specs.Codes.{readCode, sentCode, coded, tell, Tells}
 use Rattle.exports.specs.Messages.{isHead, HeadFits, isAnswer, AnswerFits}
 
@@ -26,6 +31,15 @@ answer-fits ns e =
     let b = both (leb (getD ns 1 0) 255) _ (a .1) in
     record { long = leb-true _ _ (a .0); op = leb-true _ _ (b .0); status = leb-true _ _ (b .1) }
 
+-- bytes that are sent are in the list lent
+file-fits : (bs old : List ℕ) → length old < 2 ^ 63 → sentCode (sent bs old .0) < 2 ^ 64
+unfolding sent
+file-fits bs old h = go (leb (length bs) (length old)) refl _
+  where
+    go : (u : Bool) → leb (length bs) (length old) ≡ u → (new : List ℕ) → sentCode (cond {A = Sent × List ℕ} u (written (length bs), new) (kept 12, old) .0) < 2 ^ 64
+    go true e new = omega (arith, leb-true (length bs) (length old) e)
+    go false e new = omega arith
+
 -- a message is written in the list lent, and so its length is at most that list's
 module _ {A : Type 0} (c : Codec A) (a : A) (old : List ℕ) (h : length old < 2 ^ 63) where
   send-fits : sentCode (send c a old .0) < 2 ^ 64
@@ -40,6 +54,18 @@ module _ {A : Type 0} (c : Codec A) (a : A) (old : List ℕ) (h : length old < 2
 
   pub sent-fits : (x : Sent) (new : List ℕ) → (x, new) ≡ send c a old → sentCode x < 2 ^ 64
   sent-fits x new e = rw (ap (λ (p : Sent × List ℕ). p .0) e) send-fits
+
+-- a stored file too: it is sent, or 13 where the table is not sound
+pub storing-fits : (t old new : List ℕ) (x : Sent) → length old < 2 ^ 63 → Storing form1 t old x new → sentCode x < 2 ^ 64
+storing-fits t old new x h s = ⊎-elim (λ l. l) (λ g. absurd (n g)) (lt-or-ge (sentCode x) (2 ^ 64))
+  where
+    n : 2 ^ 64 ≤ sentCode x → ⊥
+    n g =
+        omega (
+          arith,
+          ap (λ (p : Sent × List ℕ). sentCode (p .0))
+              (s .unsound (λ d. omega (arith, ap (λ (p : Sent × List ℕ). sentCode (p .0)) (s .sound d), file-fits (file form1 (stateOf t)) old h))),
+        )
 
 -- no numbers told leave the list as it was
 pub tell-none : (old : List ℕ) → old ≡ tell [] old

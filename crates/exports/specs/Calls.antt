@@ -3,8 +3,10 @@ use mathlib.Core.Path.{_≡_}
 use mathlib.Core.List.{List, [], _∷_}
 use mathlib.Core.Bool.{Bool, true, false}
 use Prim.Native.Nat.{ℕ}
-use Rattle.wire.specs.Write.{Sent, written, kept}
+use Rattle.wire.specs.Write.{Sent}
 use Rattle.map.specs.Step.{Context}
+use Rattle.table.specs.declared.Outcome.{Outcome}
+use Rattle.table.specs.declared.Outcome.the-variants as o
 use Rattle.stream.specs.Serve.{Verdict, served, more, refused}
 use Rattle.stream.specs.Stream.{Call, Done, Serves}
 use Rattle.stream.specs.Many.{Total, Streams}
@@ -12,8 +14,8 @@ use Rattle.server.specs.declared.Served.{Served}
 use Rattle.server.specs.declared.Served.the-variants as s
 use Rattle.server.specs.Lines.{ServesLines}
 use Rattle.stored.specs.File.{form1}
-use Rattle.stored.specs.Answer.{Storing}
-use Rattle.exports.specs.Codes.{tell}
+use Rattle.stored.specs.Answer.{Storing, Loaded}
+use Rattle.exports.specs.Codes.{sentCode, tell}
 
 abbrev pub verdictCode : Verdict → ℕ
 verdictCode served = 256
@@ -58,13 +60,18 @@ pub record TellsServed (last pass : Bool) (input t lent out t' old new : List �
   pub told : new ≡ servedTold answer old
   pub code : n ≡ servedCode answer
 
--- the length of a stored file, which is at least 19, or the refusal
-abbrev pub storedCode : Sent → ℕ
-storedCode (written n) = n
-storedCode (kept k) = k
-
 -- the stored file in a list lent, and its code
 pub record TellsStored (t old new : List ℕ) (n : ℕ) : Type 0 where
   pub sent : Sent
   pub storing : Storing form1 t old sent new
-  pub code : n ≡ storedCode sent
+  pub code : n ≡ sentCode sent
+
+abbrev pub outcomeCode : Outcome → ℕ
+outcomeCode o.Done = 256
+outcomeCode (o.Refused k) = k
+
+-- the table that a stored file was loaded to, and its code
+pub record TellsLoaded (file t t' : List ℕ) (n : ℕ) : Type 0 where
+  pub outcome : Outcome
+  pub loaded : Loaded form1 file t outcome t'
+  pub code : n ≡ outcomeCode outcome

@@ -1,5 +1,5 @@
 // The library for other languages: each function takes numbers and slices. One that answers a number answers 0 for more needed, a refusal's number,
-// or 256 and the count of the bytes read or written. A list of numbers that is lent too short is left as it was.
+// or 256 for done with the count of the bytes read or written. A list of numbers that is lent too short is left as it was.
 mod given;
 mod tell;
 
@@ -15,11 +15,9 @@ ghost use Rattle.reply_body.specs.Asked.{asked};
 ghost use Rattle.reply.specs.Answer.{asReply};
 ghost use Rattle.table.specs.Memory.{Sound};
 ghost use Rattle.table.specs.Found.{Tells as Says};
-ghost use Rattle.table.specs.Change.{Left, isSome, made};
+ghost use Rattle.table.specs.Change.{Left, outcomeOf, made};
 ghost use Rattle.server.specs.Answer.{callOf, contextOf};
-ghost use Rattle.stored.specs.File.{form1};
-ghost use Rattle.stored.specs.Answer.{Loaded};
-ghost use Rattle.exports.specs.Calls.{TellsDone, TellsTotal, TellsServed, TellsStored};
+ghost use Rattle.exports.specs.Calls.{TellsDone, TellsTotal, TellsServed, TellsStored, TellsLoaded, outcomeCode};
 ghost use Rattle.exports.specs.Codes.{coded, Tells};
 ghost use Rattle.exports.specs.Messages.{requestNumbers, replyNumbers, sendRequest, sendReply};
 
@@ -108,10 +106,10 @@ pub extern "C" fn fq_is_table(table: &[u8]) -> bool
 
 // Makes the memory a fresh table.
 #[no_mangle]
-pub extern "C" fn fq_make(table: &mut [u8]) -> bool
-    ensures { λ r. ⌜ (r ≡ isSome (made (now (table .entry)))) × Left (now (table .entry)) (made (now (table .entry))) (now (table .exit)) ⌝ }
+pub extern "C" fn fq_make(table: &mut [u8]) -> u64
+    ensures { λ r. ⌜ (r ≡ outcomeCode (outcomeOf 13 (made (now (table .entry))))) × Left (now (table .entry)) (made (now (table .entry))) (now (table .exit)) ⌝ }
 {
-    table::make(table)
+    tell::outcome(table::make(table))
 }
 
 // Serves the request at the front of the input: 256 is served. Numbers told: bytes taken, and bytes of the reply.
@@ -178,13 +176,13 @@ pub extern "C" fn fq_serve_lines(
 pub extern "C" fn fq_store(table: &[u8], out: &mut [u8]) -> u64
     ensures { λ r. ⌜ TellsStored (now (table .entry)) (now (out .entry)) (now (out .exit)) r ⌝ }
 {
-    tell::stored(stored::store(table, out))
+    tell::sent(stored::store(table, out))
 }
 
-// Loads a stored file; the table is built in the spare memory.
+// Loads a stored file.
 #[no_mangle]
-pub extern "C" fn fq_load(file: &[u8], spare: &mut [u8], table: &mut [u8]) -> bool
-    ensures { λ r. ⌜ Loaded form1 (now (file .entry)) (now (spare .entry)) (now (table .entry)) r (now (spare .exit)) (now (table .exit)) ⌝ }
+pub extern "C" fn fq_load(file: &[u8], table: &mut [u8]) -> u64
+    ensures { λ r. ⌜ TellsLoaded (now (file .entry)) (now (table .entry)) (now (table .exit)) r ⌝ }
 {
-    stored::load(file, spare, table)
+    tell::outcome(stored::load(file, table))
 }

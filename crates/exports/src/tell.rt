@@ -3,11 +3,12 @@ use message::Reply;
 use message::Request;
 use message::Sent;
 use server::Verdict;
+use table::Outcome;
 ghost use mathlib.Core.Path.{_≡_};
 ghost use Prim.Native.Nat.{_<_, _^_};
 ghost use Rattle.message.specs.Answer.{asSent};
 ghost use Rattle.server.specs.Answer.{asVerdict};
-ghost use Rattle.exports.specs.Calls.{verdictCode, bit as bitOf, storedCode};
+ghost use Rattle.exports.specs.Calls.{verdictCode, bit as bitOf, outcomeCode};
 ghost use Rattle.exports.specs.Codes.{sentCode, tell};
 ghost use Rattle.exports.specs.Messages.{wholeRequest, wholeReply};
 
@@ -106,11 +107,11 @@ pub(crate) fn bit(b: bool) -> u64
     0
 }
 
-pub(crate) fn stored(s: Sent) -> u64
-    ensures { λ r. ⌜ r ≡ storedCode (asSent s) ⌝ }
+pub(crate) fn outcome(o: Outcome) -> u64
+    ensures { λ r. ⌜ r ≡ outcomeCode o ⌝ }
 {
-    match s {
-        Sent::Written(n) => n as u64,
-        Sent::Refused(k) => k as u64,
+    match o {
+        Outcome::Done => 256,
+        Outcome::Refused(k) => k as u64,
     }
 }

@@ -16,6 +16,8 @@ use Rattle.field.specs.declared.NumberRead.{NumberRead}
 use Rattle.field.specs.declared.NumberRead.the-variants as n
 use Rattle.field.specs.declared.VersionRead.{VersionRead}
 use Rattle.field.specs.declared.VersionRead.the-variants as v
+use Rattle.field.specs.declared.SecondRead.{SecondRead}
+use Rattle.field.specs.declared.SecondRead.the-variants as d
 use Rattle.field.specs.declared.SpanRead.{SpanRead}
 use Rattle.field.specs.declared.SpanRead.the-variants as p
 
@@ -60,6 +62,10 @@ asNumber (n.Refused k) = refused k
 abbrev pub asVersion : VersionRead → Read ℕ
 asVersion (v.Whole x c) = whole (x .0) (c .at)
 asVersion v.More = more
+
+abbrev pub asSecond : SecondRead → Read ℕ
+asSecond (d.Whole x c) = whole (x .0) (c .at)
+asSecond d.More = more
 
 abbrev pub asSpan : List ℕ → SpanRead → Read (List ℕ)
 asSpan s (p.Whole x c) = whole (partOf s x) (c .at)

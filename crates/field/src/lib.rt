@@ -6,8 +6,8 @@ ghost use Prim.Native.Nat.{ℕ, _<_};
 ghost use mathlib.Core.List.{List};
 ghost use lib.ListN.{take, drop};
 ghost use Rattle.wire.specs.Codec.{readAt, byte};
-ghost use Rattle.wire.specs.Field.{entryVersion, limited};
-ghost use Rattle.field.specs.Answer.{asByte, asNumber, asVersion, asSpan, numberOf, mostOf, topOf, refusalOf, limitedText, partOf, stopped};
+ghost use Rattle.wire.specs.Field.{entryVersion, second, limited};
+ghost use Rattle.field.specs.Answer.{asByte, asNumber, asVersion, asSecond, asSpan, numberOf, mostOf, topOf, refusalOf, limitedText, partOf, stopped};
 
 // A place in the bytes that are read.
 pub struct Cursor {
@@ -46,6 +46,11 @@ pub enum NumberRead {
 
 pub enum VersionRead {
     Whole(EntryVersion, Cursor),
+    More,
+}
+
+pub enum SecondRead {
+    Whole(Second, Cursor),
     More,
 }
 
@@ -160,6 +165,17 @@ pub fn read_version(s: &[u8], c: Cursor) -> VersionRead
         n = n + 1;
     }
     VersionRead::Whole(EntryVersion(v), Cursor { at: j })
+}
+
+// The same eight bytes as those of a version.
+pub fn read_second(s: &[u8], c: Cursor) -> SecondRead
+    ensures { λ r. ⌜ asSecond r ≡ readAt second (now (s .entry)) (c .at) ⌝ }
+{
+    let r = read_version(s, c);
+    match r {
+        VersionRead::Whole(v, next) => SecondRead::Whole(Second(v.0), next),
+        VersionRead::More => SecondRead::More,
+    }
 }
 
 // A length of at most `lim`, and so many bytes.

@@ -2,12 +2,13 @@
 // behind them is answered. Else nothing is written, and the same place is answered.
 use crate::EntryVersion;
 use crate::Kind;
+use crate::Second;
 ghost use mathlib.Core.Path.{_≡_};
 ghost use Prim.Native.Nat.{_+_, _≤_, _<_};
 ghost use lib.ListN.{length};
 ghost use Rattle.wire.specs.Codec.{byte, raw};
 ghost use Rattle.wire.specs.Number.{vLong};
-ghost use Rattle.wire.specs.Field.{entryVersion, limited};
+ghost use Rattle.wire.specs.Field.{entryVersion, second, limited};
 ghost use Rattle.wire.specs.Write.{Wrote, Room, putAt};
 ghost use Rattle.field.specs.Answer.{numberOf, greatestOf, limitedText};
 
@@ -97,6 +98,13 @@ pub fn put_version(out: &mut [u8], at: usize, v: EntryVersion) -> usize
         x = x / 256;
     }
     at + 8
+}
+
+// The same eight bytes as those of a version.
+pub fn put_second(out: &mut [u8], at: usize, s: Second) -> usize
+    ensures { λ r. ⌜ (r, now (out .exit)) ≡ putAt second (s .0) at (now (out .entry)) ⌝ }
+{
+    put_version(out, at, EntryVersion(s.0))
 }
 
 // Bytes as they are.

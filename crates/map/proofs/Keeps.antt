@@ -15,10 +15,10 @@ use Rattle.message.proofs.RequestLaws.{pick}
 use Rattle.message.proofs.Sizes.{small}
 use Rattle.map.specs.State.{Entry, State, find, without}
 use Rattle.map.specs.Step.{mostKeys, lastVersion, Context, Change, keep, store, drop, empty, Answer, answered, noLifespan, deadline, entry, stored, dropped, emptied, isNone, names, held, full, planned, step}
-use Rattle.map.specs.Table.{Each, Sizes, OtherKey, OtherVersion, Issued, IsTable, Ascending}
+use Rattle.map.specs.Table.{Each, lastDeadline, Sizes, OtherKey, OtherVersion, Issued, IsTable, Ascending}
 use Rattle.map.proofs.Each.{each-map, each-without, pairs-without, each-left, each-add, pairs-add}
 use Rattle.map.proofs.Answered.{changed, did}
-use Rattle.map.proofs.Laws.{same-sym}
+use Rattle.map.proofs.Laws.{other-differ}
 
 -- no entry is above the last version
 pub below : (st : State) → IsTable st → Each (λ e. e .version ≤ st .last) (st .entries)
@@ -38,7 +38,7 @@ entry-sizes c r n v h =
     }
   where
     Within : ℕ → Type 0
-    Within n = n ≤ 8_589_934_590
+    Within n = n ≤ lastDeadline
 
 module _ (p : Entry → Bool) where
   fewer : (es : List Entry) → length (without p es) ≤ length es
@@ -95,7 +95,7 @@ module _ (c : Context) (r : Request) (st : State) (s : IsTable st) where
         record {
           few = omega (arith, length-append rest (x ∷ []), room (isNone (held r st)) refl h);
           keys = pairs-add x OtherKey rest (t .keys)
-              (each-map (λ e. names r e ≡ false) (λ e. OtherKey e x) (λ e q. same-sym (e .key) (r .args .key) q) rest
+              (each-map (λ e. names r e ≡ false) (λ e. OtherKey e x) (λ e q. other-differ (e .key) (r .args .key) q) rest
               (each-left (names r) (st .entries)));
           sizes = each-add x Sizes rest (t .sizes) fits;
           versions = pairs-add x OtherVersion rest (t .versions)

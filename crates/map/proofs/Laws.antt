@@ -30,12 +30,15 @@ unfolding sameList
 same-refl [] = refl
 same-refl (x ∷ a) = rw (eq-eqb x x refl) (same-refl a)
 
-pub same-sym : (a b : List ℕ) → sameList a b ≡ false → sameList b a ≡ false
-same-sym a b h = go (sameList b a) refl
+pub same-other : (a b : List ℕ) → (a ≡ b → ⊥) → sameList a b ≡ false
+same-other a b h = go (sameList a b) refl
   where
-    go : (t : Bool) → sameList b a ≡ t → t ≡ false
-    go true e = let i : sameList a b ≡ true = rw (same-true b a e) (same-refl a) in never (cc)
+    go : (t : Bool) → sameList a b ≡ t → t ≡ false
+    go true e = absurd (h (same-true a b e))
     go false e = refl
+
+pub other-differ : (a b : List ℕ) → sameList a b ≡ false → a ≡ b → ⊥
+other-differ a b e q = let y : sameList a b ≡ true = rw q (same-refl b) in never (cc)
 
 -- what is found behind a removal, and behind a write
 abbrev orElse : Option Entry → Option Entry → Option Entry

@@ -1,19 +1,18 @@
 -- A step does not look at the order of the entries. Assumes nothing.
-use mathlib.Core.Path.{_≡_, refl, ap, _∙_}
+use mathlib.Core.Path.{_≡_, refl, sym, ap, _∙_}
 use mathlib.Core.List.{List, [], _∷_, _++_}
 use mathlib.Core.Bool.{Bool, true, false, cond}
 use mathlib.Core.Option.{Option, some}
 use Prim.Native.Nat.{ℕ, suc}
 use lib.ListN.{length}
 use lib.Dec.{ltb}
-use Rattle.wire.proofs.Laws.{never}
 use Rattle.message.specs.Request.{Request, isEmpty}
-use Rattle.map.specs.State.{Entry, State, sameList, find, without, hasKey}
+use Rattle.map.specs.State.{Entry, State, find, without, hasKey}
 use Rattle.map.specs.Step.{Context, Change, keep, store, drop, empty, Answer, Outcome, lastVersion, stored, dropped, emptied, names, held, full, planned, answer, act, step}
 use Rattle.map.specs.Table.{Each, Pairs, OtherKey, IsTable}
 use Rattle.map.specs.Order as spec
 use Rattle.map.specs.Order.{Same, cons, swap, then, SameState, SameOutcome}
-use Rattle.map.proofs.Laws.{same-true, same-refl, same-sym}
+use Rattle.map.proofs.Laws.{same-true}
 
 pub same-self : (es : List Entry) → Same es es
 same-self [] = spec.none
@@ -64,7 +63,7 @@ module _ (p : Entry → Bool) where
   same-without (then s t) = then (same-without s) (same-without t)
 
 other-turn : (e f : Entry) → OtherKey e f → OtherKey f e
-other-turn e f h = same-sym (f .key) (e .key) h
+other-turn e f h q = h (sym q)
 
 -- one entry has a key, so it is found in any order
 module _ (k : List ℕ) where
@@ -73,9 +72,7 @@ module _ (k : List ℕ) where
   find-swap e f o h = go (hasKey k e) (hasKey k f) refl refl
     where
       go : (a b : Bool) → hasKey k e ≡ a → hasKey k f ≡ b → cond a (some e) (cond b (some f) o) ≡ cond b (some f) (cond a (some e) o)
-      go true true p q =
-          let i : sameList (f .key) (e .key) ≡ true = rw (same-true (e .key) k p, same-true (f .key) k q) (same-refl k) in
-          never (cc)
+      go true true p q = absurd (h (same-true (e .key) k p ∙ sym (same-true (f .key) k q)))
       go true false p q = refl
       go false true p q = refl
       go false false p q = refl

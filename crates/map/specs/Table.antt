@@ -1,12 +1,12 @@
 -- Which states a table can hold: "A table is one if ..", word for word.
 use mathlib.Core.Path.{_≡_}
 use mathlib.Core.List.{List, [], _∷_}
-use mathlib.Core.Bool.{true, false}
+use mathlib.Core.Bool.{true}
 use Prim.Native.Nat.{ℕ, _≤_, _<_}
 use lib.ListN.{length}
 use Rattle.wire.specs.Codec.{isBytes}
 use Rattle.message.specs.Request.{keyLimit, valueLimit}
-use Rattle.map.specs.State.{Entry, State, sameList}
+use Rattle.map.specs.State.{Entry, State}
 use Rattle.map.specs.Step.{mostKeys, lastVersion}
 
 -- each entry has the property
@@ -19,16 +19,20 @@ abbrev pub Pairs : (Entry → Entry → Type 0) → List Entry → Type 0
 Pairs p [] = Unit {0}
 Pairs p (e ∷ es) = Each (p e) es × Pairs p es
 
--- "sizes kept", and "every deadline at most 8,589,934,590"
+-- "every deadline at most 8,589,934,590"
+abbrev pub lastDeadline : ℕ
+lastDeadline = 8_589_934_590
+
+-- "sizes kept", and the deadline at most that
 pub record Sizes (e : Entry) : Type 0 where
   pub key : length (e .key) ≤ keyLimit
   pub value : length (e .value) ≤ valueLimit
   pub keyBytes : isBytes (e .key) ≡ true
   pub valueBytes : isBytes (e .value) ≡ true
-  pub deadline : e .deadline ≤ 8_589_934_590
+  pub deadline : e .deadline ≤ lastDeadline
 
 abbrev pub OtherKey : Entry → Entry → Type 0
-OtherKey e f = sameList (f .key) (e .key) ≡ false
+OtherKey e f = e .key ≡ f .key → ⊥
 
 abbrev pub OtherVersion : Entry → Entry → Type 0
 OtherVersion e f = e .version ≡ f .version → ⊥

@@ -20,6 +20,7 @@ use Rattle.map.specs.Table.{Each, IsTable}
 use Rattle.hex.specs.Hex.{toHex}
 use Rattle.table.specs.Memory.{size, entry, stateOf, Sound}
 use Rattle.table.specs.Change.{Changed, Left, isSome}
+use Rattle.table.specs.declared.Outcome.the-variants.{Done, Refused}
 use Rattle.table.proofs.Restores.{started-is, started-says, restored-says, restored-sound, each-restored, each-mid}
 use Rattle.table.proofs.HasForm.{started-sound}
 use Rattle.stored.specs.File.{Form, form1, entryLine, headLine, line, entryLines, file, Stores}
@@ -230,28 +231,13 @@ whole-loaded {B = B} {p = p} st g s l =
     (a .0, a .1, omega (arith, ap length (a .2), length-drop (p .taken) B, g .within))
 
 -- what `load` answers
-module _ {B spare spare′ : List ℕ} {p : Loading} (t : List ℕ) (h : length t ≡ size) (g : LoadsLines form1 false B spare p spare′) where
-  pub loaded-no : (p .good ≡ true → p .begun ≡ true → p .taken ≡ length B → ⊥) → Loaded form1 B spare t false spare′ t
-  loaded-no n =
-      record {
-        good = λ e. never (cc);
-        every = λ st s l _. let a = whole-loaded st g s l in absurd (n (a .1) (a .0) (a .2));
-        bad = λ _. refl;
-        long = refl;
-        used = λ _. (p, g);
-        unused = λ n. absurd (n h);
-      }
+module _ {B new u : List ℕ} {p : Loading} (t : List ℕ) (g : LoadsLines form1 false B new p u) where
+  pub loaded-no : length new ≡ size → (p .good ≡ true → p .begun ≡ true → p .taken ≡ length B → ⊥) → Loaded form1 B t (Refused 17) t
+  loaded-no l n = (refl, refl, λ st s _. let a = whole-loaded st g s l in n (a .1) (a .0) (a .2))
 
-  pub loaded-yes : (t′ : List ℕ) → p .begun ≡ true → p .taken ≡ length B → t′ ≡ take (length spare′) spare′ ++ drop (length spare′) t → Loaded form1 B spare t true spare′ t′
-  loaded-yes t′ b n e =
+  pub loaded-yes : (t′ : List ℕ) → length t ≡ size → p .begun ≡ true → p .taken ≡ length B → t′ ≡ take (length u) u ++ drop (length u) t → Loaded form1 B t Done t′
+  loaded-yes t′ h b n e =
       let x = whole-stores g b n in
-      let d : drop (length spare′) t ≡ [] = drop-of-length-le t {i = length spare′} (omega (arith, x .0 .form .long)) in
-      let q : t′ ≡ spare′ = e ∙ rw (take-length, d, append-nil) in
-      record {
-        good = λ _. rw q (x .0, x .1, refl);
-        every = λ st s l m. refl;
-        bad = λ e. never (cc);
-        long = ap length q ∙ x .0 .form .long ∙ sym h;
-        used = λ _. (p, g);
-        unused = λ n. absurd (n h);
-      }
+      let d : drop (length u) t ≡ [] = drop-of-length-le t {i = length u} (omega (arith, x .0 .form .long)) in
+      let q : t′ ≡ u = e ∙ rw (take-length, d, append-nil) in
+      rw q (h, x .0, x .1)

@@ -13,6 +13,8 @@ use Rattle.wire.specs.Write.{Sent, written, kept}
 use Rattle.map.specs.State.{Entry, State}
 use Rattle.table.specs.Memory.{size, entry, stateOf, Sound}
 use Rattle.table.specs.Change.{Changed, started, restored}
+use Rattle.table.specs.declared.Outcome.{Outcome}
+use Rattle.table.specs.declared.Outcome.the-variants.{Done, Refused}
 use Rattle.hex.specs.Hex.{fromHex}
 use Rattle.stored.specs.File.{Form, entryLine, headLine, line, file, Stores}
 use Rattle.stored.specs.declared.Loading.{Loading}
@@ -91,12 +93,8 @@ pub record LoadsLines (f : Form) (begun : Bool) (piece t : List ℕ) (r : Loadin
   pub loads : Loads f begun (take (r .taken) piece) t (r .begun) t′
   pub ends : Ends f (r .begun) (drop (r .taken) piece) t′ (r .good)
 
--- "loading only 17": it is refused unless the file stores a table and both memories have the right length. "Else 17 and the old table stays":
--- the table is built in spare memory, which has what loading the lines of the file leaves, or its own bytes where t has another length.
-pub record Loaded (f : Form) (bytes spare t : List ℕ) (r : Bool) (spare′ t′ : List ℕ) : Type 0 where
-  pub good : r ≡ true → Sound t′ × Stores f bytes (stateOf t′) × (spare′ ≡ t′)
-  pub every : (st : State) → Stores f bytes st → length spare ≡ size → length t ≡ size → r ≡ true
-  pub bad : r ≡ false → t′ ≡ t
-  pub long : length t′ ≡ length t
-  pub used : length t ≡ size → (p : Loading) × LoadsLines f false bytes spare p spare′
-  pub unused : (length t ≡ size → ⊥) → spare′ ≡ spare
+-- "loading only 17": done, the file stores the table that t holds then; refused, it stores none, or t has another length. "Else 17 and the old
+-- table stays."
+abbrev pub Loaded : Form → List ℕ → List ℕ → Outcome → List ℕ → Type 0
+Loaded f bytes t Done t′ = (length t ≡ size) × Sound t′ × Stores f bytes (stateOf t′)
+Loaded f bytes t (Refused k) t′ = (k ≡ 17) × (t′ ≡ t) × ((st : State) → Stores f bytes st → length t ≡ size → ⊥)

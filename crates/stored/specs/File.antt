@@ -5,7 +5,7 @@ use mathlib.Core.List.{List, [], _∷_, _++_}
 use Prim.Native.Nat.{ℕ}
 use lib.Dec.{eqb}
 use Rattle.wire.specs.Codec.{Codec, byte, guard, seq, as-type, all}
-use Rattle.wire.specs.Field.{bigEndian, limited}
+use Rattle.wire.specs.Field.{entryVersion, second, limited}
 use Rattle.message.specs.Request.{keyLimit, valueLimit}
 use Rattle.map.specs.State.{Entry, State}
 use Rattle.map.specs.Table.{IsTable, Ascending}
@@ -30,11 +30,11 @@ fromEntry e = (e .version, (e .deadline, (e .key, e .value)))
 
 -- the bytes of an entry's line
 unfoldable pub entryLine : Form → Codec Entry
-entryLine form1 = as-type all toEntry fromEntry (seq (bigEndian 8) λ _. seq (bigEndian 8) λ _. seq (limited keyLimit) λ _. limited valueLimit)
+entryLine form1 = as-type all toEntry fromEntry (seq entryVersion λ _. seq second λ _. seq (limited keyLimit) λ _. limited valueLimit)
 
 -- the bytes of the first line
 unfoldable pub headLine : Form → Codec ℕ
-headLine f = as-type all (λ p. p .1) (λ n. (formByte f, n)) (seq (guard (λ b. eqb b (formByte f)) 17 byte) (λ _. bigEndian 8))
+headLine f = as-type all (λ p. p .1) (λ n. (formByte f, n)) (seq (guard (λ b. eqb b (formByte f)) 17 byte) (λ _. entryVersion))
 
 -- a line of digits with its line end: "In all files a line end is the one byte 0A. Every line of a stored file has one."
 unfoldable pub line : List ℕ → List ℕ

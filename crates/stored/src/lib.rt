@@ -3,14 +3,15 @@ mod lines;
 
 use hex::Decoded;
 use message::Sent;
+use table::Outcome;
 use table::Table;
 ghost use mathlib.Core.Path.{_≡_};
 ghost use Prim.Native.Nat.{_≤_};
 ghost use lib.ListN.{length};
 ghost use lib.Seq.{sets};
 ghost use Rattle.message.specs.Answer.{asSent};
-ghost use Rattle.table.specs.Memory.{stateOf};
-ghost use Rattle.table.specs.Change.{Left, isSome};
+ghost use Rattle.table.specs.Memory.{size, stateOf};
+ghost use Rattle.table.specs.Change.{Left, isSome, outcomeOf};
 ghost use Rattle.stored.specs.File.{form1, file};
 ghost use Rattle.stored.specs.Answer.{lineAt, laid, Storing, headLoaded, lineLoaded, loaded, LoadsLines, Loaded};
 
@@ -107,18 +108,19 @@ fn load_next(line: &[u8], t: &mut [u8], begun: bool) -> bool
     lines::start(&room[0..n], t)
 }
 
-// Starts the table in t with the first line of a stored file, without its line end. Any other line leaves t as it was.
-pub fn load_head(line: &[u8], t: &mut [u8]) -> bool
-    ensures { λ r. ⌜ (r ≡ isSome (headLoaded form1 (now (line .entry)) (now (t .entry)))) × Left (now (t .entry)) (headLoaded form1 (now (line .entry)) (now (t .entry))) (now (t .exit)) ⌝ }
+// Starts the table in t with the first line of a stored file, without its line end. Any other line is 17, and leaves t as it was.
+pub fn load_head(line: &[u8], t: &mut [u8]) -> Outcome
+    ensures { λ r. ⌜ (r ≡ outcomeOf 17 (headLoaded form1 (now (line .entry)) (now (t .entry)))) × Left (now (t .entry)) (headLoaded form1 (now (line .entry)) (now (t .entry))) (now (t .exit)) ⌝ }
 {
-    load_next(line, t, false)
+    table::done_or(load_next(line, t, false), 17)
 }
 
-// Adds the entry of a line, without its line end, to the table in t. A line of none, or of one that can't stand there, leaves t as it was.
-pub fn load_line(line: &[u8], t: &mut [u8]) -> bool
-    ensures { λ r. ⌜ (r ≡ isSome (lineLoaded form1 (now (line .entry)) (now (t .entry)))) × Left (now (t .entry)) (lineLoaded form1 (now (line .entry)) (now (t .entry))) (now (t .exit)) ⌝ }
+// Adds the entry of a line, without its line end, to the table in t. A line of none, or of one that can't stand there, is 17, and leaves t as it
+// was.
+pub fn load_line(line: &[u8], t: &mut [u8]) -> Outcome
+    ensures { λ r. ⌜ (r ≡ outcomeOf 17 (lineLoaded form1 (now (line .entry)) (now (t .entry)))) × Left (now (t .entry)) (lineLoaded form1 (now (line .entry)) (now (t .entry))) (now (t .exit)) ⌝ }
 {
-    load_next(line, t, true)
+    table::done_or(load_next(line, t, true), 17)
 }
 
 // Loads the whole lines of a piece of a stored file into the table in t, up to the first that is not good. begun: the first line of the file
@@ -149,17 +151,25 @@ pub fn load_lines(piece: &[u8], t: &mut [u8], begun: bool) -> Loading
     }
 }
 
-// Loads a stored file: the table is built in spare memory, and takes the place of t only when the last line is good.
-pub fn load(file: &[u8], spare: &mut [u8], t: &mut [u8]) -> bool
-    ensures { λ r. ⌜ Loaded form1 (now (file .entry)) (now (spare .entry)) (now (t .entry)) r (now (spare .exit)) (now (t .exit)) ⌝ }
+// Memory of a table.
+fn memory() -> [u8; 45072]
+    ensures { λ r. ⌜ size ≡ length r ⌝ }
+{
+    [0; 45072]
+}
+
+// Loads a stored file: the table is built in memory of its own, and takes the place of t only when the last line is good. Else it is 17.
+pub fn load(file: &[u8], t: &mut [u8]) -> Outcome
+    ensures { λ r. ⌜ Loaded form1 (now (file .entry)) (now (t .entry)) r (now (t .exit)) ⌝ }
 {
     if t.len() != Table::SIZE {
-        return false;
+        return Outcome::Refused(17);
     }
-    let p = load_lines(file, spare, false);
+    let mut built = memory();
+    let p = load_lines(file, &mut built, false);
     if !p.good || !p.begun || p.taken != file.len() {
-        return false;
+        return Outcome::Refused(17);
     }
-    bytes::copy(spare, t);
-    true
+    bytes::copy(&built, t);
+    Outcome::Done
 }

@@ -2,8 +2,7 @@
 use crate::Line;
 use field::ByteRead;
 use field::Cursor;
-use field::EntryVersion;
-use field::Second;
+use field::SecondRead;
 use field::SpanRead;
 use field::VersionRead;
 use field::put;
@@ -39,9 +38,8 @@ pub(crate) fn write_entry(t: &[u8], i: usize, out: &mut [u8]) -> usize
     requires { ⌜ length (now out) ≡ 339 ⌝ }
     ensures { λ r. ⌜ Wrote (entryLine form1) (entryAt (now (t .entry)) i) (now (out .entry)) (now (out .exit)) 0 r ⌝ }
 {
-    let deadline = table::deadline_at(t, i).0;
     let a = put::put_version(out, 0, table::version_at(t, i));
-    let b = put::put_version(out, a, EntryVersion(deadline));
+    let b = put::put_second(out, a, table::deadline_at(t, i));
     let c = put::put_limited(out, b, table::key_at(t, i), Request::KEY);
     put::put_limited(out, c, table::value_at(t, i), Request::VALUE)
 }
@@ -99,8 +97,8 @@ pub(crate) fn restore(s: &[u8], t: &mut [u8]) -> bool
     let VersionRead::Whole(version, at1) = a else {
         return false;
     };
-    let b = field::read_version(s, at1);
-    let VersionRead::Whole(deadline, at2) = b else {
+    let b = field::read_second(s, at1);
+    let SecondRead::Whole(deadline, at2) = b else {
         return false;
     };
     let c = field::read_limited(s, at2, Request::KEY);
@@ -119,6 +117,6 @@ pub(crate) fn restore(s: &[u8], t: &mut [u8]) -> bool
         field::part(s, key),
         field::part(s, value),
         version,
-        Second(deadline.0),
+        deadline,
     )
 }

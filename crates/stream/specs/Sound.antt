@@ -13,7 +13,8 @@ use Rattle.wire.specs.Codec.{isBytes}
 use Rattle.wire.proofs.Laws.{never}
 use Rattle.map.specs.State.{Entry, State, sameList}
 use Rattle.map.specs.Step.{mostKeys, lastVersion}
-use Rattle.map.specs.Table.{Each, Pairs, Sizes, OtherKey, OtherVersion, Issued, IsTable, Ascending}
+use Rattle.map.specs.Table.{Each, Pairs, lastDeadline, Sizes, OtherKey, OtherVersion, Issued, IsTable, Ascending}
+use Rattle.map.proofs.Laws.{same-true, other-differ}
 use Rattle.table.specs.Bytes.{be8}
 use Rattle.table.specs.Memory.{size, rowAt, countOf, stateOf, Form, Sound}
 
@@ -43,6 +44,13 @@ decEq a b = go (eqb a b) refl
     go true e = yes (eqb-true a b e)
     go false e = no (eqb-false a b e)
 
+decKey : (a b : List ℕ) → Dec (a ≡ b)
+decKey a b = go (sameList a b) refl
+  where
+    go : (t : Bool) → sameList a b ≡ t → Dec (a ≡ b)
+    go true e = yes (same-true a b e)
+    go false e = no (other-differ a b e)
+
 -- a property of each number below n
 decBelow : (P : ℕ → Type 0) → ((i : ℕ) → Dec (P i)) → (n : ℕ) → Dec ((i : ℕ) → i < n → P i)
 decBelow P d zero = yes (λ i h. absurd (omega arith))
@@ -67,13 +75,13 @@ decSizes e =
     decMap (λ z. record { key = z .0; value = z .1 .0; keyBytes = z .1 .1 .0; valueBytes = z .1 .1 .1 .0; deadline = z .1 .1 .1 .1 })
     (λ s. (s .key, (s .value, (s .keyBytes, (s .valueBytes, s .deadline)))))
     (decBoth (decLe (length (e .key)) keyLimit) (decBoth (decLe (length (e .value)) valueLimit)
-    (decBoth (decBool (isBytes (e .key)) true) (decBoth (decBool (isBytes (e .value)) true) (decLe (e .deadline) 8_589_934_590)))))
+    (decBoth (decBool (isBytes (e .key)) true) (decBoth (decBool (isBytes (e .value)) true) (decLe (e .deadline) lastDeadline)))))
 
 decTable : (st : State) → Dec (IsTable st)
 decTable st =
     decMap (λ z. record { few = z .0; keys = z .1 .0; sizes = z .1 .1 .0; versions = z .1 .1 .1 .0; issued = z .1 .1 .1 .1 .0; last = z .1 .1 .1 .1 .1 })
     (λ s. (s .few, (s .keys, (s .sizes, (s .versions, (s .issued, s .last))))))
-    (decBoth (decLe (length (st .entries)) mostKeys) (decBoth (decPairs (λ e f. decBool (sameList (f .key) (e .key)) false) (st .entries))
+    (decBoth (decLe (length (st .entries)) mostKeys) (decBoth (decPairs (λ e f. decNot (decKey (e .key) (f .key))) (st .entries))
     (decBoth (decEach decSizes (st .entries)) (decBoth (decPairs (λ e f. decNot (decEq (e .version) (f .version))) (st .entries))
     (decBoth (decEach (λ e. decBoth (decLe 1 (e .version)) (decLe (e .version) (st .last))) (st .entries)) (decLe (st .last) lastVersion))))))
 

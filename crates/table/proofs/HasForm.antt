@@ -3,17 +3,17 @@
 use mathlib.Core.Path.{_≡_, refl, sym, ap, _∙_, subst}
 use mathlib.Core.List.{List, [], _∷_, _++_, append-nil}
 use mathlib.Core.Logic.{⊎-elim}
-use mathlib.Core.Option.{Option, none, some}
-use mathlib.Core.Bool.{Bool, true, cond}
+use mathlib.Core.Option.{Option}
+use mathlib.Core.Bool.{true}
 use Prim.Native.Nat.{ℕ, _+_, _%_, _≤_, _<_, _^_, min}
 use native.Mathlib.Omega.{arith}
 use lib.ListN.{length, getD, List·getD-eq-default}
 use lib.Seq.{append-snoc}
 use lib.Dec.{ltb}
-use borrow.Author.Tests.{eq-eqb, lt-ltb}
+use borrow.Author.Tests.{lt-ltb}
 use Rattle.wire.specs.Codec.{Bytes, isBytes}
 use Rattle.wire.proofs.Laws.{bytes-are}
-use Rattle.map.specs.State.{Entry, State, fresh}
+use Rattle.map.specs.State.{Entry, State}
 use Rattle.map.specs.Step.{mostKeys, lastVersion}
 use Rattle.map.specs.Table.{Each, Sizes, IsTable, Ascending}
 use Rattle.table.specs.Bytes.{be8, upto}
@@ -188,14 +188,11 @@ bare-sound u x h l e =
       table = subst IsTable (sym e) (record { few = omega arith; keys = tt; sizes = tt; versions = tt; issued = tt; last = l });
     }
 
-pub made-sound : (t u : List ℕ) → length t ≡ size → Left t (made t) u → Sound u
-unfolding made
-made-sound t u h l =
-    let c : Changed t u fresh = subst (λ (b : Bool). Left t (cond b (some fresh) none) u) (eq-eqb (length t) size h) l in
-    bare-sound u 0 (c .long ∙ h) (omega arith) (c .state)
-
 pub started-sound : (x : ℕ) (t u : List ℕ) → length t ≡ size → x ≤ lastVersion → Left t (started x t) u
     → Sound u × (stateOf u ≡ record { entries = []; last = x })
 started-sound x t u h l d =
     let c : Changed t u (record { entries = []; last = x }) = subst (λ (o : Option State). Left t o u) (started-is x t h l) d in
     (bare-sound u x (c .long ∙ h) l (c .state), c .state)
+
+pub made-sound : (t u : List ℕ) → length t ≡ size → Left t (made t) u → Sound u
+made-sound t u h l = started-sound 0 t u h (omega arith) l .0

@@ -1,29 +1,18 @@
--- The test of two keys, and what a search for a key says of the map's own search. Assumes nothing.
+-- What a search for a key says of the map's own search. Assumes nothing.
 use mathlib.Core.Path.{_≡_, refl, sym, ap, _∙_}
-use mathlib.Core.Bool.{Bool, true, false}
+use mathlib.Core.Bool.{true}
 use mathlib.Core.Option.{none, some}
 use mathlib.Core.List.{List, [], _∷_, _++_}
 use Prim.Native.Nat.{ℕ, zero, suc, _<_}
 use native.Mathlib.Omega.{arith}
 use lib.ListN.{length, take, drop, getD}
-use Rattle.wire.proofs.Laws.{never}
 use Rattle.map.specs.State.{Entry, sameList, find, without, hasKey}
 use Rattle.map.specs.Table.{Each, Pairs, OtherKey}
-use Rattle.map.proofs.Laws.{same-true, same-refl}
+use Rattle.map.proofs.Laws.{same-refl, same-other}
 use Rattle.table.specs.Memory.{entry, stateOf}
 use Rattle.table.specs.Found.{entryAt, FoundIs}
 use Rattle.table.proofs.Order.{each-at}
 use Rattle.table.specs.declared.Found.the-variants.{At, Absent}
-
-pub same-other : (xs ys : List ℕ) → (xs ≡ ys → ⊥) → sameList xs ys ≡ false
-same-other xs ys h = go (sameList xs ys) refl
-  where
-    go : (b : Bool) → sameList xs ys ≡ b → b ≡ false
-    go true e = absurd (h (same-true xs ys e))
-    go false e = refl
-
-pub other-differ : (xs ys : List ℕ) → sameList xs ys ≡ false → xs ≡ ys → ⊥
-other-differ xs ys e q = let y : sameList xs ys ≡ true = ap (sameList xs) (sym q) ∙ same-refl xs in never (cc)
 
 -- by places: what the first entry with the key, and no entry with it, make of the map's search
 module _ (k : List ℕ) (d : Entry) where
@@ -48,8 +37,7 @@ module _ (k : List ℕ) (d : Entry) where
   unfolding without
   other-each x [] e h = refl
   other-each x (y ∷ es) e h =
-      let q : sameList (y .key) k ≡ false = ap (sameList (y .key)) (sym e) ∙ h .0 in
-      rw (q, other-each x es e (h .1))
+      rw (same-other (y .key) k (λ q. h .0 (e ∙ sym q)), other-each x es e (h .1))
 
   at-without : (es : List Entry) (i : ℕ) → i < length es → getD es i d .key ≡ k → Pairs OtherKey es → take i es ++ drop (suc i) es ≡ without (hasKey k) es
   unfolding without
@@ -58,7 +46,7 @@ module _ (k : List ℕ) (d : Entry) where
       let y : sameList (x .key) k ≡ true = ap (sameList (x .key)) (sym e) ∙ same-refl (x .key) in
       rw (y, other-each x es e (p .0))
   at-without (x ∷ es) (suc i) l e p =
-      let f : x .key ≡ k → ⊥ = λ q. other-differ _ _ (each-at (OtherKey x) es d i (p .0) (omega arith)) (e ∙ sym q) in
+      let f : x .key ≡ k → ⊥ = λ q. each-at (OtherKey x) es d i (p .0) (omega arith) (q ∙ sym e) in
       rw (same-other (x .key) k f) (ap (λ (r : List Entry). x ∷ r) (at-without es i (omega arith) e (p .1)))
 
 module _ (t k : List ℕ) where

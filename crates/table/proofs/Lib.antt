@@ -9,4 +9,3 @@ pub mod SoundLaws
 pub mod Behind
 pub mod Restores
 pub mod HasForm
-pub mod Kept

@@ -12,14 +12,14 @@ use borrow.Author.Tests.{eqb-true, eq-eqb, ne-eqb, leb-true, le-leb, lt-leb, ltb
 use Rattle.wire.specs.Codec.{Bytes}
 use Rattle.wire.proofs.Laws.{never, both, and, and-false, is-bytes}
 use Rattle.message.specs.Request.{keyLimit, valueLimit}
-use Rattle.map.specs.State.{Entry, State, sameList, find, hasKey, fresh}
+use Rattle.map.specs.State.{Entry, State, find, hasKey}
 use Rattle.map.specs.Step.{mostKeys, lastVersion, isNone}
-use Rattle.map.specs.Table.{Each, Pairs, Sizes, OtherKey, OtherVersion, Issued, IsTable, Ascending}
-use Rattle.map.proofs.Laws.{same-sym}
+use Rattle.map.specs.Table.{Each, Pairs, lastDeadline, Sizes, OtherKey, OtherVersion, Issued, IsTable, Ascending}
+use Rattle.map.proofs.Laws.{same-other, other-differ}
 use Rattle.table.specs.Memory.{size, rowAt, entry, countOf, stateOf, Sound}
 use Rattle.table.specs.Bytes.{be8}
 use Rattle.table.specs.Found.{entryAt}
-use Rattle.table.specs.Change.{Changed, Left, made, started, newest, fitting, next, restored}
+use Rattle.table.specs.Change.{Changed, Left, started, newest, fitting, next, restored}
 use Rattle.table.specs.Check.{fitsRow, hasRoom}
 use Rattle.table.specs.Write.{extended}
 use Rattle.map.proofs.Each.{each-map, each-add, pairs-add}
@@ -63,14 +63,6 @@ module _ (x : ℕ) (t : List ℕ) where
   unfolding started
   started-large l = left t bare may-start (rw (lt-leb x lastVersion l, and-false))
 
-pub started-made : (t : List ℕ) → started 0 t ≡ made t
-unfolding started made
-started-made t = go (eqb (length t) size)
-  where
-    go : (b : Bool) → cond (b && leb 0 lastVersion) (some fresh) none ≡ cond b (some fresh) none
-    go true = refl
-    go false = refl
-
 -- the version of the last row
 module _ (t : List ℕ) (h : length t ≡ size) where
   pub newest-none : countOf t ≡ 0 → 0 ≡ newest (stateOf t .entries)
@@ -89,20 +81,20 @@ module _ (t : List ℕ) (h : length t ≡ size) where
 -- the tests of `restore`
 module _ (k v : List ℕ) (d : ℕ) where
   -- the size first, then the deadline
-  tests : fitting k v d ≡ (fitsRow k v && leb d 8_589_934_590)
+  tests : fitting k v d ≡ (fitsRow k v && leb d lastDeadline)
   unfolding fitting fitsRow
-  tests = sym (and-assoc (leb (length k) keyLimit) (leb (length v) valueLimit) (leb d 8_589_934_590))
+  tests = sym (and-assoc (leb (length k) keyLimit) (leb (length v) valueLimit) (leb d lastDeadline))
 
   pub unfit : fitsRow k v ≡ false → false ≡ fitting k v d
   unfit e = sym (tests ∙ rw e)
 
-  pub fit-rest : fitsRow k v ≡ true → leb d 8_589_934_590 ≡ fitting k v d
+  pub fit-rest : fitsRow k v ≡ true → leb d lastDeadline ≡ fitting k v d
   fit-rest e = sym (tests ∙ rw e)
 
   pub record Fits : Type 0 where
     pub key : length k ≤ keyLimit
     pub value : length v ≤ valueLimit
-    pub deadline : d ≤ 8_589_934_590
+    pub deadline : d ≤ lastDeadline
 
   pub fits : fitting k v d ≡ true → Fits
   unfolding fitting
@@ -201,20 +193,20 @@ module _ (k v : List ℕ) (n d : ℕ) (t : List ℕ) where
       record { fits = fits k v d (b .0); follows = follows k n t (b .1); same = a .1 }
 
 -- entries that lack a key
-lacks : (k : List ℕ) (es : List Entry) → find (hasKey k) es ≡ none → Each (λ e. sameList k (e .key) ≡ false) es
+lacks : (k : List ℕ) (es : List Entry) → find (hasKey k) es ≡ none → Each (λ e. e .key ≡ k → ⊥) es
 unfolding find
 lacks k [] h = tt
 lacks k (e ∷ es) h = go (hasKey k e) refl h (lacks k es)
   where
     go : (b : Bool) → hasKey k e ≡ b → cond b (some e) (find (hasKey k) es) ≡ none
-        → (find (hasKey k) es ≡ none → Each (λ e. sameList k (e .key) ≡ false) es) → Each (λ e. sameList k (e .key) ≡ false) (e ∷ es)
+        → (find (hasKey k) es ≡ none → Each (λ e. e .key ≡ k → ⊥) es) → Each (λ e. e .key ≡ k → ⊥) (e ∷ es)
     go true p q f = never (cc)
-    go false p q f = (same-sym (e .key) k p, f q)
+    go false p q f = (other-differ (e .key) k p, f q)
 
-lacking : (k : List ℕ) (es : List Entry) → Each (λ e. sameList k (e .key) ≡ false) es → find (hasKey k) es ≡ none
+lacking : (k : List ℕ) (es : List Entry) → Each (λ e. e .key ≡ k → ⊥) es → find (hasKey k) es ≡ none
 unfolding find
 lacking k [] h = refl
-lacking k (e ∷ es) h = rw (same-sym k (e .key) (h .0)) (lacking k es (h .1))
+lacking k (e ∷ es) h = rw (same-other (e .key) k (h .0)) (lacking k es (h .1))
 
 -- what `restore` leaves is a table
 pub restored-table : (k v : List ℕ) (n d : ℕ) (t : List ℕ) (s : State) → Sound t → Bytes k → Bytes v → restored k v n d t ≡ some s

@@ -18,7 +18,6 @@ use Rattle.table.specs.Check.{Within, AllWithin, Rising, Differ}
 use Rattle.table.proofs.Lists.{lt-or-ge}
 use Rattle.table.proofs.Order.{each-at, each-all, pairs-at, pairs-all}
 use Rattle.table.proofs.Parts.{length-part, bytes-part}
-use Rattle.table.proofs.Keys.{same-other, other-differ}
 use Rattle.table.proofs.RowLaws.{entry-is, length-entries, last-is, count-most}
 
 -- a version more, above those passed
@@ -102,7 +101,7 @@ module _ (t : List ℕ) (h : length t ≡ size) (counted : be8 t 0 ≤ mostKeys)
         table = record {
           few = omega (arith, length-entries t h, count-most t);
           keys = by-pairs OtherKey
-              (λ i j l m. same-other _ _ (λ e. d i (omega arith) j m (omega arith) (sym (key-is t h j m) ∙ e ∙ key-is t h i (omega arith))));
+              (λ i j l m e. d i (omega arith) j m (omega arith) (sym (key-is t h j m) ∙ sym e ∙ key-is t h i (omega arith)));
           sizes = by-each Sizes (λ i l. sizes-are t h i l b (all i l));
           versions = by-pairs OtherVersion
               (λ i j l m e. omega (arith, version-is t h i (omega arith), version-is t h j m, climbs t _ _ r i j l m));
@@ -146,7 +145,7 @@ module _ (t : List ℕ) (s : Sound t) where
   pub sound-differ : Differ t
   sound-differ i l j m g e =
       let h = s .form .long in
-      other-differ _ _ (two OtherKey (s .table .keys) i j (omega arith) m) (key-is t h j m ∙ e ∙ sym (key-is t h i l))
+      two OtherKey (s .table .keys) i j (omega arith) m (key-is t h i l ∙ sym e ∙ sym (key-is t h j m))
 
   pub sound-last : be8 t 8 ≤ lastVersion
   sound-last = omega (arith, last-is t (s .form .long), s .table .last)

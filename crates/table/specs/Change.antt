@@ -7,9 +7,12 @@ use Prim.Native.Nat.{ℕ, suc, _-_}
 use lib.ListN.{length, take, drop, getD}
 use lib.Dec.{eqb, leb, ltb}
 use Rattle.message.specs.Request.{keyLimit, valueLimit}
-use Rattle.map.specs.State.{Entry, State, withEntries, find, hasKey, fresh}
+use Rattle.map.specs.State.{Entry, State, withEntries, find, hasKey}
 use Rattle.map.specs.Step.{mostKeys, lastVersion, isNone}
+use Rattle.map.specs.Table.{lastDeadline}
 use Rattle.table.specs.Memory.{size, entry, stateOf, Form, Sound}
+use Rattle.table.specs.declared.Outcome.{Outcome}
+use Rattle.table.specs.declared.Outcome.the-variants.{Done, Refused}
 
 -- memory that is changed keeps its length, and its form if it was sound, and stands for the state; memory that is not changed keeps its bytes
 pub record Changed (old new : List ℕ) (st : State) : Type 0 where
@@ -25,9 +28,13 @@ abbrev pub isSome : Option State → Bool
 isSome none = false
 isSome (some st) = true
 
--- memory of the right length made a fresh table
-unfoldable pub made : List ℕ → Option State
-made t = cond (eqb (length t) size) (some fresh) none
+-- done, or the refusal by its number
+abbrev pub doneOr : ℕ → Bool → Outcome
+doneOr k true = Done
+doneOr k false = Refused k
+
+abbrev pub outcomeOf : ℕ → Option State → Outcome
+outcomeOf k o = doneOr k (isSome o)
 
 -- an entry more, of the next version, where there is room for it
 unfoldable pub added : List ℕ → List ℕ → ℕ → List ℕ → Option State
@@ -50,13 +57,17 @@ cleared t = cond (eqb (length t) size) (some (withEntries [] (stateOf t))) none
 unfoldable pub started : ℕ → List ℕ → Option State
 started x t = cond (eqb (length t) size && leb x lastVersion) (some (record { entries = []; last = x })) none
 
+-- a fresh table: "The table holds the last version issued, 0 when fresh."
+abbrev pub made : List ℕ → Option State
+made t = started 0 t
+
 -- the version of the last entry; 0 where there is none
 unfoldable pub newest : List Entry → ℕ
 newest es = getD es (length es - 1) (entry [] [] 0 0) .version
 
 -- an entry by itself is within its limits; and it can stand behind those held
 unfoldable pub fitting : List ℕ → List ℕ → ℕ → Bool
-fitting k v d = leb (length k) keyLimit && (leb (length v) valueLimit && leb d 8_589_934_590)
+fitting k v d = leb (length k) keyLimit && (leb (length v) valueLimit && leb d lastDeadline)
 
 unfoldable pub next : List ℕ → ℕ → List ℕ → Bool
 next k n t =

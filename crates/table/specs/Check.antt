@@ -7,6 +7,7 @@ use lib.ListN.{length}
 use lib.Dec.{eqb, leb, ltb}
 use Rattle.message.specs.Request.{keyLimit, valueLimit}
 use Rattle.map.specs.Step.{mostKeys}
+use Rattle.map.specs.Table.{lastDeadline}
 use Rattle.table.specs.Bytes.{be8}
 use Rattle.table.specs.Memory.{size, rowAt, entryOf, countOf, stateOf}
 use Rattle.table.specs.declared.Found.{Found}
@@ -29,7 +30,7 @@ Differ t = (i : ℕ) → i < countOf t → FoundFrom t (entryOf t (rowAt i) .key
 pub record Within (t : List ℕ) (a : ℕ) : Type 0 where
   pub key : be8 t (a + 16) ≤ keyLimit
   pub value : be8 t (a + 24) ≤ valueLimit
-  pub deadline : be8 t (a + 8) ≤ 8_589_934_590
+  pub deadline : be8 t (a + 8) ≤ lastDeadline
 
 abbrev pub AllWithin : List ℕ → Type 0
 AllWithin t = (i : ℕ) → i < countOf t → Within t (rowAt i)

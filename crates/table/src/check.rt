@@ -6,6 +6,8 @@ use crate::find;
 use crate::last;
 use crate::number;
 use crate::rows;
+use field::EntryVersion;
+use field::Second;
 ghost use mathlib.Core.Path.{_≡_};
 ghost use Prim.Native.Nat.{_+_, _≤_};
 ghost use lib.ListN.{length};
@@ -108,38 +110,38 @@ pub(crate) fn has_room(t: &[u8]) -> bool
 }
 
 // Whether the sizes and the deadline of an entry are within their limits.
-pub(crate) fn fits(key: &[u8], value: &[u8], deadline: u64) -> bool
-    ensures { λ r. ⌜ r ≡ fitting (now (key .entry)) (now (value .entry)) deadline ⌝ }
+pub(crate) fn fits(key: &[u8], value: &[u8], deadline: Second) -> bool
+    ensures { λ r. ⌜ r ≡ fitting (now (key .entry)) (now (value .entry)) (deadline .0) ⌝ }
 {
     if !fits_row(key, value) {
         return false;
     }
-    deadline <= Row::LAST_DEADLINE
+    deadline.0 <= Row::LAST_DEADLINE
 }
 
 // The version of the last row, 0 where none is held.
-fn newest_version(t: &[u8]) -> u64
+fn newest_version(t: &[u8]) -> EntryVersion
     requires { ⌜ length (now t) ≡ size ⌝ }
-    ensures { λ r. ⌜ r ≡ newest (stateOf (now (t .entry)) .entries) ⌝ }
+    ensures { λ r. ⌜ r .0 ≡ newest (stateOf (now (t .entry)) .entries) ⌝ }
 {
     let n = rows::count(t);
     if n == 0 {
-        return 0;
+        return EntryVersion(0);
     }
-    number::get64(t, rows::row_at(n - 1))
+    EntryVersion(number::get64(t, rows::row_at(n - 1)))
 }
 
 // Whether an entry of the key and the version can stand behind those held.
-pub(crate) fn follows(t: &[u8], key: &[u8], version: u64) -> bool
-    ensures { λ r. ⌜ r ≡ next (now (key .entry)) version (now (t .entry)) ⌝ }
+pub(crate) fn follows(t: &[u8], key: &[u8], version: EntryVersion) -> bool
+    ensures { λ r. ⌜ r ≡ next (now (key .entry)) (version .0) (now (t .entry)) ⌝ }
 {
     if !has_room(t) {
         return false;
     }
-    if version <= newest_version(t) {
+    if version.0 <= newest_version(t).0 {
         return false;
     }
-    if version > last(t).0 {
+    if version.0 > last(t).0 {
         return false;
     }
     let found = find(t, key);

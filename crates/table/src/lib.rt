@@ -10,12 +10,18 @@ ghost use Prim.Native.Nat.{_≤_};
 ghost use lib.ListN.{length};
 ghost use Rattle.table.specs.Memory.{stateOf, Sound};
 ghost use Rattle.table.specs.Found.{entryAt, FoundIs, NumberAt, Tells};
-ghost use Rattle.table.specs.Change.{Left, isSome, made, started, added, restored, removed, cleared};
+ghost use Rattle.table.specs.Change.{Left, isSome, doneOr, outcomeOf, made, started, added, restored, removed, cleared};
 
 // What a search for a key finds: its row, or that no row has it.
 pub enum Found {
     At(usize),
     Absent,
+}
+
+// How a change that the papers give a refusal for ends: it is done, or it is refused by its number, and nothing is changed.
+pub enum Outcome {
+    Done,
+    Refused(u8),
 }
 
 // What a comparison of two keys tells.
@@ -86,11 +92,21 @@ pub fn same_key(a: &[u8], b: &[u8]) -> Compared
     Compared { equal: true }
 }
 
-// Makes the memory a fresh table.
-pub fn make(t: &mut [u8]) -> bool
-    ensures { λ r. ⌜ (r ≡ isSome (made (now (t .entry)))) × Left (now (t .entry)) (made (now (t .entry))) (now (t .exit)) ⌝ }
+// The outcome of a change that was made or not, of the refusal that it has.
+pub fn done_or(done: bool, refusal: u8) -> Outcome
+    ensures { λ r. ⌜ r ≡ doneOr refusal done ⌝ }
 {
-    start(t, EntryVersion(0))
+    if done {
+        return Outcome::Done;
+    }
+    Outcome::Refused(refusal)
+}
+
+// Makes the memory a fresh table. Memory of another length is 13.
+pub fn make(t: &mut [u8]) -> Outcome
+    ensures { λ r. ⌜ (r ≡ outcomeOf 13 (made (now (t .entry)))) × Left (now (t .entry)) (made (now (t .entry))) (now (t .exit)) ⌝ }
+{
+    done_or(start(t, EntryVersion(0)), 13)
 }
 
 // Makes the memory a table with no entries, of a last version within its limit.
@@ -218,7 +234,7 @@ pub fn add(t: &mut [u8], key: &[u8], value: &[u8], deadline: Second) -> bool
     if last(t).0 >= Table::LAST_VERSION {
         return false;
     }
-    rows::append(t, key, value, deadline.0);
+    rows::append(t, key, value, deadline);
     true
 }
 
@@ -232,13 +248,13 @@ pub fn restore(
 ) -> bool
     ensures { λ r. ⌜ (r ≡ isSome (restored (now (key .entry)) (now (value .entry)) (version .0) (deadline .0) (now (t .entry)))) × Left (now (t .entry)) (restored (now (key .entry)) (now (value .entry)) (version .0) (deadline .0) (now (t .entry))) (now (t .exit)) ⌝ }
 {
-    if !check::fits(key, value, deadline.0) {
+    if !check::fits(key, value, deadline) {
         return false;
     }
-    if !check::follows(t, key, version.0) {
+    if !check::follows(t, key, version) {
         return false;
     }
-    rows::restore(t, key, value, version.0, deadline.0);
+    rows::restore(t, key, value, version, deadline);
     true
 }
 

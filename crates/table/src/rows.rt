@@ -4,6 +4,8 @@ use crate::Row;
 use crate::Table;
 use crate::number;
 use crate::same_key;
+use field::EntryVersion;
+use field::Second;
 ghost use mathlib.Core.Path.{_≡_};
 ghost use mathlib.Core.List.{[]};
 ghost use Prim.Native.Nat.{_+_, _≤_, _<_, _-_, min};
@@ -96,13 +98,13 @@ fn shift_down(t: &mut [u8], a: usize, e: usize, w: usize)
 }
 
 // Writes the bytes of a row.
-fn write(row: &mut [u8], k: &[u8], v: &[u8], version: u64, deadline: u64)
+fn write(row: &mut [u8], k: &[u8], v: &[u8], version: EntryVersion, deadline: Second)
     requires { ⌜ length (now row) ≡ 352 ⌝ }
     requires { ⌜ (length (now k) ≤ 64) × (length (now v) ≤ 256) ⌝ }
-    ensures { λ _. ⌜ Written (now (row .exit)) (now (k .entry)) (now (v .entry)) version deadline ⌝ }
+    ensures { λ _. ⌜ Written (now (row .exit)) (now (k .entry)) (now (v .entry)) (version .0) (deadline .0) ⌝ }
 {
-    number::put64(row, Row::VERSION_START, version);
-    number::put64(row, Row::DEADLINE_START, deadline);
+    number::put64(row, Row::VERSION_START, version.0);
+    number::put64(row, Row::DEADLINE_START, deadline.0);
     number::put64(row, Row::KEY_LENGTH, k.len() as u64);
     number::put64(row, Row::VALUE_LENGTH, v.len() as u64);
     copy_at(row, Row::KEY_START, k);
@@ -110,10 +112,10 @@ fn write(row: &mut [u8], k: &[u8], v: &[u8], version: u64, deadline: u64)
 }
 
 // Adds a row behind the last, of a version above those held. The last version issued stays.
-pub(crate) fn restore(t: &mut [u8], k: &[u8], v: &[u8], version: u64, deadline: u64)
-    requires { ⌜ (length (now t) ≡ size) × (countOf (now t) < 128) × Above (now t) version ⌝ }
+pub(crate) fn restore(t: &mut [u8], k: &[u8], v: &[u8], version: EntryVersion, deadline: Second)
+    requires { ⌜ (length (now t) ≡ size) × (countOf (now t) < 128) × Above (now t) (version .0) ⌝ }
     requires { ⌜ (length (now k) ≤ 64) × (length (now v) ≤ 256) ⌝ }
-    ensures { λ _. ⌜ Changed (now (t .entry)) (now (t .exit)) (extended (now (k .entry)) (now (v .entry)) version deadline (stateOf (now (t .entry)))) ⌝ }
+    ensures { λ _. ⌜ Changed (now (t .entry)) (now (t .exit)) (extended (now (k .entry)) (now (v .entry)) (version .0) (deadline .0) (stateOf (now (t .entry)))) ⌝ }
 {
     let held = count(t);
     let a = row_at(held);
@@ -123,14 +125,14 @@ pub(crate) fn restore(t: &mut [u8], k: &[u8], v: &[u8], version: u64, deadline: 
 }
 
 // Adds a row behind the last, of the next version.
-pub(crate) fn append(t: &mut [u8], k: &[u8], v: &[u8], deadline: u64)
+pub(crate) fn append(t: &mut [u8], k: &[u8], v: &[u8], deadline: Second)
     requires { ⌜ (length (now t) ≡ size) × (countOf (now t) < 128) × (be8 (now t) 8 < lastVersion) ⌝ }
     requires { ⌜ (length (now k) ≤ 64) × (length (now v) ≤ 256) ⌝ }
-    ensures { λ _. ⌜ Changed (now (t .entry)) (now (t .exit)) (grown (now (k .entry)) (now (v .entry)) deadline (stateOf (now (t .entry)))) ⌝ }
+    ensures { λ _. ⌜ Changed (now (t .entry)) (now (t .exit)) (grown (now (k .entry)) (now (v .entry)) (deadline .0) (stateOf (now (t .entry)))) ⌝ }
 {
-    let version = number::get64(t, Table::LAST) + 1;
+    let version = EntryVersion(number::get64(t, Table::LAST) + 1);
     restore(t, k, v, version, deadline);
-    number::put64(t, Table::LAST, version);
+    number::put64(t, Table::LAST, version.0);
 }
 
 // Removes row i: the rows behind it move down.

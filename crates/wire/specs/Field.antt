@@ -15,6 +15,10 @@ bigEndian (suc n) = as-type all (λ p. p .0 * 256 + p .1) (λ v. (v / 256, v % 2
 abbrev pub entryVersion : Codec ℕ
 entryVersion = bigEndian 8
 
+-- a second in a stored file, which has "version, deadline (8 bytes each)"
+abbrev pub second : Codec ℕ
+second = bigEndian 8
+
 -- A length, which is a vInt, and so many bytes. "A length is judged as soon as its number is whole": one above its size is 6.
 unfoldable pub limited : ℕ → Codec (List ℕ)
 limited lim = as-type all (λ p. p .1) (λ s. (length s, s)) (seq (guard (λ n. leb n lim) 6 vInt) raw)

@@ -567,13 +567,13 @@ impl Subject for Echo {
         self.table(table).is_some()
     }
 
-    fn make(&mut self, table: &mut [u8]) -> bool {
+    fn make(&mut self, table: &mut [u8]) -> u64 {
         if table.len() != SIZE && !(self.has(Fault::MakesAnyLength) && table.len() > SIZE) {
-            return false;
+            return 13;
         }
         put_number(table, COUNT, 0);
         put_number(table, LAST, 0);
-        true
+        GOOD
     }
 }
 
@@ -641,7 +641,7 @@ impl Stores for Echo {
         GOOD + file.len() as u64
     }
 
-    fn load(&mut self, file: &[u8], spare: &mut [u8], table: &mut [u8]) -> bool {
+    fn load(&mut self, file: &[u8], table: &mut [u8]) -> u64 {
         let mut file = file.to_vec();
         if self.has(Fault::LoadsUpperCase) {
             file.make_ascii_lowercase();
@@ -649,8 +649,8 @@ impl Stores for Echo {
         if self.has(Fault::LoadsWithoutEnd) && file.last() != Some(&LINE_END) {
             file.push(LINE_END);
         }
-        if spare.len() != SIZE || table.len() != SIZE {
-            return false;
+        if table.len() != SIZE {
+            return 17;
         }
         if self.has(Fault::LoadsLateDeadline) {
             file = with_early_deadlines(&file);
@@ -659,10 +659,10 @@ impl Stores for Echo {
             if self.has(Fault::LoadTouchesOld) {
                 table[SIZE - 1] ^= 1;
             }
-            return false;
+            return 17;
         };
         memory::encode(&loaded, table);
-        true
+        GOOD
     }
 }
 

@@ -85,7 +85,7 @@ extern "C" {
 
     fn fq_is_table(table: *const u8, table_len: usize) -> u8;
 
-    fn fq_make(table: *mut u8, table_len: usize) -> u8;
+    fn fq_make(table: *mut u8, table_len: usize) -> u64;
 }
 
 #[cfg(feature = "lines")]
@@ -108,14 +108,7 @@ extern "C" {
 extern "C" {
     fn fq_store(table: *const u8, table_len: usize, out: *mut u8, out_len: usize) -> u64;
 
-    fn fq_load(
-        file: *const u8,
-        file_len: usize,
-        spare: *mut u8,
-        spare_len: usize,
-        table: *mut u8,
-        table_len: usize,
-    ) -> u8;
+    fn fq_load(file: *const u8, file_len: usize, table: *mut u8, table_len: usize) -> u64;
 }
 
 /// The library linked to this program.
@@ -312,10 +305,11 @@ impl Subject for Library {
         truth("fq_is_table", byte)
     }
 
-    fn make(&mut self, table: &mut [u8]) -> bool {
+    fn make(&mut self, table: &mut [u8]) -> u64 {
         // SAFETY: the slice is lent for the call, with its length.
-        let byte = unsafe { fq_make(table.as_mut_ptr(), table.len()) };
-        truth("fq_make", byte)
+        let code = unsafe { fq_make(table.as_mut_ptr(), table.len()) };
+        check_code("fq_make", code, 0, &[]);
+        code
     }
 }
 
@@ -363,25 +357,15 @@ impl Stores for Library {
     fn store(&mut self, table: &[u8], out: &mut [u8]) -> u64 {
         // SAFETY: both slices are lent for the call, with their lengths.
         let code = unsafe { fq_store(table.as_ptr(), table.len(), out.as_mut_ptr(), out.len()) };
-        // A stored file has at least 19 bytes, so a length is no refusal.
-        let code = if code < 19 { code } else { GOOD + code };
         check_code("fq_store", code, out.len(), &[]);
         code
     }
 
-    fn load(&mut self, file: &[u8], spare: &mut [u8], table: &mut [u8]) -> bool {
-        // SAFETY: all slices are lent for the call, with their lengths, and
-        // no two of them overlap.
-        let byte = unsafe {
-            fq_load(
-                file.as_ptr(),
-                file.len(),
-                spare.as_mut_ptr(),
-                spare.len(),
-                table.as_mut_ptr(),
-                table.len(),
-            )
-        };
-        truth("fq_load", byte)
+    fn load(&mut self, file: &[u8], table: &mut [u8]) -> u64 {
+        // SAFETY: both slices are lent for the call, with their lengths, and
+        // they do not overlap.
+        let code = unsafe { fq_load(file.as_ptr(), file.len(), table.as_mut_ptr(), table.len()) };
+        check_code("fq_load", code, 0, file);
+        code
     }
 }

@@ -48,7 +48,7 @@ fn start<S: Subject>(trial: &mut Trial<S>) -> Result<World, Difference> {
     let mut world = World::any(&mut trial.chance);
     if trial.chance.one_in(2) {
         let made = trial.subject.make(world.memory.slice_mut());
-        hold(made, "fq_make refuses memory of the right length")?;
+        hold(made == GOOD, "fq_make refuses memory of the right length")?;
         world.table = Table::default();
     }
     Ok(world)

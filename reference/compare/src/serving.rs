@@ -9,7 +9,7 @@ use crate::fields::{join, of_request};
 use crate::lent::Lent;
 use crate::make;
 use crate::memory;
-use crate::subject::Subject;
+use crate::subject::{Subject, GOOD};
 use crate::trial::Trial;
 
 const CALLS: usize = 150;
@@ -37,7 +37,7 @@ fn start<S: Subject>(trial: &mut Trial<S>) -> Result<World, crate::difference::D
     let mut memory = Lent::random(&mut trial.chance, memory::SIZE);
     let before = memory.clone();
     hold(
-        trial.subject.make(memory.slice_mut()),
+        trial.subject.make(memory.slice_mut()) == GOOD,
         "fq_make refuses memory of the right length",
     )?;
     let world = World {

@@ -22,13 +22,13 @@ pub fn round<S: Stores>(trial: &mut Trial<S>) -> Outcome {
         stored(trial, &world)?;
         unsound(trial, &world)?;
         let file = store(&world.table);
-        loaded(trial, &file, SIZE, SIZE)?;
+        loaded(trial, &file, SIZE)?;
         for _ in 0..6 {
             let file = damaged(&mut trial.chance, &file);
-            loaded(trial, &file, SIZE, SIZE)?;
+            loaded(trial, &file, SIZE)?;
         }
         let file = store(&broken_table(&mut trial.chance, &world));
-        loaded(trial, &file, SIZE, SIZE)?;
+        loaded(trial, &file, SIZE)?;
         wrong_memory(trial, &world)?;
     }
     Ok(())
@@ -93,19 +93,13 @@ fn store_gives<S: Stores>(
         })
 }
 
-/// Loads into memory of these lengths and compares.
-fn loaded<S: Stores>(trial: &mut Trial<S>, file: &[u8], spare: usize, table: usize) -> Outcome {
-    let expected = if spare == SIZE && table == SIZE {
-        load(file)
-    } else {
-        None
-    };
-    let mut spare = Lent::random(&mut trial.chance, spare);
+/// Loads into memory of this length and compares.
+fn loaded<S: Stores>(trial: &mut Trial<S>, file: &[u8], table: usize) -> Outcome {
+    let expected = if table == SIZE { load(file) } else { None };
     let before = old_table(trial, table);
-    load_gives(trial, file, &mut spare, &before, expected).map_err(|found| {
+    load_gives(trial, file, &before, expected).map_err(|found| {
         found
             .with("call", "fq_load")
-            .with("spare memory", spare.slice().len())
             .with("table memory", table)
             .with("file", String::from_utf8_lossy(file))
             .bytes("file's bytes", file)
@@ -123,20 +117,16 @@ fn old_table<S>(trial: &mut Trial<S>, length: usize) -> Lent {
 fn load_gives<S: Stores>(
     trial: &mut Trial<S>,
     file: &[u8],
-    spare: &mut Lent,
     before: &Lent,
     expected: Option<Table>,
 ) -> Outcome {
     let lent = Lent::of(file);
-    let spare_before = spare.clone();
     let mut memory = before.clone();
-    let answer = trial
-        .subject
-        .load(lent.slice(), spare.slice_mut(), memory.slice_mut());
-    trial.counts.input(if answer { GOOD } else { 17 });
-    same("the answer", expected.is_some(), answer)?;
+    let code = trial.subject.load(lent.slice(), memory.slice_mut());
+    trial.counts.input(code);
+    let expected_code = if expected.is_some() { GOOD } else { 17 };
+    same("the return code", expected_code, code)?;
     lent.same("the file is changed", &Lent::of(file))?;
-    spare.margins_kept("bytes beside the spare memory", &spare_before)?;
     memory.margins_kept("bytes beside the table", before)?;
     let Some(table) = expected else {
         return memory.same("a file refused 17 changes the old table", before);
@@ -153,8 +143,7 @@ fn load_gives<S: Stores>(
 fn wrong_memory<S: Stores>(trial: &mut Trial<S>, world: &World) -> Outcome {
     let file = store(&world.table);
     let wrong = trial.chance.pick(&[0, 16, SIZE - 1, SIZE + 1]);
-    loaded(trial, &file, wrong, SIZE)?;
-    loaded(trial, &file, SIZE, wrong)
+    loaded(trial, &file, wrong)
 }
 
 /// The file with one thing changed.

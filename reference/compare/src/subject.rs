@@ -76,7 +76,7 @@ pub trait Subject {
 
     fn is_table(&mut self, table: &[u8]) -> bool;
 
-    fn make(&mut self, table: &mut [u8]) -> bool;
+    fn make(&mut self, table: &mut [u8]) -> u64;
 }
 
 /// What a piece of a request file is: whether the rest of a line is to be
@@ -103,7 +103,7 @@ pub trait ServesLines: Subject {
 pub trait Stores: Subject {
     fn store(&mut self, table: &[u8], out: &mut [u8]) -> u64;
 
-    fn load(&mut self, file: &[u8], spare: &mut [u8], table: &mut [u8]) -> bool;
+    fn load(&mut self, file: &[u8], table: &mut [u8]) -> u64;
 }
 
 pub fn read_code<T>(read: &Read<T>) -> u64 {

@@ -17,7 +17,7 @@ use crate::memory::{
     decode, is_table, number, put_number, row_at, shown, COUNT, DEADLINE, KEY, KEY_LENGTH, LAST,
     ROW, SIZE, VALUE, VALUE_LENGTH, VERSION,
 };
-use crate::subject::{Subject, SERVE_WORDS, STREAM_WORDS};
+use crate::subject::{Subject, GOOD, SERVE_WORDS, STREAM_WORDS};
 use crate::trial::Trial;
 
 pub fn round<S: Subject>(trial: &mut Trial<S>) -> Outcome {
@@ -64,7 +64,8 @@ fn made<S: Subject>(trial: &mut Trial<S>) -> Outcome {
     let mut memory = before.clone();
     let answer = trial.subject.make(memory.slice_mut());
     trial.counts.inputs += 1;
-    same("the answer of fq_make", length == SIZE, answer)?;
+    let expected = if length == SIZE { GOOD } else { 13 };
+    same("the answer of fq_make", expected, answer)?;
     memory.margins_kept("fq_make changes bytes beside the memory", &before)?;
     if length != SIZE {
         return memory.same("fq_make changes memory of a wrong length", &before);

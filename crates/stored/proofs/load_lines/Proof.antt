@@ -20,9 +20,6 @@ abbrev μ-loop : tie.MeasureT-loop
 loop-holds : tie.Need-loop-holds Inv-loop μ-loop
 loop-holds c = (omega arith, no-line)
 
-find-requires : tie.Need-find-requires Inv-loop μ-loop
-find-requires c κs = search needs
-
 same-length : tie.Need-same-length Inv-loop μ-loop
 same-length c = omega (arith, loads-long (c .before .before .loop .inv .1))
 
@@ -31,18 +28,6 @@ returns c =
     let f = c .before in
     let l = f .before .loop in
     record { within = l .inv .0; loads = l .inv .1; ends = none-left _ _ _ (f .find .ensures .0) (l .inv .0) (c .if1 .taken) }
-
-sub-load-next : tie.Need-sub-load-next Inv-loop μ-loop
-sub-load-next c = search needs
-
-part-load-next-start : tie.Need-part-load-next-start Inv-loop μ-loop
-part-load-next-start c = search needs
-
-part-load-next-end : tie.Need-part-load-next-end Inv-loop μ-loop
-part-load-next-end c = search needs
-
-load-next-requires : tie.Need-load-next-requires Inv-loop μ-loop
-load-next-requires c κs = search needs
 
 same-length-2 : tie.Need-same-length-2 Inv-loop μ-loop
 same-length-2 c = omega (arith, loads-long (c .before .before .before .before .before .before .before .before .loop .inv .1))
@@ -54,12 +39,6 @@ returns-2 c =
     let l = f .before .loop in
     let x = bad-next _ _ _ (f .find .ensures .0) (omega arith) (l .inv .1) (sym (n .load-next .ensures .0) ∙ not-true _ (c .if2 .taken)) (n .load-next .ensures .1) in
     record { within = l .inv .0; loads = x .0; ends = x .1 }
-
-add-at : tie.Need-add-at Inv-loop μ-loop
-add-at c = search needs
-
-loop-less : tie.Need-loop-less Inv-loop μ-loop
-loop-less c = search needs
 
 loop-again : tie.Need-loop-again Inv-loop μ-loop
 loop-again c =
@@ -74,15 +53,15 @@ load-lines-spec =
     Inv-loop
     μ-loop
     loop-holds
-    find-requires
+    (λ c κs. search needs)
     same-length
     returns
-    sub-load-next
-    part-load-next-start
-    part-load-next-end
-    load-next-requires
+    (λ c. search needs)
+    (λ c. search needs)
+    (λ c. search needs)
+    (λ c κs. search needs)
     same-length-2
     returns-2
-    add-at
-    loop-less
+    (λ c. search needs)
+    (λ c. search needs)
     loop-again)

@@ -8,15 +8,9 @@ use borrow.Author.Needs.{needs}
 use Rattle.stored.proofs.store.Statement.{statement}
 use Rattle.stored.proofs.store.Tie as tie
 
-is-table-requires : tie.Need-is-table-requires
-is-table-requires c κs = search needs
-
 returns : tie.Need-returns
 returns c = let s = c .before .before .before .before .args in
     storing-unsound form1 (s .t .now) (s .out .now) (refuted (c .before .is-table .ensures) (not-true _ (c .if1 .taken)))
-
-file-len-requires : tie.Need-file-len-requires
-file-len-requires c κs = search needs
 
 returns-2 : tie.Need-returns-2
 returns-2 c = let s = c .before .before .before .before .before .before .args in
@@ -24,9 +18,6 @@ returns-2 c = let s = c .before .before .before .before .before .before .args in
 
 write-file-requires : tie.Need-write-file-requires
 write-file-requires c κs = omega (arith, c .before .before .file-len .ensures)
-
-same-length : tie.Need-same-length
-same-length c = search needs
 
 returns-3 : tie.Need-returns-3
 returns-3 c = let f = c .before .before .before .before .before in
@@ -38,10 +29,10 @@ pub store-spec : {M : Type 1} → statement M
 store-spec =
     tie.close
     (tie.spec
-    is-table-requires
+    (λ c κs. search needs)
     returns
-    file-len-requires
+    (λ c κs. search needs)
     returns-2
     write-file-requires
-    same-length
+    (λ c. search needs)
     returns-3)

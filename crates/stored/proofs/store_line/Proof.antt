@@ -29,29 +29,8 @@ entry-front : (c : tie.After-write-entry) → let s = c .before .before .before 
 entry-front c = let k = c .before .before .before .before .before .before .before in
     wrote-front (entryLine form1) 339 (entry-most form1) (held-good form1 (k .before .args .t .now) _ (bytes k)) (omega arith) (c .write-entry .ensures)
 
-room-requires : tie.Need-room-requires
-room-requires c κs = search needs
-
-slice-aggregate-write-head : tie.Need-slice-aggregate-write-head
-slice-aggregate-write-head c = search needs
-
-write-head-requires : tie.Need-write-head-requires
-write-head-requires c κs = search needs
-
-sub-put-line : tie.Need-sub-put-line
-sub-put-line c = search needs
-
-part-put-line-start : tie.Need-part-put-line-start
-part-put-line-start c = search needs
-
 part-put-line-end : tie.Need-part-put-line-end
 part-put-line-end c = let f = head-front (c .before .before) in omega (arith, f .1)
-
-put-line-requires : tie.Need-put-line-requires
-put-line-requires c κs = search needs
-
-same-length : tie.Need-same-length
-same-length c = search needs
 
 returns : tie.Need-returns
 returns c = let s = c .before .before .before .before .before .before .before .before .before .before .before .before .before .args in
@@ -60,38 +39,14 @@ returns c = let s = c .before .before .before .before .before .before .before .b
     ap (lineAt form1 (stateOf (s .t .now))) (omega arith) ∙ line-head form1 (stateOf (s .t .now)) ∙ ap line (sym (head-front w .0)) in
     rw e (c .before .before .put-line .ensures)
 
-count-requires : tie.Need-count-requires
-count-requires c κs = search needs
-
 returns-2 : tie.Need-returns-2
 returns-2 c = let s = c .before .before .before .before .before .before .args in
     let e : lineAt form1 (stateOf (s .t .now)) (s .i) ≡ [] =
     ap (lineAt form1 (stateOf (s .t .now))) (omega arith) ∙ line-none form1 (stateOf (s .t .now)) (s .i - 1) (omega arith) in
     rw e (laid-none (s .at) (s .out .now))
 
-sub-write-entry : tie.Need-sub-write-entry
-sub-write-entry c = search needs
-
-slice-aggregate-write-entry : tie.Need-slice-aggregate-write-entry
-slice-aggregate-write-entry c = search needs
-
-write-entry-requires : tie.Need-write-entry-requires
-write-entry-requires c κs = search needs
-
-sub-put-line-2 : tie.Need-sub-put-line-2
-sub-put-line-2 c = search needs
-
-part-put-line-start-2 : tie.Need-part-put-line-start-2
-part-put-line-start-2 c = search needs
-
 part-put-line-end-2 : tie.Need-part-put-line-end-2
 part-put-line-end-2 c = let f = entry-front (c .before .before) in omega (arith, f .1)
-
-put-line-requires-2 : tie.Need-put-line-requires-2
-put-line-requires-2 c κs = search needs
-
-same-length-2 : tie.Need-same-length-2
-same-length-2 c = search needs
 
 returns-3 : tie.Need-returns-3
 returns-3 c = let s = c .before .before .before .before .before .before .before .before .before .before .before .before .before .before .before .args in
@@ -104,23 +59,23 @@ pub store-line-spec : {M : Type 1} → statement M
 store-line-spec =
     tie.close
     (tie.spec
-    room-requires
-    slice-aggregate-write-head
-    write-head-requires
-    sub-put-line
-    part-put-line-start
+    (λ c κs. search needs)
+    (λ c. search needs)
+    (λ c κs. search needs)
+    (λ c. search needs)
+    (λ c. search needs)
     part-put-line-end
-    put-line-requires
-    same-length
+    (λ c κs. search needs)
+    (λ c. search needs)
     returns
-    count-requires
+    (λ c κs. search needs)
     returns-2
-    sub-write-entry
-    slice-aggregate-write-entry
-    write-entry-requires
-    sub-put-line-2
-    part-put-line-start-2
+    (λ c. search needs)
+    (λ c. search needs)
+    (λ c κs. search needs)
+    (λ c. search needs)
+    (λ c. search needs)
     part-put-line-end-2
-    put-line-requires-2
-    same-length-2
+    (λ c κs. search needs)
+    (λ c. search needs)
     returns-3)

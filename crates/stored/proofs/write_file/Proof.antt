@@ -16,20 +16,11 @@ Inv-loop t out₀ n at₀ i₀ out at i = (i ≤ n + 1) × Lines form1 t out₀ 
 abbrev μ-loop : tie.MeasureT-loop
 μ-loop t out₀ n at₀ i₀ out at i = n + 1 - i
 
-count-requires : tie.Need-count-requires Inv-loop μ-loop
-count-requires c κs = search needs
-
 loop-holds : tie.Need-loop-holds Inv-loop μ-loop
 loop-holds c = (omega arith, lines-begin form1 _ _)
 
-store-line-requires : tie.Need-store-line-requires Inv-loop μ-loop
-store-line-requires c κs = search needs
-
 add-i : tie.Need-add-i Inv-loop μ-loop
 add-i c = omega (arith, few (c .before .before .before .before .before .before .before .before .before .args .t .now))
-
-loop-less : tie.Need-loop-less Inv-loop μ-loop
-loop-less c = search needs
 
 loop-again : tie.Need-loop-again Inv-loop μ-loop
 loop-again c = let l = c .before .before .before .before .before in
@@ -51,11 +42,11 @@ write-file-spec =
     (tie.spec
     Inv-loop
     μ-loop
-    count-requires
+    (λ c κs. search needs)
     loop-holds
-    store-line-requires
+    (λ c κs. search needs)
     add-i
-    loop-less
+    (λ c. search needs)
     loop-again
     same-length
     returns)

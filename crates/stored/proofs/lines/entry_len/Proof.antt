@@ -30,27 +30,6 @@ few c = let b = c .before .before .before .before in
     omega (arith, entry-length e g, c .before .number-len .ensures .0, c .number-len2 .ensures .0, ap size k, ap size v, ap length k, ap length v) in
     (p, omega (arith, entry-short e g))
 
-key-at-requires : tie.Need-key-at-requires
-key-at-requires c κs = search needs
-
-value-at-requires : tie.Need-value-at-requires
-value-at-requires c κs = search needs
-
-number-len-requires : tie.Need-number-len-requires
-number-len-requires c κs = search needs
-
-add-n : tie.Need-add-n
-add-n c = search needs
-
-add-n-2 : tie.Need-add-n-2
-add-n-2 c = search needs
-
-number-len-requires-2 : tie.Need-number-len-requires-2
-number-len-requires-2 c κs = search needs
-
-add-n-3 : tie.Need-add-n-3
-add-n-3 c = search needs
-
 add-n-4 : tie.Need-add-n-4
 add-n-4 c = omega (arith, few c)
 
@@ -67,13 +46,13 @@ pub entry-len-spec : {M : Type 1} → statement M
 entry-len-spec =
     tie.close
     (tie.spec
-    key-at-requires
-    value-at-requires
-    number-len-requires
-    add-n
-    add-n-2
-    number-len-requires-2
-    add-n-3
+    (λ c κs. search needs)
+    (λ c κs. search needs)
+    (λ c κs. search needs)
+    (λ c. search needs)
+    (λ c. search needs)
+    (λ c κs. search needs)
+    (λ c. search needs)
     add-n-4
     mul-result
     add-result

@@ -10,24 +10,9 @@ returns : tie.Need-returns
 returns c = let s = c .before .before .before .args in
     laid-short (line (s .s .now)) (s .at) (s .out .now) (omega (arith, line-length (s .s .now)))
 
-sub-if2 : tie.Need-sub-if2
-sub-if2 c = search needs
-
-sub-if2-2 : tie.Need-sub-if2-2
-sub-if2-2 c = search needs
-
 returns-2 : tie.Need-returns-2
 returns-2 c = let s = c .before .before .before .before .args in
     laid-short (line (s .s .now)) (s .at) (s .out .now) (omega (arith, line-length (s .s .now)))
-
-encode-requires : tie.Need-encode-requires
-encode-requires c κs = search needs
-
-put-byte-requires : tie.Need-put-byte-requires
-put-byte-requires c κs = search needs
-
-same-length : tie.Need-same-length
-same-length c = search needs
 
 returns-3 : tie.Need-returns-3
 returns-3 c = let s = c .before .before .before .before .before .before .before .before .before .before .before .before .args in
@@ -38,10 +23,10 @@ put-line-spec =
     tie.close
     (tie.spec
     returns
-    sub-if2
-    sub-if2-2
+    (λ c. search needs)
+    (λ c. search needs)
     returns-2
-    encode-requires
-    put-byte-requires
-    same-length
+    (λ c κs. search needs)
+    (λ c κs. search needs)
+    (λ c. search needs)
     returns-3)

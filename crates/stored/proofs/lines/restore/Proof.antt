@@ -23,7 +23,7 @@ version c = let a = c .before in sym (a .before .before .read-version .ensures) 
 
 deadline : (c : tie.After-known-told2) → let b = c .before in let a = b .before .before .before .before in
     readAt (bigEndian 8) (a .before .before .before .before .before .args .s .now) (a .a .given .0 .1 .0 .at) ≡ whole (b .b .given .0 .0 .0) (b .b .given .0 .1 .0 .at)
-deadline c = let b = c .before in sym (b .before .before .read-version2 .ensures) ∙ rw (b .b .given .1)
+deadline c = let b = c .before in sym (b .before .before .read-second .ensures) ∙ rw (b .b .given .1)
 
 key : (c : tie.After-known-told3) → let k = c .before in let b = k .before .before .before .before in
     let s = b .before .before .before .before .before .before .before .before .before .args .s .now in
@@ -35,15 +35,6 @@ value : (c : tie.After-known-told4) → let v = c .before in let k = v .before .
     readAt (limited valueLimit) s (k .c .given .0 .1 .0 .at) ≡ whole (partOf s (v .d .given .0 .0)) (v .d .given .0 .1 .0 .at)
 value c = let v = c .before in sym (v .before .before .read-limited2 .ensures) ∙ rw (v .d .given .1)
 
-read-version-requires : tie.Need-read-version-requires
-read-version-requires c κs = search needs
-
-enum-known-a : tie.Need-enum-known-a
-enum-known-a c = search needs
-
-enum-told : tie.Need-enum-told
-enum-told c = search needs
-
 returns : tie.Need-returns
 returns c = let b = c .before .before in
     let s = b .before .before .before .args .s .now in
@@ -51,28 +42,13 @@ returns c = let b = c .before .before in
     let n : exactly (length s) (entryLine form1 .dec s) ≡ none = rw (entry-at, e) in
     rw n (refl, refl)
 
-read-version-requires-2 : tie.Need-read-version-requires-2
-read-version-requires-2 c κs = search needs
-
-enum-known-b : tie.Need-enum-known-b
-enum-known-b c = search needs
-
-enum-told-2 : tie.Need-enum-told-2
-enum-told-2 c = search needs
-
 returns-2 : tie.Need-returns-2
 returns-2 c = let b = c .before .before in
     let a = b .before in
     let s = a .before .before .before .before .before .before .args .s .now in
-    let e : readAt (bigEndian 8) s (a .before .a .given .0 .1 .0 .at) ≡ more = sym (b .read-version2 .ensures) ∙ rw (c .enum-told2 .given .1) in
+    let e : readAt (bigEndian 8) s (a .before .a .given .0 .1 .0 .at) ≡ more = sym (b .read-second .ensures) ∙ rw (c .enum-told2 .given .1) in
     let n : exactly (length s) (entryLine form1 .dec s) ≡ none = rw (entry-at, version a, e) in
     rw n (refl, refl)
-
-read-limited-requires : tie.Need-read-limited-requires
-read-limited-requires c κs = search needs
-
-enum-known-c : tie.Need-enum-known-c
-enum-known-c c = search needs
 
 returns-3 : tie.Need-returns-3
 returns-3 c = let r = c .before in
@@ -82,12 +58,6 @@ returns-3 c = let r = c .before in
     let n : exactly (length s) (entryLine form1 .dec s) ≡ none =
     rw (entry-at, version a, deadline b, ← (r .read-limited .ensures)) (ap (exactly (length s)) (span-stops (r .read-limited .result) (c .match3 .keys2) s _) ∙ stopped-none (length s) (asSpan s (r .read-limited .result))) in
     rw n (refl, refl)
-
-read-limited-requires-2 : tie.Need-read-limited-requires-2
-read-limited-requires-2 c κs = search needs
-
-enum-known-d : tie.Need-enum-known-d
-enum-known-d c = search needs
 
 returns-4 : tie.Need-returns-4
 returns-4 c = let r = c .before in
@@ -107,18 +77,6 @@ returns-5 c = let v = c .before .before in
     let s = a .before .before .before .before .before .before .args .s .now in
     let n : exactly (length s) (entryLine form1 .dec s) ≡ none = rw (entry-at, version a, deadline b, key k, value v, ne-eqb _ _ (c .if1 .taken)) in
     rw n (refl, refl)
-
-part-requires : tie.Need-part-requires
-part-requires c κs = search needs
-
-part-requires-2 : tie.Need-part-requires-2
-part-requires-2 c κs = search needs
-
-restore-requires : tie.Need-restore-requires
-restore-requires c κs = search needs
-
-same-length : tie.Need-same-length
-same-length c = search needs
 
 returns-6 : tie.Need-returns-6
 returns-6 c = let p = c .before .before .before .before in
@@ -141,23 +99,23 @@ pub restore-spec : {M : Type 1} → statement M
 restore-spec =
     tie.close
     (tie.spec
-    read-version-requires
-    enum-known-a
-    enum-told
+    (λ c κs. search needs)
+    (λ c. search needs)
+    (λ c. search needs)
     returns
-    read-version-requires-2
-    enum-known-b
-    enum-told-2
+    (λ c κs. search needs)
+    (λ c. search needs)
+    (λ c. search needs)
     returns-2
-    read-limited-requires
-    enum-known-c
+    (λ c κs. search needs)
+    (λ c. search needs)
     returns-3
-    read-limited-requires-2
-    enum-known-d
+    (λ c κs. search needs)
+    (λ c. search needs)
     returns-4
     returns-5
-    part-requires
-    part-requires-2
-    restore-requires
-    same-length
+    (λ c κs. search needs)
+    (λ c κs. search needs)
+    (λ c κs. search needs)
+    (λ c. search needs)
     returns-6)

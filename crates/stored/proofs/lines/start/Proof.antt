@@ -21,15 +21,6 @@ last : (c : tie.After-known-told2) → let b = c .before in let a = b .before .b
     readAt (bigEndian 8) (a .before .before .before .before .before .args .s .now) (a .a .given .0 .1 .0 .at) ≡ whole (b .b .given .0 .0 .0) (b .b .given .0 .1 .0 .at)
 last c = let b = c .before in sym (b .before .before .read-version .ensures) ∙ rw (b .b .given .1)
 
-read-byte-requires : tie.Need-read-byte-requires
-read-byte-requires c κs = search needs
-
-enum-known-a : tie.Need-enum-known-a
-enum-known-a c = search needs
-
-enum-told : tie.Need-enum-told
-enum-told c = search needs
-
 returns : tie.Need-returns
 returns c = let b = c .before .before in
     let s = b .before .before .before .args .s .now in
@@ -42,15 +33,6 @@ returns-2 c = let a = c .before in
     let s = a .before .before .before .before .before .before .args .s .now in
     let n : exactly (length s) (headLine form1 .dec s) ≡ none = rw (head-at, form a, ne-eqb _ _ (c .if1 .taken)) in
     rw n (refl, refl)
-
-read-version-requires : tie.Need-read-version-requires
-read-version-requires c κs = search needs
-
-enum-known-b : tie.Need-enum-known-b
-enum-known-b c = search needs
-
-enum-told-2 : tie.Need-enum-told-2
-enum-told-2 c = search needs
 
 returns-3 : tie.Need-returns-3
 returns-3 c = let b = c .before .before in
@@ -68,12 +50,6 @@ returns-4 c = let b = c .before .before in
     rw (head-at, form a, eq-eqb _ _ (b .before .before .before .before .if1 .left), last b, ne-eqb _ _ (c .if2 .taken)) in
     rw n (refl, refl)
 
-start-requires : tie.Need-start-requires
-start-requires c κs = search needs
-
-same-length : tie.Need-same-length
-same-length c = search needs
-
 returns-5 : tie.Need-returns-5
 returns-5 c = let g = c .before .before .before .before in
     let b = g .before .before in
@@ -87,16 +63,16 @@ pub start-spec : {M : Type 1} → statement M
 start-spec =
     tie.close
     (tie.spec
-    read-byte-requires
-    enum-known-a
-    enum-told
+    (λ c κs. search needs)
+    (λ c. search needs)
+    (λ c. search needs)
     returns
     returns-2
-    read-version-requires
-    enum-known-b
-    enum-told-2
+    (λ c κs. search needs)
+    (λ c. search needs)
+    (λ c. search needs)
     returns-3
     returns-4
-    start-requires
-    same-length
+    (λ c κs. search needs)
+    (λ c. search needs)
     returns-5)

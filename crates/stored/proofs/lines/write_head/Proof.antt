@@ -5,18 +5,6 @@ use borrow.Author.Needs.{needs}
 use Rattle.stored.proofs.lines.write_head.Statement.{statement}
 use Rattle.stored.proofs.lines.write_head.Tie as tie
 
-put-byte-requires : tie.Need-put-byte-requires
-put-byte-requires c κs = search needs
-
-last-requires : tie.Need-last-requires
-last-requires c κs = search needs
-
-put-version-requires : tie.Need-put-version-requires
-put-version-requires c κs = search needs
-
-same-length : tie.Need-same-length
-same-length c = search needs
-
 returns : tie.Need-returns
 returns c = let w = c .before .before in
     let b = w .before .before .before .before .before in
@@ -25,4 +13,4 @@ returns c = let w = c .before .before in
 
 pub write-head-spec : {M : Type 1} → statement M
 write-head-spec =
-    tie.close (tie.spec put-byte-requires last-requires put-version-requires same-length returns)
+    tie.close (tie.spec (λ c κs. search needs) (λ c κs. search needs) (λ c κs. search needs) (λ c. search needs) returns)

@@ -28,7 +28,7 @@ returns-4 : tie.Need-returns-4
 returns-4 c = next-held _ _ _ (found-held _ _ _ (subst (FoundIs _ _) (c .enum-told2 .given .1) (c .before .before .find .ensures)))
 
 returns-5 : tie.Need-returns-5
-returns-5 c = let h = room-is _ (room (c .before .before .before .before .before .before .before .before)) in
+returns-5 c = let h = room-is _ (room (c .before .before .before .before .before .before .before .before .before .before .before)) in
     next-yes _ _ _
     (record {
       long = h .0;

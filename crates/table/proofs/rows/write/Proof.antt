@@ -13,7 +13,7 @@ returns c = let v = c .before .before in
     let n₁ = n₂ .before .before .before .before in
     let s = n₁ .before .before .before .before .before in
     rw (v .copy-at2 .ensures, k .copy-at .ensures, n₄ .put644 .ensures, n₃ .put643 .ensures, n₂ .put642 .ensures, n₁ .put64 .ensures)
-    (written (s .args .row .now) _ _ (s .args .version) (s .args .deadline) (s .pre .0) (s .pre .1 .0) (s .pre .1 .1) (s .fits .version .fits) (s .fits .deadline .fits))
+    (written (s .args .row .now) _ _ (s .args .version .0) (s .args .deadline .0) (s .pre .0) (s .pre .1 .0) (s .pre .1 .1) (omega (arith, s .good .1 .1 .1 .0)) (omega (arith, s .good .1 .1 .1 .1 .0)))
 
 pub write-spec : {M : Type 1} → statement M
 write-spec =

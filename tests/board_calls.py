@@ -33,7 +33,7 @@ class Scene:
     def run(self, words):
         """Runs under kill_at over the old TABLE; gives the outcome and what kill_at told."""
         place(self.table, OLD)
-        outcome, told = traced(KILL_AT, [*words, PROGRAM, 'serve', self.requests, self.table])
+        outcome, told = traced(KILL_AT, [*words, BOARD, 'serve', self.requests, self.table])
         outcome.table, outcome.beside = read_file(self.table), beside(self.table)
         for name in outcome.beside:
             os.unlink(os.path.join(os.path.dirname(self.table), name))
@@ -58,7 +58,7 @@ def each_fails(scene, error):
         demand(outcome.err != b'' or scene.is_right(outcome) or is_word_lost(told), case,
                f'nothing was said, but TABLE is {short(outcome.table, 80)}, replies {short(outcome.out, 80)}, beside {outcome.beside}')
         demand(scene.replies.startswith(outcome.out), case, f'replies {short(outcome.out)}')
-        removed = int(told[0].split()[0]) in UNLINKS
+        removed = BOARD == PROGRAM and int(told[0].split()[0]) in UNLINKS  # the script removes what the program can't
         demand(STAND_IN or removed or outcome.beside == [], case, f'left beside TABLE: {outcome.beside}')
 
 

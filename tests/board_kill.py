@@ -1,6 +1,7 @@
 """Part 7: killed at every moment. After each kill TABLE is the old or the new table, byte for byte, and a further run over it works.
 
-The moments are all entries and exits of system calls, found by ptrace (tests/kill_at.c), and random times by the clock.
+The moments are all entries and exits of the program's system calls, found by ptrace (tests/kill_at.c), after which the script tells it and leaves nothing
+beside TABLE; and random times by the clock, at which the script itself is killed.
 """
 import os
 import random
@@ -42,8 +43,8 @@ class Scene:
         demand_calm(done, f'{self.name} with the second program')
         return done.out, read_file(path)
 
-    def command(self, program=BOARD):
-        return [program, 'serve', self.requests, self.table]
+    def command(self):
+        return [BOARD, 'serve', self.requests, self.table]
 
     def check(self, moment):
         """TABLE is old or new, and BOARD goes on from it and removes what lies beside."""
@@ -70,7 +71,7 @@ def moments(stops):
 def by_calls(scene):
     """Kills at the stops and once not at all; gives the number of kills, or nothing where ptrace is refused."""
     place(scene.table, scene.old)
-    done, told = traced(KILL_AT, ['kill', str(10 ** 9), *scene.command(PROGRAM)])
+    done, told = traced(KILL_AT, ['kill', str(10 ** 9), *scene.command()])
     if done.ended == REFUSED:
         return None
     demand(done.ended == ENDED, scene.name, f'kill_at ended with {done.ended}')
@@ -78,8 +79,10 @@ def by_calls(scene):
     chosen = moments(int(told[0]))
     for at in chosen:
         place(scene.table, scene.old)
-        done = start(KILL_AT, ['kill', str(at), *scene.command(PROGRAM)])
+        done = start(KILL_AT, ['kill', str(at), *scene.command()])
         demand(done.ended in (DISTURBED, ENDED), scene.name, f'kill_at ended with {done.ended}')
+        demand(BOARD == PROGRAM or done.ended == ENDED or b'signal 9 ended the program' in done.err and beside(scene.table) == [], scene.name,
+               f'killed at stop {at}: said {short(done.err)}, beside TABLE {beside(scene.table)}')
         scene.check(f'at stop {at} (kill_at kill {at} board serve REQUESTS TABLE)')
     demand(scene.seen[scene.new] >= 2 and scene.seen[scene.old] >= 1, scene.name, 'old and new were not both seen')
     return len(chosen)

@@ -12,8 +12,10 @@ import tempfile
 
 TOP = os.path.dirname(os.path.dirname(os.path.abspath(__file__)))
 BOARD = os.path.abspath(os.environ.get('BOARD', os.path.join(TOP, 'board')))
-# The program below the script ./board, where system calls are counted or memory is measured.
+# The program below the script ./board, whose system calls are counted (tests/kill_at.c) and whose memory is measured.
 PROGRAM = os.path.join(TOP, 'target/bin/board') if BOARD == os.path.join(TOP, 'board') else BOARD
+if BOARD != PROGRAM:
+    os.environ['PROGRAM'] = os.path.realpath(PROGRAM)
 REFERENCE = os.path.join(TOP, 'reference/target/release/reference')
 LONG = sys.argv[1:2] == ['long']
 # The second program may stand in for BOARD. Then the demands that it does not meet by design are left out.
@@ -111,15 +113,15 @@ def demand(good, case, why):
 
 
 def demand_sentence(outcome, case):
-    """Something was said in words on standard error, and the run was not ended by a signal."""
-    demand(outcome.ended >= 0, case, f'ended by signal {-outcome.ended}')
+    """Something was said in words on standard error, and the status tells it. The program without its script has no status."""
+    demand(outcome.ended == 1 or BOARD == PROGRAM and outcome.ended == 0, case, f'ended with {outcome.ended}')
     words = outcome.err.decode('utf-8', 'replace').split()
     demand(len(words) >= 3 and outcome.err.endswith(b'\n'), case, f'no sentence on standard error: {short(outcome.err)}')
 
 
 def demand_calm(outcome, case):
-    """Nothing was said on standard error, and the run was not ended by a signal."""
-    demand(outcome.ended >= 0, case, f'ended by signal {-outcome.ended}')
+    """Nothing was said on standard error, and the status is 0."""
+    demand(outcome.ended == 0, case, f'ended with {outcome.ended}')
     demand(outcome.err == b'', case, f'standard error: {short(outcome.err)}')
 
 

@@ -1,4 +1,5 @@
 """Part 10: the script ./board around the program: signals, runs at once, standard input, rights, links, and building."""
+import fcntl
 import os
 import re
 import shutil
@@ -7,6 +8,7 @@ import socket
 import stat
 import subprocess
 import tempfile
+import termios
 
 from board_errors import NOBODY, Folder, copy_of_board
 from board_frames import GET, PUT, entry_line, head_line, key_name, request
@@ -48,11 +50,10 @@ def said(outcome, words, case):
 class Open:
     """A run that has served one line from a pipe and waits for the next: its TABLE is loaded, and the file beside it is there."""
 
-    def __init__(self, folder, **options):
-        self.run = subprocess.Popen([BOARD, 'serve', '-', 'table'], cwd=folder.at, stdin=subprocess.PIPE, stdout=subprocess.PIPE,
-                                    stderr=subprocess.PIPE, **options)
-        self.run.stdin.write(LINE)
-        self.run.stdin.flush()
+    def __init__(self, folder, way_in=None, **options):
+        options.setdefault('stdin', subprocess.PIPE)
+        self.run = subprocess.Popen([BOARD, 'serve', '-', 'table'], cwd=folder.at, stdout=subprocess.PIPE, stderr=subprocess.PIPE, **options)
+        os.write(way_in or self.run.stdin.fileno(), LINE)
         self.reply = self.run.stdout.readline()
         demand(self.reply == REPLY, 'a line from a pipe', f'the reply is {short(self.reply)} before the next line is there')
 
@@ -78,25 +79,53 @@ def signals(bench):
         err, ended = one.end()
         demand((err, ended) == (b'', -number), case, f'said {short(err)}, ended with {ended}')
         demand(read_file(folder.table) == OLD, case, 'TABLE was stored')
-    # What the last one left goes with the next run, and nothing else does.
+    # What the last one left goes when the next run has started, and nothing else does.
     others = ['table.new', 'table.new-', 'table.new-1', 'table.new-0123456789ABCDEF', 'table.new-0123456789abcdef0', 'other.new-0123456789abcdef']
     for name in others + ['table.new-0123456789abcdef']:
         write_file(os.path.join(folder.at, name), b'left')
-    outcome = start(BOARD, ['serve', 'requests', 'table'], cwd=folder.at)
-    demand((outcome.out, outcome.err, outcome.ended) == (REPLY, b'', 0), 'the run after a kill', f'said {short(outcome.err)}')
+    one = Open(folder)
+    left = sorted(set(os.listdir(folder.at)) - {'requests', 'table', *others})
+    demand(len(left) == 1 and left[0] != 'table.new-0123456789abcdef', 'the run after a kill', f'beside TABLE {left}')
+    demand(one.end() == (b'', 0), 'the run after a kill', 'it fails')
     left = sorted(set(os.listdir(folder.at)) - {'requests', 'table'})
     demand(left == sorted(others), 'the run after a kill', f'beside TABLE {left}')
     return 5
+
+
+def control_c(bench):
+    """Control-C at a terminal, which reaches script and program."""
+    folder = folder_of(bench, 'terminal')
+    try:
+        ours, theirs = os.openpty()
+    except OSError:
+        return 0  # there are no terminals here
+    one = Open(folder, ours, stdin=theirs, start_new_session=True, preexec_fn=lambda: fcntl.ioctl(0, termios.TIOCSCTTY, 0))
+    os.write(ours, b'\x03')
+    one.run.wait(timeout=60)
+    demand(beside(folder.table) == [] and read_file(folder.table) == OLD, 'control-C', f'beside TABLE {beside(folder.table)}')
+    demand(one.end() == (b'', -signal.SIGINT), 'control-C', f'ended with {one.run.returncode}')
+    os.close(ours)
+    os.close(theirs)
+    return 1
+
+
+def children_of(parent):
+    for child in filter(str.isdigit, os.listdir('/proc')):
+        try:
+            stat_line = read_file(f'/proc/{child}/stat')
+        except OSError:
+            continue  # it has ended meanwhile
+        if stat_line and int(stat_line.rsplit(b')', 1)[1].split()[1]) == parent:
+            yield int(child)
 
 
 def program_killed(bench):
     """The program is killed alone: the script says so, and removes what it left."""
     folder = folder_of(bench, 'program')
     one = Open(folder)
-    with open(f'/proc/{one.run.pid}/task/{one.run.pid}/children', encoding='ascii') as children:
-        for child in children.read().split():
-            if os.readlink(f'/proc/{child}/exe') == os.path.realpath(PROGRAM):
-                os.kill(int(child), signal.SIGKILL)
+    children = [child for child in children_of(one.run.pid) if os.readlink(f'/proc/{child}/exe') == os.path.realpath(PROGRAM)]
+    demand(len(children) == 1, 'the program killed', f'{len(children)} programs run')
+    os.kill(children[0], signal.SIGKILL)
     one.run.wait(timeout=60)
     demand(beside(folder.table) == [] and read_file(folder.table) == OLD, 'the program killed', f'beside TABLE {beside(folder.table)}')
     err, ended = one.end()
@@ -136,7 +165,7 @@ def at_once(bench):
 
 
 def standard_input(bench):
-    """`-` is standard input: a pipe, a file from where it stands, and a socket."""
+    """`-` is standard input: a pipe, a file from where it stands, a socket, and one that can't be read, where nothing is stored."""
     folder = folder_of(bench, 'input')
     write_file(folder.requests, b'passed over\n' + PING)
     with open(folder.requests, 'rb', buffering=0) as file:
@@ -149,7 +178,10 @@ def standard_input(bench):
         ours.shutdown(socket.SHUT_WR)
         outcome = start(BOARD, ['serve', '-'], stdin=theirs)
         demand((outcome.out, outcome.err, outcome.ended) == (PONG, b'', 0), 'a socket as standard input', f'{short(outcome.out)} {short(outcome.err)}')
-    return 3
+    with open(os.path.join(folder.at, 'unreadable'), 'wb') as unreadable:
+        said(start(BOARD, ['serve', '-', 'table'], cwd=folder.at, stdin=unreadable), "can't read on in standard input", 'reading fails')
+    demand(read_file(folder.table) == OLD and beside(folder.table) == [], 'reading fails', f'beside TABLE {beside(folder.table)}')
+    return 4
 
 
 def not_files(bench):
@@ -197,6 +229,14 @@ def rights(bench):
             demand((private, now.st_uid, now.st_gid, mode_of(folder.table)) == (0o600, NOBODY, NOBODY, mode), 'another owner',
                    f'{private:o} beside, then {now.st_uid}:{now.st_gid} {mode_of(folder.table):o}')
             count += 1
+        # A file in such a folder gets the folder's group, which may not read this table.
+        os.chown(folder.table, 0, 0)
+        os.chown(folder.at, 0, NOBODY)
+        os.chmod(folder.at, 0o2755)
+        outcome = start(BOARD, ['serve', 'requests', 'table'], cwd=folder.at)
+        now = os.stat(folder.table)
+        demand(outcome.err == b'' and (now.st_gid, mode_of(folder.table)) == (0, mode), 'a folder with a group', f'{now.st_gid} {mode_of(folder.table):o}')
+        count += 1
     return count + 1
 
 
@@ -257,12 +297,13 @@ def without_building(bench):
 def building(bench):
     """The build tells each crate and how many there are; a build that fails, and a clone that may not be written to, are told in a sentence."""
     board, at = clone_of(bench, 'built')
-    write_file(os.path.join(at, 'crates.txt'), b'wire:\nhex: wire\nlone: wire\nboard: hex io\n')
+    write_file(os.path.join(at, 'crates.txt'), b'wire:\nhex: wire\nlone: wire\nboard: hex wire io\n')
+    os.makedirs(os.path.join(bench.top, 'elsewhere/built'))
     write_file(os.path.join(at, 'ping'), PING)
     lines = 'rt: wire proved (unchanged since it was last proved)\nlogic=proved\nrt: hex proved (3 s)\nrt: board proved (4 s)\n'
     write_file(os.path.join(at, 'lines'), lines.encode())
     env = toolchain(at, f'[ "$PWD:$*" = "{at}:check board" ] && cat lines && mkdir -p target/bin && cp {PROGRAM} target/bin/board\n')
-    outcome = start('bash', ['-c', 'cd / && CDPATH=/: exec "$0" serve "$1"', board, os.path.join(at, 'ping')], env=env)
+    outcome = start('bash', ['-c', 'CDPATH=$PWD/elsewhere: exec bash built/board serve built/ping'], cwd=bench.top, env=env)
     wanted = ['the program is proved and built first, about five minutes', '1 of 3: wire proved (unchanged since it was last proved)',
               '2 of 3: hex proved (3 s)', '3 of 3: board proved (4 s)']
     demand((outcome.out, outcome.err.decode(), outcome.ended) == (PONG, ''.join(f'board: {line}\n' for line in wanted), 0), 'the first build',
@@ -319,7 +360,7 @@ def part():
     if BOARD == PROGRAM:
         return 'BOARD is not the script, so nothing was tried'
     with Bench() as bench:
-        told = [('signals', signals(bench) + program_killed(bench)), ('closed pipes', reader_gone(bench)), ('runs at once', at_once(bench)),
+        told = [('signals', signals(bench) + control_c(bench) + program_killed(bench)), ('closed pipes', reader_gone(bench)), ('runs at once', at_once(bench)),
                 ('standard inputs', standard_input(bench)), ('files that are none', not_files(bench)), ('rights', rights(bench)),
                 ('ways to call it', ways_to_it(bench)), ('calls without building', without_building(bench)),
                 ('builds', building(bench) + unwritable(bench)), ('commands of README', documents(bench))]

@@ -1,13 +1,15 @@
-/* Runs a command under ptrace and disturbs it at its system calls. A stop is the entry or the exit of a call; the first call behind exec is 1.
+/* Runs a command under ptrace and disturbs its program at its system calls. A stop is the entry or the exit of a call; the first call behind exec is 1.
+   The program is the command itself, or, where the environment names a PROGRAM, the first of its processes that executes that file; all others run
+   undisturbed to their end.
 
    kill_at kill N COMMAND ..         kills it at stop N; if it ends before, the number of its stops goes to file descriptor 9
    kill_at fail N ERRNO COMMAND ..   lets the N-th of its calls on files fail with ERRNO, without being made
    kill_at short N COMMAND ..        lets no read and no write pass more than N bytes
    kill_at list COMMAND ..           prints each call to file descriptor 9: number, first two arguments, result
 
-   fail and short begin where the command first opens a file that is one of its own words, so that the loading of the program is left alone.
+   fail and short begin where the program first opens a file that is one of its own words, so that the loading of the program is left alone.
 
-   It exits with 0 if it disturbed the command, 3 if the command ended before that, and 2 if ptrace is refused. */
+   It exits with 0 if it disturbed the program, 3 if that ended before, and 2 if ptrace is refused. */
 #include <errno.h>
 #include <signal.h>
 #include <stdio.h>
@@ -29,6 +31,7 @@ int main(void) {
 #else
 
 static FILE *list;
+static pid_t first; /* the command's own process; 0 once it has ended */
 
 /* The calls that a program makes on files. */
 static int on_files(long call) {
@@ -63,29 +66,77 @@ static int opens_own(pid_t child, char **words, struct user_regs_struct *registe
     return 0;
 }
 
-/* Goes on to the next stop at a call; 0 if the command ended. */
+/* Waits for a process to stop or to end. */
+static pid_t wait_any(int *status) {
+    pid_t one = waitpid(-1, status, __WALL);
+    if (one == first && !WIFSTOPPED(*status)) first = 0;
+    return one;
+}
+
+/* The signal that a process stopped at; 0 where it stopped for the tracer alone, as a process does that begins. */
+static int signal_of(int status) {
+    int at = WSTOPSIG(status);
+    return status >> 16 || at == SIGSTOP || at == SIGTRAP ? 0 : at;
+}
+
+/* Goes on to the program's next stop at a call; 0 if it ended. */
 static int next_stop(pid_t child) {
-    int deliver = 0, status;
+    int status;
+    if (ptrace(PTRACE_SYSCALL, child, 0, 0) < 0) return 0;
     for (;;) {
-        if (ptrace(PTRACE_SYSCALL, child, 0, deliver) < 0) return 0;
-        if (waitpid(child, &status, 0) != child || WIFEXITED(status) || WIFSIGNALED(status)) return 0;
-        if (WSTOPSIG(status) == (SIGTRAP | 0x80)) return 1;
-        deliver = WSTOPSIG(status);
+        pid_t one = wait_any(&status);
+        if (one < 0) return 0;
+        if (!WIFSTOPPED(status)) {
+            if (one == child) return 0;
+        } else if (one != child) {
+            ptrace(PTRACE_CONT, one, 0, signal_of(status));
+        } else if (WSTOPSIG(status) == (SIGTRAP | 0x80)) {
+            return 1;
+        } else if (ptrace(PTRACE_SYSCALL, child, 0, signal_of(status)) < 0) {
+            return 0;
+        }
     }
 }
 
-static void kill_child(pid_t child) {
+/* Lets all processes run to their end. */
+static void finish(void) {
     int status;
-    kill(child, SIGKILL);
-    while (waitpid(child, &status, 0) == child && !WIFEXITED(status) && !WIFSIGNALED(status)) {
+    while (first) {
+        pid_t one = wait_any(&status);
+        if (one < 0) return;
+        if (WIFSTOPPED(status)) ptrace(PTRACE_CONT, one, 0, signal_of(status));
     }
+}
+
+/* Whether a process executes this file. */
+static int executes(pid_t one, const char *program) {
+    char link[64], path[4096];
+    snprintf(link, sizeof link, "/proc/%d/exe", (int)one);
+    ssize_t n = readlink(link, path, sizeof path - 1);
+    if (n < 0) return 0;
+    path[n] = 0;
+    return !strcmp(path, program);
+}
+
+/* Goes on until a process executes this file, and holds it right behind its exec; -1 if all ended before. */
+static pid_t find(const char *program) {
+    int status;
+    ptrace(PTRACE_CONT, first, 0, 0);
+    while (first) {
+        pid_t one = wait_any(&status);
+        if (one < 0) return -1;
+        if (!WIFSTOPPED(status)) continue;
+        if (status >> 8 == (SIGTRAP | PTRACE_EVENT_EXEC << 8) && executes(one, program)) return next_stop(one) ? one : -1;
+        ptrace(PTRACE_CONT, one, 0, signal_of(status));
+    }
+    return -1;
 }
 
 static int kill_at(pid_t child, long at) {
     long stop = 0;
     while (next_stop(child)) {
         if (++stop == at) {
-            kill_child(child);
+            kill(child, SIGKILL);
             return DISTURBED;
         }
     }
@@ -155,9 +206,20 @@ static pid_t start(char **words) {
         execv(words[0], words);
         _exit(REFUSED);
     }
+    first = child;
     if (child < 0 || waitpid(child, &status, 0) != child || !WIFSTOPPED(status)) return -1;
-    if (ptrace(PTRACE_SETOPTIONS, child, 0, PTRACE_O_TRACESYSGOOD | PTRACE_O_EXITKILL) < 0) return -1;
-    return child;
+    long options = PTRACE_O_TRACESYSGOOD | PTRACE_O_EXITKILL;
+    const char *program = getenv("PROGRAM");
+    if (program) options |= PTRACE_O_TRACEFORK | PTRACE_O_TRACEVFORK | PTRACE_O_TRACECLONE | PTRACE_O_TRACEEXEC;
+    if (ptrace(PTRACE_SETOPTIONS, child, 0, options) < 0) return -1;
+    return program ? find(program) : child;
+}
+
+static int disturb(pid_t child, char *mode, char **words, char **command) {
+    if (!strcmp(mode, "kill")) return kill_at(child, atol(words[0]));
+    if (!strcmp(mode, "fail")) return fail_at(child, command, atol(words[0]), atol(words[1]));
+    if (!strcmp(mode, "short")) return shorten(child, command, (unsigned long long)atol(words[0]));
+    return list_calls(child);
 }
 
 int main(int count, char **words) {
@@ -168,9 +230,8 @@ int main(int count, char **words) {
     list = fdopen(9, "w");
     pid_t child = start(words + before);
     if (child < 0) return REFUSED;
-    if (!strcmp(mode, "kill")) return kill_at(child, atol(words[2]));
-    if (!strcmp(mode, "fail")) return fail_at(child, words + before, atol(words[2]), atol(words[3]));
-    if (!strcmp(mode, "short")) return shorten(child, words + before, (unsigned long long)atol(words[2]));
-    return list_calls(child);
+    int done = disturb(child, mode, words + 2, words + before);
+    finish();
+    return done;
 }
 #endif

@@ -22,12 +22,15 @@ def errors(lines):
 
 
 def fits(path):
-    """Whether the first thing that failed is a fact: in a proof file, or in a proof that the prover searches for by itself."""
+    """Whether the first thing that failed is a fact: in a proof file, or in a proof that the prover searches for by itself. Where the prover refused
+    nothing, rt itself tells it."""
     try:
         with open(path, encoding='utf-8', errors='replace') as log:
             lines = log.read().splitlines()
     except FileNotFoundError:
         return False
+    if not any(line.startswith('logic=not-proved') for line in lines):
+        return True
     first = next((error for error in errors(lines) if FOLLOWS not in error), None)
     if first is None:
         return any(re.search(r'^note: .*: it is not proved that ', line) for line in lines)

@@ -1,0 +1,132 @@
+/* The library of Feyqoolad for C: a Hot Rod cache server for protocols 1.0, 1.1 and 1.2, and the reader and the writer of its messages.
+
+   `rt staticlib exports` proves the library and writes target/staticlib/libexports.a, for x86-64 Linux:
+
+       gcc -I include program.c target/staticlib/libexports.a
+
+   A part of memory goes over as a pointer, which is not NULL, and a length. A part that a function may write to overlaps no other part of the call. Each
+   function takes any bytes and any numbers. It keeps no memory of its own between calls, so threads may call it on parts of their own.
+
+   Codes. A function that answers a number answers
+
+       0               more bytes are needed
+       1 to 17         refused; the numbers are those of enum fq_refusal
+       FQ_DONE + n     done, with n bytes read or written; n is 0 where a function says so
+
+   and a refused call changes neither a table nor a buffer, save for the error reply where fq_serve or fq_serve_stream sends one.
+
+   Numbers told. `answer` is a list that the function fills from its front where it is done; fq_serve and fq_serve_stream always do. A list that is too
+   short is left as it was: the constants FQ_.._TOLD say how long it has to be. Starts and lengths that are told are those of parts of the input. */
+#ifndef FEYQOOLAD_H
+#define FEYQOOLAD_H
+
+#include <stdbool.h>
+#include <stddef.h>
+#include <stdint.h>
+
+#ifdef __cplusplus
+extern "C" {
+#endif
+
+#define FQ_DONE 256
+
+#define FQ_TABLE_SIZE 45072     /* bytes of a table */
+#define FQ_TABLE_KEYS 128       /* keys that a table holds at most */
+#define FQ_NAME_LIMIT 32        /* bytes of a cache name */
+#define FQ_KEY_LIMIT 64         /* bytes of a key */
+#define FQ_VALUE_LIMIT 256      /* bytes of a value */
+#define FQ_TEXT_LIMIT 64        /* bytes of an error text */
+#define FQ_LONGEST_REQUEST 394  /* bytes of a request */
+#define FQ_LONGEST_REPLY 279    /* bytes of a reply */
+#define FQ_REPLY_ROOM 512       /* least room for the reply of a call */
+#define FQ_LINES_ROOM 559       /* least room for the lines that fq_serve_lines gives */
+#define FQ_LONGEST_LINE 1024    /* characters of a line of requests */
+#define FQ_LONGEST_FILE 86931   /* bytes of a stored table */
+
+#define FQ_REQUEST_TOLD 16      /* numbers that fq_read_request tells */
+#define FQ_REPLY_TOLD 9         /* fq_read_reply */
+#define FQ_SERVE_TOLD 2         /* fq_serve */
+#define FQ_STREAM_TOLD 3        /* fq_serve_stream */
+#define FQ_LINES_TOLD 3         /* fq_serve_lines */
+#define FQ_REQUEST_GIVEN 9      /* numbers that fq_write_request is given */
+#define FQ_REPLY_GIVEN 4        /* fq_write_reply */
+
+enum fq_refusal {
+    FQ_BAD_MAGIC = 1,           /* the first byte is not the magic */
+    FQ_BAD_MESSAGE_ID = 2,      /* the message id is not a shortest vLong */
+    FQ_BAD_VERSION = 3,         /* the version is not served */
+    FQ_BAD_COMMAND = 4,         /* the operation is not served; in a reply, it is not the awaited one nor the error reply's */
+    FQ_BAD_NUMBER = 5,          /* a vInt is too large or not shortest */
+    FQ_TOO_LONG = 6,            /* a length is above its limit */
+    FQ_BAD_TEXT = 7,            /* a text is not UTF-8 */
+    FQ_BAD_FIELD = 8,           /* flags, intelligence, transaction type, status or marker are not allowed */
+    FQ_NO_SUCH_CACHE = 9,       /* the cache name is not empty */
+    FQ_FULL = 10,               /* the write would add a key, and FQ_TABLE_KEYS are held */
+    FQ_NO_VERSIONS_LEFT = 11,   /* the write would take effect, and no version is left */
+    FQ_NO_ROOM = 12,            /* the room lent is too small */
+    FQ_NO_TABLE = 13,           /* the memory given is not a table */
+    FQ_BAD_LINE = 14,           /* a line is not of the form; only in what fq_serve_lines writes */
+    FQ_NOT_ONE_FRAME = 15,      /* a line is not exactly one request; only in what fq_serve_lines writes */
+    FQ_BAD_MESSAGE = 16,        /* a message to be written breaks a rule */
+    FQ_BAD_FILE = 17            /* not a stored table */
+};
+
+/* Messages. */
+
+/* Reads the request at the front of the input. Told: bytes read, id, version, operation, flags, intelligence, topology, lifespan, max idle, entry
+   version, and start and length of name, key and value. */
+uint64_t fq_read_request(const uint8_t *input, size_t input_len, uint64_t *answer, size_t answer_len);
+
+/* Reads the reply at the front of the input, to a request with operation `op`, and with flag 0x0001 where `flag`. Told: bytes read, id, operation,
+   status, entry version, and start and length of value and error text. */
+uint64_t fq_read_reply(const uint8_t *input, size_t input_len, uint8_t op, bool flag, uint64_t *answer, size_t answer_len);
+
+/* Writes a request at the front of `out`: 16, then 12. Given: id, version, operation, flags, intelligence, topology, lifespan, max idle, entry version. A
+   field that the operation does not send is 0 or empty. */
+uint64_t fq_write_request(uint8_t *out, size_t out_len, const uint64_t *numbers, size_t numbers_len, const uint8_t *name, size_t name_len,
+                          const uint8_t *key, size_t key_len, const uint8_t *value, size_t value_len);
+
+/* Writes a reply at the front of `out`, to a request with operation `op`, and with flag 0x0001 where `flag`: 16, then 12. Given: id, operation (the
+   request's plus 1, or 0x50), status, entry version. A field that the status does not send is 0 or empty. */
+uint64_t fq_write_reply(uint8_t *out, size_t out_len, uint8_t op, bool flag, const uint64_t *numbers, size_t numbers_len, const uint8_t *value,
+                        size_t value_len, const uint8_t *text, size_t text_len);
+
+/* The table: FQ_TABLE_SIZE bytes of the caller's, which only these functions write. */
+
+/* Whether the memory is a table. */
+bool fq_is_table(const uint8_t *table, size_t table_len);
+
+/* Makes the memory a fresh table: FQ_DONE, or 13 where it has not FQ_TABLE_SIZE bytes. */
+uint64_t fq_make(uint8_t *table, size_t table_len);
+
+/* Serves the request at the front of the input, at this second, and writes the reply at the front of `reply`, which has FQ_REPLY_ROOM bytes or more.
+   FQ_DONE is served. Told: bytes taken of the input, and bytes of the reply. Nothing is taken where more is needed and at 1 to 8, 12 and 13; a stream
+   from a client ends after 1 to 8. At 9 to 11 the request is taken. At 1 to 11 the reply is the error reply. */
+uint64_t fq_serve(const uint8_t *input, size_t input_len, uint8_t *table, size_t table_len, uint32_t second, uint8_t *reply, size_t reply_len,
+                  uint64_t *answer, size_t answer_len);
+
+/* Serves the requests of the input one after the other, and answers as the last call does: 0 where what is left is no whole request, or nothing, 1 to 8
+   where the stream ends, 12 where less than FQ_REPLY_ROOM bytes of `reply` are left, or 13. The table is checked once. Told: bytes taken, bytes of
+   the replies, and how many calls there were, the last one among them. */
+uint64_t fq_serve_stream(const uint8_t *input, size_t input_len, uint8_t *table, size_t table_len, uint32_t second, uint8_t *reply, size_t reply_len,
+                         uint64_t *answer, size_t answer_len);
+
+/* Files. */
+
+/* Serves request lines, as `board` does: the lines of a piece of a file, as far as `out`, FQ_LINES_ROOM bytes or more, has room for what they give.
+   FQ_DONE is served; 12 or 13, and then nothing is told. Told: bytes taken, bytes given, and 1 where the rest of a line is to be passed over. The next
+   call gets what was not taken and what was read behind it, and that 1 or 0 as `passing`, which is false at first. Where nothing is taken, more of the
+   file is needed; at its end `last` is true, and where nothing is taken then, all is served. */
+uint64_t fq_serve_lines(const uint8_t *input, size_t input_len, uint8_t *table, size_t table_len, uint8_t *out, size_t out_len, bool passing, bool last,
+                        uint64_t *answer, size_t answer_len);
+
+/* Writes the stored file of a table at the front of `out`: 13, then 12, or FQ_DONE and its length, FQ_LONGEST_FILE at most. */
+uint64_t fq_store(const uint8_t *table, size_t table_len, uint8_t *out, size_t out_len);
+
+/* Loads a stored file into `table`, whatever that held: FQ_DONE, or 17, and then the table stays. */
+uint64_t fq_load(const uint8_t *file, size_t file_len, uint8_t *table, size_t table_len);
+
+#ifdef __cplusplus
+}
+#endif
+#endif

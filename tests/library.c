@@ -1,0 +1,189 @@
+/* library REQUESTS REPLIES TABLE: serves the lines of REQUESTS with the library for C in each way that it has, and compares what comes with the files
+   REPLIES and TABLE. It ends with status 1 at the first difference, which it tells by its line here. */
+#include "feyqoolad.h"
+
+#include <stdio.h>
+#include <stdlib.h>
+#include <string.h>
+
+#define SAME(made, wanted) same(__LINE__, (uint64_t)(made), (uint64_t)(wanted))
+
+static void fail(int line, const char *words) {
+    printf("library: tests/library.c, line %d: %s\n", line, words);
+    exit(1);
+}
+
+static void same(int line, uint64_t made, uint64_t wanted) {
+    char words[80];
+    if (made == wanted) return;
+    snprintf(words, sizeof words, "%llu, wanted %llu", (unsigned long long)made, (unsigned long long)wanted);
+    fail(line, words);
+}
+
+static void same_bytes(int line, const void *made, size_t made_len, const void *wanted, size_t wanted_len) {
+    if (made_len != wanted_len || memcmp(made, wanted, made_len) != 0) fail(line, "other bytes");
+}
+
+typedef struct {
+    uint8_t at[1 << 17];
+    size_t len;
+} Bytes;
+
+static void read_file(const char *path, Bytes *bytes) {
+    FILE *file = fopen(path, "rb");
+    if (!file) fail(__LINE__, path);
+    bytes->len = fread(bytes->at, 1, sizeof bytes->at, file);
+    fclose(file);
+}
+
+static uint8_t digit(uint8_t c) {
+    return (uint8_t)(c <= '9' ? c - '0' : c - 'a' + 10);
+}
+
+/* The bytes of the digits up to the line end. */
+static size_t from_digits(const uint8_t *text, uint8_t *out) {
+    size_t n = 0;
+    for (; text[2 * n] != '\n'; n++) out[n] = (uint8_t)(digit(text[2 * n]) * 16 + digit(text[2 * n + 1]));
+    return n;
+}
+
+static const uint8_t *line_behind(const uint8_t *text) {
+    return (const uint8_t *)strchr((const char *)text, '\n') + 1;
+}
+
+static Bytes requests, replies, stored, out;
+static uint8_t table[FQ_TABLE_SIZE], other[FQ_TABLE_SIZE], reply[4 * FQ_REPLY_ROOM];
+static uint64_t answer[FQ_REQUEST_TOLD];
+
+/* Each request by fq_serve, with its own second; the replies read as the paper has them. */
+static void by_calls(void) {
+    const uint64_t codes[] = {FQ_DONE, FQ_DONE, FQ_DONE, FQ_DONE, FQ_BAD_MAGIC};
+    const uint8_t *line = requests.at, *wanted = replies.at;
+    uint8_t frame[FQ_LONGEST_REQUEST], bytes[FQ_LONGEST_REPLY];
+    SAME(fq_make(table, sizeof table), FQ_DONE);
+    for (size_t at = 0; at < 5; at++, line = line_behind(line), wanted = line_behind(wanted)) {
+        size_t n = from_digits(line + 9, frame), m = from_digits(wanted, bytes);
+        SAME(fq_serve(frame, n, table, sizeof table, (uint32_t)strtoul((const char *)line, NULL, 16), reply, FQ_REPLY_ROOM, answer, FQ_SERVE_TOLD),
+             codes[at]);
+        SAME(answer[0], codes[at] == FQ_DONE ? n : 0);
+        same_bytes(__LINE__, reply, answer[1], bytes, m);
+    }
+    SAME(fq_is_table(table, sizeof table), 1);
+}
+
+/* All lines by fq_serve_lines, as one file and byte by byte. */
+static void by_lines(size_t piece) {
+    size_t from = 0, held = 0;
+    bool passing = false;
+    out.len = 0;
+    SAME(fq_make(other, sizeof other), FQ_DONE);
+    for (;;) {
+        bool last = held == requests.len;
+        SAME(fq_serve_lines(requests.at + from, held - from, other, sizeof other, out.at + out.len, sizeof out.at - out.len, passing, last, answer,
+                            FQ_LINES_TOLD), FQ_DONE);
+        from += answer[0];
+        out.len += answer[1];
+        passing = answer[2] == 1;
+        if (answer[0] != 0) continue;
+        if (last) break;
+        held = held + piece < requests.len ? held + piece : requests.len;
+    }
+    same_bytes(__LINE__, out.at, out.len, replies.at, replies.len);
+    SAME(fq_store(other, sizeof other, out.at, sizeof out.at), FQ_DONE + stored.len);
+    same_bytes(__LINE__, out.at, stored.len, stored.at, stored.len);
+}
+
+/* The stored file of the table that by_calls left, and the table of the file. */
+static void by_file(void) {
+    static const uint8_t get[] = {0xa0, 0x01, 0x0a, 0x03, 0, 0, 1, 0, 0, 2, 'b', '1'}, got[] = {0xa1, 0x01, 0x04, 0, 0, 3, 'I', 'd', 'a'};
+    SAME(fq_store(table, sizeof table, out.at, stored.len - 1), FQ_NO_ROOM);
+    SAME(fq_store(table, sizeof table, out.at, FQ_LONGEST_FILE), FQ_DONE + stored.len);
+    same_bytes(__LINE__, out.at, stored.len, stored.at, stored.len);
+    memset(other, 0xff, sizeof other);
+    SAME(fq_is_table(other, sizeof other), 0);
+    SAME(fq_store(other, sizeof other, out.at, sizeof out.at), FQ_NO_TABLE);
+    SAME(fq_load(stored.at, stored.len - 1, other, sizeof other), FQ_BAD_FILE);
+    SAME(other[0], 0xff);
+    SAME(fq_load(stored.at, stored.len, other, sizeof other), FQ_DONE);
+    SAME(fq_serve(get, sizeof get, other, sizeof other, 8, reply, FQ_REPLY_ROOM, answer, FQ_SERVE_TOLD), FQ_DONE);
+    same_bytes(__LINE__, reply, answer[1], got, sizeof got);
+}
+
+/* The longest request and the longest reply, written and read back. */
+static void messages(void) {
+    static uint8_t name[FQ_NAME_LIMIT], key[FQ_KEY_LIMIT], value[FQ_VALUE_LIMIT], frame[FQ_LONGEST_REQUEST + 1];
+    const uint64_t most = UINT64_MAX / 2, number = UINT32_MAX, given[FQ_REQUEST_GIVEN] = {most, 12, 9, 7, 3, number, number, number, UINT64_MAX};
+    const uint64_t told[FQ_REPLY_GIVEN] = {most, 0x12, 0, UINT64_MAX};
+    const size_t name_at = 13, key_at = name_at + FQ_NAME_LIMIT + 9, value_at = FQ_LONGEST_REQUEST - FQ_VALUE_LIMIT;
+    memset(name, 'n', sizeof name);
+    memset(key, 'k', sizeof key);
+    memset(value, 'v', sizeof value);
+    SAME(fq_write_request(frame, FQ_LONGEST_REQUEST - 1, given, FQ_REQUEST_GIVEN, name, sizeof name, key, sizeof key, value, sizeof value), FQ_NO_ROOM);
+    SAME(fq_write_request(frame, sizeof frame, given, FQ_REQUEST_GIVEN, name, sizeof name, key, sizeof key, value, sizeof value),
+         FQ_DONE + FQ_LONGEST_REQUEST);
+    SAME(fq_read_request(frame, FQ_LONGEST_REQUEST - 1, answer, FQ_REQUEST_TOLD), 0);
+    SAME(fq_read_request(frame, sizeof frame, answer, FQ_REQUEST_TOLD), FQ_DONE + FQ_LONGEST_REQUEST);
+    SAME(answer[0], FQ_LONGEST_REQUEST);
+    same_bytes(__LINE__, answer + 1, sizeof given, given, sizeof given);
+    SAME(answer[10], name_at);
+    SAME(answer[12], key_at);
+    SAME(answer[14], value_at);
+    same_bytes(__LINE__, frame + answer[10], answer[11], name, sizeof name);
+    same_bytes(__LINE__, frame + answer[12], answer[13], key, sizeof key);
+    same_bytes(__LINE__, frame + answer[14], answer[15], value, sizeof value);
+    SAME(fq_write_reply(frame, sizeof frame, 0x11, false, told, FQ_REPLY_GIVEN, value, sizeof value, name, 0), FQ_DONE + FQ_LONGEST_REPLY);
+    SAME(fq_read_reply(frame, sizeof frame, 0x11, false, answer, FQ_REPLY_TOLD), FQ_DONE + FQ_LONGEST_REPLY);
+    same_bytes(__LINE__, answer + 1, sizeof told, told, sizeof told);
+    same_bytes(__LINE__, frame + answer[5], answer[6], value, sizeof value);
+    SAME(fq_read_reply(frame, sizeof frame, 0x10, false, answer, FQ_REPLY_TOLD), FQ_BAD_COMMAND);
+    SAME(fq_write_request(frame, sizeof frame, given, FQ_REQUEST_GIVEN - 1, name, 0, key, 0, value, 0), FQ_BAD_MESSAGE);
+}
+
+/* A stream of requests: a put, a request to another cache, a byte that begins none; and room that is too small. */
+static void stream(void) {
+    static const uint8_t row[] = {0xa0, 0x02, 0x0a, 0x01, 0,    0, 1, 0,    0,    2,    'b', '1', 0, 0, 1, 'x', /* put */
+                                  0xa0, 0x03, 0x0a, 0x17, 1,    'c', 0, 1, 0, 0,                                /* ping, cache c */
+                                  0xa1};
+    SAME(fq_make(other, sizeof other - 1), FQ_NO_TABLE);
+    SAME(fq_make(other, sizeof other), FQ_DONE);
+    SAME(fq_serve_stream(row, sizeof row, other, sizeof other, 0, reply, sizeof reply, answer, FQ_STREAM_TOLD), FQ_BAD_MAGIC);
+    SAME(answer[0], sizeof row - 1);
+    SAME(answer[2], 3);
+    SAME(fq_serve_stream(row, 16, other, sizeof other, 0, reply, sizeof reply, answer, FQ_STREAM_TOLD), 0);
+    SAME(answer[0], 16);
+    SAME(fq_serve(row + 16, 10, other, sizeof other, 0, reply, FQ_REPLY_ROOM, answer, FQ_SERVE_TOLD), FQ_NO_SUCH_CACHE);
+    SAME(answer[0], 10);
+    SAME(fq_serve(row, 16, other, sizeof other, 0, reply, FQ_REPLY_ROOM - 1, answer, FQ_SERVE_TOLD), FQ_NO_ROOM);
+    SAME(fq_serve(row, 16, other, sizeof other - 1, 0, reply, FQ_REPLY_ROOM, answer, FQ_SERVE_TOLD), FQ_NO_TABLE);
+    SAME(fq_serve_lines(row, 0, other, sizeof other, out.at, FQ_LINES_ROOM - 1, false, true, answer, FQ_LINES_TOLD), FQ_NO_ROOM);
+    SAME(fq_serve_lines(row, 0, other, sizeof other, out.at, FQ_LINES_ROOM, false, true, answer, FQ_LINES_TOLD), FQ_DONE);
+}
+
+/* A table with the most and the longest entries gives the longest file. */
+static void longest_file(void) {
+    static uint8_t key[FQ_KEY_LIMIT], value[FQ_VALUE_LIMIT], frame[FQ_LONGEST_REQUEST];
+    const uint64_t put[FQ_REQUEST_GIVEN] = {1, 10, 1, 0, 1, 0, 0, 0, 0};
+    SAME(fq_make(other, sizeof other), FQ_DONE);
+    for (int at = 0; at <= FQ_TABLE_KEYS; at++) {
+        key[0] = (uint8_t)at;
+        uint64_t n = fq_write_request(frame, sizeof frame, put, FQ_REQUEST_GIVEN, key, 0, key, sizeof key, value, sizeof value);
+        SAME(fq_serve(frame, n - FQ_DONE, other, sizeof other, 0, reply, FQ_REPLY_ROOM, answer, FQ_SERVE_TOLD), at < FQ_TABLE_KEYS ? FQ_DONE : FQ_FULL);
+    }
+    SAME(fq_store(other, sizeof other, out.at, sizeof out.at), FQ_DONE + FQ_LONGEST_FILE);
+}
+
+int main(int count, char **words) {
+    if (count != 4) return 2;
+    read_file(words[1], &requests);
+    read_file(words[2], &replies);
+    read_file(words[3], &stored);
+    by_calls();
+    by_lines(requests.len);
+    by_lines(1);
+    by_file();
+    messages();
+    stream();
+    longest_file();
+    printf("library: the paper's five requests from C, by calls, by lines and by a file; messages, streams and the longest file\n");
+    return 0;
+}

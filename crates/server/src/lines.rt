@@ -18,7 +18,7 @@ ghost use Rattle.wire.specs.Codec.{Valid};
 ghost use Rattle.message.specs.Request.{request, requestIn};
 ghost use Rattle.message.specs.Reply.{errorReply};
 ghost use Rattle.message.specs.Refusal.{refusal};
-ghost use Rattle.request.specs.Answer.{idIn};
+ghost use Rattle.message.specs.Start.{idIn};
 ghost use Rattle.map.specs.Step.{step};
 ghost use Rattle.line.specs.Feed.{lineEnd, turnOf};
 ghost use Rattle.line.specs.Turns.{lineRoom};

@@ -5,7 +5,7 @@ use lib.ListN.{take}
 use Rattle.wire.specs.Codec.{Bytes}
 use Rattle.message.specs.Reply.{errorReply}
 use Rattle.message.specs.Refusal.{refusal}
-use Rattle.request.specs.Answer.{idIn}
+use Rattle.message.specs.Start.{idIn}
 use Rattle.server.proofs.SendLaws.{id-small}
 use Rattle.server.proofs.LineLaws.{Short, error-in}
 use borrow.Author.Needs.{needs}

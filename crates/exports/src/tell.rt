@@ -6,7 +6,7 @@ use server::Verdict;
 use table::Outcome;
 ghost use mathlib.Core.Path.{_≡_};
 ghost use Prim.Native.Nat.{_<_, _^_};
-ghost use Rattle.message.specs.Answer.{asSent};
+ghost use Rattle.message.specs.Sent.{asSent};
 ghost use Rattle.server.specs.Answer.{asVerdict};
 ghost use Rattle.exports.specs.Calls.{verdictCode, bit as bitOf, outcomeCode};
 ghost use Rattle.exports.specs.Codes.{sentCode, tell};

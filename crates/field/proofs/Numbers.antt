@@ -8,7 +8,7 @@ use Rattle.wire.specs.Codec.{Valid}
 use Rattle.wire.specs.Number.{number, vInt, vLong}
 use Rattle.wire.specs.Write.{Wrote}
 use Rattle.wire.proofs.NumberWrite.{number-good, number-bad, int-long}
-use Rattle.field.specs.Answer.{numberOf, greatestOf}
+use Rattle.field.specs.FieldRead.{numberOf, greatestOf}
 use Rattle.field.specs.declared.Kind.{Kind}
 use Rattle.field.specs.declared.Kind.the-variants.{VInt, VLong}
 

@@ -19,7 +19,7 @@ use Rattle.wire.proofs.At.{at-guard, at-cond}
 use Rattle.text.specs.Text.{isText}
 use Rattle.wire.proofs.FieldLaws.{at-limited}
 use Rattle.wire.proofs.Laws.{never, both, and-false, after-whole, passed, sized, same-read, after-after, after-on, mapped-back}
-use Rattle.field.specs.Answer.{asNumber, asSpan, limitedText, between, partOf, nowhere, spanTo, stopped}
+use Rattle.field.specs.FieldRead.{asNumber, asSpan, limitedText, between, partOf, nowhere, spanTo, stopped}
 use Rattle.field.specs.declared.Span.{Span}
 use Rattle.field.specs.declared.NumberRead.{NumberRead}
 use Rattle.field.specs.declared.NumberRead.the-variants as n

@@ -5,7 +5,7 @@ ghost use mathlib.Core.Path.{_≡_};
 ghost use lib.ListN.{take, drop};
 ghost use Rattle.wire.specs.Codec.{readAt, byte, mapped};
 ghost use Rattle.wire.specs.Field.{entryVersion, second, limited};
-ghost use Rattle.field.specs.Answer.{asByte, asNumber, asVersion, asSecond, asSpan, numberOf, mostOf, topOf, refusalOf, limitedText, between, partOf, spanTo, stopped};
+ghost use Rattle.field.specs.FieldRead.{asByte, asNumber, asVersion, asSecond, asSpan, numberOf, mostOf, topOf, refusalOf, limitedText, between, partOf, spanTo, stopped};
 
 // A place in the bytes that are read.
 pub struct Cursor {

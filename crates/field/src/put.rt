@@ -10,7 +10,7 @@ ghost use Rattle.wire.specs.Codec.{byte, raw};
 ghost use Rattle.wire.specs.Number.{vLong};
 ghost use Rattle.wire.specs.Field.{entryVersion, second, limited};
 ghost use Rattle.wire.specs.Write.{Wrote, Room, putAt};
-ghost use Rattle.field.specs.Answer.{numberOf, greatestOf, limitedText};
+ghost use Rattle.field.specs.FieldRead.{numberOf, greatestOf, limitedText};
 
 pub fn put_byte(out: &mut [u8], at: usize, b: u8) -> usize
     ensures { λ r. ⌜ (r, now (out .exit)) ≡ putAt byte b at (now (out .entry)) ⌝ }

@@ -92,10 +92,3 @@ value-digit b e = rw e
 pub value-other : (b : ℕ) → isDigit b ≡ false → valueOf b ≡ 0
 unfolding valueOf
 value-other b e = rw e
-
-pub value-small : (b : ℕ) → valueOf b ≤ 15
-value-small b = go (isDigit b) refl
-  where
-    go : (t : Bool) → isDigit b ≡ t → valueOf b ≤ 15
-    go true e = omega (arith, value-digit b e, value-below b e)
-    go false e = omega (arith, value-other b e)

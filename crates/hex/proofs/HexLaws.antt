@@ -1,13 +1,14 @@
 -- Bytes written as digits are read back, and digits are read as the bytes that are written so. Assumes nothing.
 use mathlib.Core.Path.{_≡_, refl, sym, ap, subst, _∙_}
 use mathlib.Core.List.{List, [], _∷_, _++_, append-nil}
-use mathlib.Core.Bool.{Bool, true, false, cond, _&&_}
+use mathlib.Core.Bool.{true, _&&_}
 use mathlib.Core.Option.{Option, none, some}
 use Prim.Native.Nat.{ℕ, zero, suc, _+_, _*_, _/_, _%_, _<_}
 use native.Mathlib.Omega.{arith}
 use lib.ListN.{length}
 use Rattle.wire.specs.Codec.{Bytes}
 use Rattle.wire.proofs.Laws.{never, both, and}
+use Rattle.wire.proofs.Basics.{passed}
 use Rattle.hex.specs.Hex.{digitOf, isDigit, digitValue, toHex, onto, fromHex}
 use Rattle.hex.proofs.Digits.{value-below, digit-back, of-digit, of-value}
 
@@ -15,11 +16,6 @@ pub hex-length : (s : List ℕ) → length (toHex s) ≡ 2 * length s
 unfolding toHex
 hex-length [] = refl
 hex-length (b ∷ s) = omega (arith, hex-length s)
-
-pub hex-append : (a b : List ℕ) → toHex (a ++ b) ≡ toHex a ++ toHex b
-unfolding toHex
-hex-append [] b = refl
-hex-append (x ∷ a) b = rw (hex-append a b)
 
 -- two digits, read
 pub onto-digits : (a b : ℕ) (s : List ℕ) → isDigit a ≡ true → isDigit b ≡ true → fromHex (a ∷ b ∷ s) ≡ onto (digitValue a * 16 + digitValue b) (fromHex s)
@@ -40,10 +36,6 @@ pub record Front (b : ℕ) (o : Option (List ℕ)) (bs : List ℕ) : Type 0 wher
 front : (b : ℕ) (o : Option (List ℕ)) (bs : List ℕ) → onto b o ≡ some bs → Front b o bs
 front b none bs e = never (cc)
 front b (some r) bs e = record { rest = r; first = refl; all = cc }
-
-passed : (t : Bool) (o : Option (List ℕ)) (bs : List ℕ) → cond t o none ≡ some bs → (t ≡ true) × (o ≡ some bs)
-passed true o bs e = (refl, e)
-passed false o bs e = never (cc)
 
 module _ (a b : ℕ) (s r : List ℕ) (p : isDigit a ≡ true) (q : isDigit b ≡ true) (i : Reads s r) where
   pair-same : a ∷ b ∷ s ≡ toHex ((digitValue a * 16 + digitValue b) ∷ r)

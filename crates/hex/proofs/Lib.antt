@@ -2,4 +2,5 @@ pub mod Digits
 pub mod HexLaws
 pub mod Pairs
 pub mod Paste
+pub mod InPlace
 pub mod Second

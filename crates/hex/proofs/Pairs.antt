@@ -2,11 +2,12 @@
 use mathlib.Core.Path.{_≡_, refl, _∙_}
 use mathlib.Core.List.{List, [], _∷_}
 use mathlib.Core.Bool.{Bool, true, false, cond, _&&_}
-use mathlib.Core.Option.{Option, none, some}
+use mathlib.Core.Option.{none, some}
 use Prim.Native.Nat.{ℕ, zero, suc, _+_, _*_, _/_, _%_, _<_}
 use native.Mathlib.Omega.{arith}
 use lib.ListN.{length, getD}
 use Rattle.wire.proofs.Laws.{never, both}
+use Rattle.wire.proofs.Basics.{if-none}
 use Rattle.hex.specs.Hex.{digitOf, isDigit, digitValue, toHex, onto, fromHex}
 use Rattle.hex.specs.Number.{areDigits}
 use Rattle.hex.proofs.HexLaws.{onto-digits}
@@ -69,11 +70,7 @@ pub from-odd : (s : List ℕ) → length s % 2 ≡ 1 → fromHex s ≡ none
 unfolding fromHex
 from-odd [] h = absurd (omega arith)
 from-odd (a ∷ []) h = refl
-from-odd (a ∷ (b ∷ s)) h = rw (from-odd s (omega arith)) (none-none (isDigit a && isDigit b))
-  where
-    none-none : (t : Bool) → _≡_ {A = Option (List ℕ)} (cond t none none) none
-    none-none true = refl
-    none-none false = refl
+from-odd (a ∷ (b ∷ s)) h = rw (from-odd s (omega arith)) (if-none (isDigit a && isDigit b))
 
 pub from-other : (s : List ℕ) → areDigits s ≡ false → fromHex s ≡ none
 unfolding fromHex areDigits

@@ -9,7 +9,7 @@ use lib.ListN.{length, getD, take, drop, set, length-set}
 use lib.Seq.{sets-eq, paste, paste-zero, paste-suc, take-length}
 use borrow.Author.Tests.{le-leb, lt-leb}
 use Rattle.hex.specs.Hex.{digitOf, toHex, fromHex}
-use Rattle.hex.specs.Answer.{decoded, encoded}
+use Rattle.hex.specs.Coding.{decoded, encoded}
 use Rattle.hex.specs.declared.Decoded.the-variants.{Bytes, Bad, Short}
 use Rattle.hex.proofs.HexLaws.{hex-length}
 use Rattle.hex.proofs.Pairs.{hex-high, hex-low}

@@ -1,3 +1,3 @@
 pub mod Hex
-pub mod Answer
+pub mod Coding
 pub mod Number

@@ -4,7 +4,7 @@ ghost use mathlib.Core.Bool.{true};
 ghost use Prim.Native.Nat.{_+_, _*_, _/_, _<_};
 ghost use lib.ListN.{length, getD};
 ghost use Rattle.hex.specs.Hex.{digitOf, isDigit, digitValue};
-ghost use Rattle.hex.specs.Answer.{decoded, encoded};
+ghost use Rattle.hex.specs.Coding.{decoded, encoded, spreadAt};
 ghost use Rattle.hex.specs.Number.{valueOf, areDigits, asNumber, second};
 
 // What decoding finds: so many bytes, digits that are none or odd in number, or too little room.
@@ -126,6 +126,26 @@ pub fn encode(s: &[u8], out: &mut [u8], at: usize) -> usize
         i += 1;
     }
     at + 2 * s.len()
+}
+
+// The n bytes at a place become their digits there, which are twice as many. They are written from the last to the first: no byte is written over
+// before it is read. Where there is no room nothing is written.
+pub fn spread(out: &mut [u8], at: usize, n: usize)
+    ensures { λ r. ⌜ now (out .exit) ≡ spreadAt (now (out .entry)) at n ⌝ }
+{
+    if out.len() < at {
+        return;
+    }
+    if (out.len() - at) / 2 < n {
+        return;
+    }
+    let mut i = n;
+    while 0 < i {
+        i -= 1;
+        let b = out[at + i];
+        out[at + 2 * i] = digit(b / 16);
+        out[at + 2 * i + 1] = digit(b % 16);
+    }
 }
 
 // Eight digits as a number, highest first.

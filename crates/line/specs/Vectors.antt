@@ -5,7 +5,7 @@ use Prim.Native.Nat.{ℕ}
 use Rattle.wire.specs.Codec.{Read, whole, more, refused, Codec, empty, byte, raw, guard, seq, as-type}
 use Rattle.wire.specs.Field.{bigEndian, limited}
 use Rattle.wire.specs.Number.{numberDec, numberEnc, number, vInt, vLong}
-use Rattle.field.specs.Answer.{limitedText}
+use Rattle.field.specs.FieldRead.{limitedText}
 use Rattle.text.specs.Text.{textAfter, isText}
 use Rattle.hex.specs.Hex.{digitOf, isDigit, digitValue, toHex, fromHex}
 use Rattle.hex.specs.Number.{second}

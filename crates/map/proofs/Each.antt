@@ -3,7 +3,7 @@ use mathlib.Core.Path.{_≡_, refl}
 use mathlib.Core.List.{List, [], _∷_, _++_}
 use mathlib.Core.Bool.{Bool, true, false, cond}
 use mathlib.Core.Option.{Option, none, some}
-use Rattle.message.proofs.RequestLaws.{pick}
+use Rattle.wire.proofs.Basics.{pick}
 use Rattle.map.specs.State.{Entry, find, without}
 use Rattle.map.specs.Table.{Each, Pairs}
 

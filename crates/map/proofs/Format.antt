@@ -12,13 +12,14 @@ use Rattle.wire.specs.Number.{number, numberEnc, vInt, vLong}
 use Rattle.wire.specs.Field.{entryVersion, limited}
 use Rattle.wire.proofs.Laws.{seq-good, type-good, bytes-are}
 use Rattle.wire.proofs.FieldLaws.{big-good, limited-good}
+use Rattle.wire.proofs.Basics.{pick}
 use Rattle.message.specs.declared.Operation.{Operation}
 use Rattle.message.specs.declared.Operation.the-variants.{Put, Get, PutIfAbsent, Replace, ReplaceIfUnmodified, Remove, RemoveIfUnmodified, ContainsKey, GetWithVersion, Clear, Ping}
 use Rattle.message.specs.Operation.{codeOf}
 use Rattle.message.specs.Request.{valueLimit, Request, request}
 use Rattle.message.specs.Reply as m
 use Rattle.message.specs.Reply.{Body, table, bodyAt, isAllowed, allowed, Reply, payload, noBody, valueBody, versionedBody, fieldsOf, formOf, fields, message, isAwaited, rowsOf, reply}
-use Rattle.message.proofs.RequestLaws.{code-found, pick}
+use Rattle.message.proofs.RequestLaws.{code-found}
 use Rattle.message.proofs.RequestParts as asked
 use Rattle.message.proofs.ReplyParts.{whole-reply}
 use Rattle.message.proofs.ReplySize.{reply-most}

@@ -11,7 +11,7 @@ use borrow.Author.Tests.{leb-false}
 use Rattle.wire.specs.Codec.{Valid}
 use Rattle.wire.proofs.Laws.{never}
 use Rattle.message.specs.Request.{Request, request}
-use Rattle.message.proofs.RequestLaws.{pick}
+use Rattle.wire.proofs.Basics.{pick}
 use Rattle.message.proofs.Sizes.{small}
 use Rattle.map.specs.State.{Entry, State, find, without}
 use Rattle.map.specs.Step.{mostKeys, lastVersion, Context, Change, keep, store, drop, empty, Answer, answered, noLifespan, deadline, entry, stored, dropped, emptied, isNone, names, held, full, planned, step}

@@ -1,6 +1,5 @@
 -- The bytes of a reply, in pieces: those of a value are told apart, with the entry whose value it is.
 use mathlib.Core.List.{List, [], _∷_, _++_}
-use mathlib.Core.Option.{Option, none, some}
 use Prim.Native.Nat.{ℕ, _+_}
 use lib.ListN.{length}
 use Rattle.wire.specs.Number.{vInt, vLong}

@@ -7,12 +7,12 @@ use native.Mathlib.Omega.{arith}
 use lib.Dec.{eqb, lit<, lit≤}
 use borrow.Author.Tests.{eqb-true}
 use Rattle.wire.proofs.Laws.{never}
+use Rattle.wire.proofs.Basics.{pick}
 use Rattle.message.specs.declared.Operation.{Operation}
 use Rattle.message.specs.declared.Operation.the-variants.{Put, Get, PutIfAbsent, Replace, ReplaceIfUnmodified, Remove, RemoveIfUnmodified, ContainsKey, GetWithVersion, Clear, Ping}
 use Rattle.message.specs.Operation.{codeOf, findCode, isKnown, known}
 use Rattle.message.specs.Edition.{Edition, editionOf, isServed, served}
 use Rattle.message.specs.Request.{opFits, isVersion, editionAt}
-use Rattle.message.proofs.RequestLaws.{pick}
 
 pub has-transaction : (v : ℕ) → editionAt v .transaction ≡ true
 unfolding editionOf

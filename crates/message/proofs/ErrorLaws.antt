@@ -15,7 +15,7 @@ use Rattle.wire.proofs.Laws.{both, guard-valid, guard-good, type-good}
 use Rattle.wire.proofs.NumberWrite.{number-good}
 use Rattle.text.specs.Text as t
 use Rattle.text.specs.Text.{isText, textAfter, stepOf, leadOf}
-use Rattle.field.specs.Answer.{limitedText}
+use Rattle.field.specs.FieldRead.{limitedText}
 use Rattle.message.specs.declared.Operation.{Operation}
 use Rattle.message.specs.declared.Asked.{Asked}
 use Rattle.message.specs.Operation.{codeOf, findCode}

@@ -13,7 +13,7 @@ use Rattle.wire.proofs.Laws.{seq-valid, guard-valid, type-valid, raw-valid}
 use Rattle.wire.proofs.NumberLaws.{valid}
 use Rattle.wire.proofs.NumberWrite.{enc-most, enc-same}
 use Rattle.wire.proofs.FieldLaws.{big-length}
-use Rattle.field.specs.Answer.{limitedText}
+use Rattle.field.specs.FieldRead.{limitedText}
 
 pub record Most {A : Type 0} (c : Codec A) (n : ℕ) : Type 0 where
   pub most : (a : A) → Valid c a → length (c .enc a) ≤ n
@@ -47,23 +47,19 @@ pub byte-most : Most byte 1
 unfolding byte
 byte-most = record { most = λ a v. omega arith }
 
-pub raw-most : (n : ℕ) → Most (raw n) n
+raw-most : (n : ℕ) → Most (raw n) n
 unfolding raw
 raw-most n = record { most = λ s v. omega (arith, raw-valid n s v .0) }
 
 pub big-most : (n : ℕ) → Most (bigEndian n) n
 big-most n = record { most = λ a v. omega (arith, big-length n a) }
 
-pub vInt-most : Most vInt 5
-unfolding vInt number
-vInt-most = record { most = λ a v. enc-most 4 a }
-
 pub vLong-most : Most vLong 9
 unfolding vLong number
 vLong-most = record { most = λ a v. enc-most 8 a }
 
 -- a vInt that passes a test which only numbers of j + 1 bytes pass
-pub few-most : (test : ℕ → Bool) (k j : ℕ) → ((a : ℕ) → test a ≡ true → a < limit 127 j) → Most (guard test k vInt) (suc j)
+few-most : (test : ℕ → Bool) (k j : ℕ) → ((a : ℕ) → test a ≡ true → a < limit 127 j) → Most (guard test k vInt) (suc j)
 unfolding guard vInt number
 few-most test k j h =
     record {

@@ -1,16 +1,15 @@
 -- A request is refused by one of the numbers 1 to 8, and by no other. Assumes nothing.
-use mathlib.Core.Path.{_≡_, refl, sym, _∙_}
+use mathlib.Core.Path.{_≡_}
 use mathlib.Core.List.{List, [], _∷_}
-use mathlib.Core.Bool.{Bool, true, false, cond}
-use Prim.Native.Nat.{ℕ, zero, suc, _+_, _-_, _*_, _≤_, _<_}
-use native.Mathlib.Omega.{arith}
-use lib.ListN.{length, take, drop}
-use lib.Dec.{leb, ltb, eqb, lit≤}
-use Rattle.wire.specs.Codec.{Read, whole, more, refused, after, Codec, empty, byte, byteDec, raw, guard, seq, as-type, all}
+use mathlib.Core.Bool.{Bool, true, false}
+use Prim.Native.Nat.{ℕ, zero, suc, _≤_}
+use lib.ListN.{length, drop}
+use lib.Dec.{leb, ltb, lit≤}
+use Rattle.wire.specs.Codec.{Read, whole, more, refused, after, Codec, empty, byte, byteDec, raw, guard, seq, as-type}
 use Rattle.wire.specs.Number.{numberDec, number, vInt, vLong}
 use Rattle.wire.specs.Field.{bigEndian, limited}
-use Rattle.wire.proofs.Laws.{never}
-use Rattle.field.specs.Answer.{limitedText}
+use Rattle.wire.proofs.Basics.{pick}
+use Rattle.field.specs.FieldRead.{limitedText}
 use Rattle.text.specs.Text.{isText}
 use Rattle.message.specs.Edition.{Edition}
 use Rattle.message.specs.Request.{Shape, keyed, writes, writesIf, keyedIf, bare, argsOf, operation, transaction, opFits, fields, request}
@@ -29,10 +28,6 @@ fair-after (whole a n) f h g = g a n
 fair-after more f h g = tt
 fair-after (refused k) f h g = h
 
-fair-cond : {A : Type 0} (t : Bool) (x y : Read A) → Fair x → Fair y → Fair (cond t x y)
-fair-cond true x y h g = h
-fair-cond false x y h g = g
-
 byte-among : Among byte
 unfolding byte
 byte-among = record { fair = go }
@@ -47,11 +42,11 @@ empty-among = record { fair = λ bs. tt }
 
 raw-among : (n : ℕ) → Among (raw n)
 unfolding raw
-raw-among n = record { fair = λ bs. fair-cond (leb n (length bs)) _ _ tt tt }
+raw-among n = record { fair = λ bs. pick Fair (leb n (length bs)) (λ e. tt) tt }
 
 guard-among : {A : Type 0} (test : A → Bool) (k : ℕ) (c : Codec A) → 1 ≤ k → k ≤ 8 → Among c → Among (guard test k c)
 unfolding guard
-guard-among test k c l h g = record { fair = λ bs. fair-after (c .dec bs) _ (g .fair bs) (λ a n. fair-cond (test a) _ _ tt (l, h)) }
+guard-among test k c l h g = record { fair = λ bs. fair-after (c .dec bs) _ (g .fair bs) (λ a n. pick Fair (test a) (λ e. tt) (l, h)) }
 
 type-among : {A B : Type 0} (test : B → Bool) (to : A → B) (from : B → A) (c : Codec A) → Among c → Among (as-type test to from c)
 unfolding as-type
@@ -66,9 +61,9 @@ module _ (k top : ℕ) (l : 1 ≤ k) (h : k ≤ 8) where
   number-fair : (c low : ℕ) (bs : List ℕ) → Fair (numberDec k top c low bs)
   unfolding numberDec
   number-fair c low [] = tt
-  number-fair zero low (b ∷ bs) = fair-cond (ltb b low) _ _ (l, h) (fair-cond (leb b top) _ _ tt (l, h))
+  number-fair zero low (b ∷ bs) = pick Fair (ltb b low) (λ e. (l, h)) (pick Fair (leb b top) (λ e. tt) (l, h))
   number-fair (suc c) low (b ∷ bs) =
-      fair-cond (ltb b 128) _ _ (fair-cond (ltb b low) _ _ (l, h) tt) (fair-after (numberDec k top c 1 bs) _ (number-fair c 1 bs) (λ v n. tt))
+      pick Fair (ltb b 128) (λ e. pick Fair (ltb b low) (λ f. (l, h)) tt) (fair-after (numberDec k top c 1 bs) _ (number-fair c 1 bs) (λ v n. tt))
 
   number-among : (c low : ℕ) → Among (number k top c low)
   unfolding number

@@ -2,23 +2,23 @@
 use mathlib.Core.Path.{_≡_, refl, sym, ap₂}
 use mathlib.Core.List.{List, []}
 use mathlib.Core.Option.{Option, none, some}
-use mathlib.Core.Bool.{Bool, true, false, _&&_}
+use mathlib.Core.Bool.{Bool, _&&_}
 use Prim.Native.Nat.{ℕ}
 use lib.Dec.{eqb}
 use borrow.Author.Tests.{eqb-true}
-use Rattle.wire.specs.Codec.{Valid, more, empty, byte, guard, seq, as-type, all}
+use Rattle.wire.specs.Codec.{Valid, empty, byte, seq, all}
 use Rattle.wire.specs.Field.{entryVersion, limited}
 use Rattle.wire.proofs.Laws.{Laws, both, seq-valid, guard-valid, seq-laws, guard-laws, type-laws, empty-laws, refuse-laws, byte-laws}
 use Rattle.wire.proofs.NumberLaws.{vLong-laws}
 use Rattle.wire.proofs.FieldLaws.{big-laws, limited-laws}
-use Rattle.field.specs.Answer.{limitedText}
+use Rattle.field.specs.FieldRead.{limitedText}
 use Rattle.message.specs.declared.Operation.{Operation}
 use Rattle.message.specs.declared.Form.{Form}
 use Rattle.message.specs.declared.Form.the-variants as form
 use Rattle.message.specs.declared.Asked.{Asked}
 use Rattle.message.specs.Operation.{findCode}
 use Rattle.message.specs.Request.{valueLimit}
-use Rattle.message.specs.Reply.{textLimit, Body, errors, errorCode, bodyAt, isAllowed, allowed, Payload, payload, noEntry, noValue, noText, noBody, valueBody, versionedBody, textBody, fieldsOf, formOf, Fields, fields, toReply, fromReply, message, isAwaited, rowsOf, replyTo, reply, errorReply}
+use Rattle.message.specs.Reply.{textLimit, Body, bodyAt, isAllowed, allowed, Payload, payload, noEntry, noValue, noText, noBody, valueBody, versionedBody, textBody, fieldsOf, formOf, Fields, fields, toReply, fromReply, message, isAwaited, rowsOf, replyTo, reply}
 use Rattle.message.proofs.RequestLaws.{is-empty, is-zero, text-laws}
 
 -- what a reply carries
@@ -85,11 +85,6 @@ module _ (comes : ℕ → Bool) (rows : ℕ → List (ℕ × Body)) (flag : Bool
   unfolding message
   message-laws = type-laws all toReply fromReply (fields comes rows flag) fields-laws (λ r e. refl) (λ p v. (fields-back p v, refl))
 
-  -- of no bytes nothing is read
-  pub message-starts : message comes rows flag .dec [] ≡ more
-  unfolding message fields seq guard byte as-type
-  message-starts = refl
-
 reply-to-laws : (o : Option Operation) (flag : Bool) → Laws (replyTo o flag)
 reply-to-laws none flag = refuse-laws 4
 reply-to-laws (some o) flag = message-laws (isAwaited o) (rowsOf o) flag
@@ -97,11 +92,3 @@ reply-to-laws (some o) flag = message-laws (isAwaited o) (rowsOf o) flag
 pub reply-laws : (a : Asked) → Laws (reply a)
 unfolding reply
 reply-laws a = reply-to-laws (findCode (a .op)) (a .flag)
-
-pub reply-starts : (a : Asked) (o : Operation) → findCode (a .op) ≡ some o → reply a .dec [] ≡ more
-unfolding reply
-reply-starts a o e = rw e (message-starts (isAwaited o) (rowsOf o) (a .flag))
-
-pub error-laws : Laws errorReply
-unfolding errorReply
-error-laws = message-laws (λ op. eqb op errorCode) (λ op. errors) false

@@ -9,12 +9,12 @@ use lib.ListN.{length}
 use lib.Dec.{eqb, lit≤}
 use Rattle.wire.specs.Codec.{Valid, refuse}
 use Rattle.wire.proofs.Laws.{never, guard-valid}
+use Rattle.wire.proofs.Basics.{pick}
 use Rattle.message.specs.declared.Operation.{Operation}
 use Rattle.message.specs.declared.Asked.{Asked}
 use Rattle.message.specs.Operation.{findCode}
 use Rattle.message.specs.Request.{valueLimit}
 use Rattle.message.specs.Reply.{textLimit, Body, nothing, old, oldNone, value, versioned, text, errors, errorCode, bodyAt, isAllowed, allowed, Reply, noBody, valueBody, versionedBody, textBody, fieldsOf, formOf, fields, message, isAwaited, rowsOf, replyTo, reply, errorReply}
-use Rattle.message.proofs.RequestLaws.{pick}
 use Rattle.message.proofs.Most.{Most, most-less, seq-most, guard-most, type-most, empty-most, byte-most, big-most, vLong-most, limited-most, text-most}
 
 -- header and body

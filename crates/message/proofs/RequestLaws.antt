@@ -10,10 +10,11 @@ use Rattle.wire.specs.Codec.{Valid, more, empty, byte, guard, seq, as-type, all
 use Rattle.wire.specs.Number.{vInt}
 use Rattle.wire.specs.Field.{entryVersion, limited}
 use Rattle.wire.proofs.Laws.{Laws, never, both, seq-valid, guard-valid, type-valid, seq-laws, guard-laws, type-laws, empty-laws, byte-laws}
+use Rattle.wire.proofs.Basics.{pick}
 use Rattle.wire.proofs.NumberLaws.{vInt-laws, vLong-laws}
 use Rattle.wire.proofs.FieldLaws.{big-laws, limited-laws}
 use Rattle.text.specs.Text.{isText}
-use Rattle.field.specs.Answer.{limitedText}
+use Rattle.field.specs.FieldRead.{limitedText}
 use Rattle.message.specs.declared.Operation.{Operation}
 use Rattle.message.specs.declared.Operation.the-variants.{Put, Get, PutIfAbsent, Replace, ReplaceIfUnmodified, Remove, RemoveIfUnmodified, ContainsKey, GetWithVersion, Clear, Ping}
 use Rattle.message.specs.Operation.{codeOf, findCode, isKnown, known}
@@ -34,11 +35,6 @@ code-found ContainsKey = refl
 code-found GetWithVersion = refl
 code-found Clear = refl
 code-found Ping = refl
-
--- what holds of both answers of a test holds of the one given
-pub pick : {A : Type 0} (P : A → Type 0) (t : Bool) {x y : A} → (t ≡ true → P x) → P y → P (cond t x y)
-pick P true h g = h refl
-pick P false h g = g
 
 -- a code that is known is that of the operation found
 record Coded (n : ℕ) (x : Option Operation) : Type 0 where

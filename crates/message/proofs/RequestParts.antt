@@ -5,7 +5,7 @@ use lib.Dec.{eqb, leb}
 use Rattle.wire.specs.Codec.{Valid, empty, byte, guard, as-type, all}
 use Rattle.wire.specs.Number.{vInt, vLong}
 use Rattle.wire.proofs.Laws.{seq-valid, seq-good, type-valid, type-good}
-use Rattle.field.specs.Answer.{limitedText}
+use Rattle.field.specs.FieldRead.{limitedText}
 use Rattle.message.specs.Request.{nameLimit, shapeOf, argsOf, operation, transaction, isVersion, editionAt, fields, toRequest, fromRequest, Request, request}
 
 pub record Parts (r : Request) : Type 0 where

@@ -5,5 +5,5 @@ pub mod Start
 pub mod Reply
 pub mod Refusal
 pub mod Written
-pub mod Answer
+pub mod Sent
 pub mod Value

@@ -3,11 +3,11 @@ use mathlib.Core.List.{List, [], _∷_}
 use mathlib.Core.Option.{Option, none, some}
 use mathlib.Core.Bool.{Bool, true, false, cond, _&&_, _||_}
 use Prim.Native.Nat.{ℕ, _+_}
-use lib.Dec.{eqb, leb}
+use lib.Dec.{eqb}
 use Rattle.wire.specs.Codec.{Codec, empty, refuse, byte, guard, seq, as-type, all}
 use Rattle.wire.specs.Number.{vLong}
 use Rattle.wire.specs.Field.{entryVersion, limited}
-use Rattle.field.specs.Answer.{partOf, limitedText}
+use Rattle.field.specs.FieldRead.{partOf, limitedText}
 use Rattle.message.specs.declared.Operation.{Operation}
 use Rattle.message.specs.declared.Operation.the-variants.{Put, Get, PutIfAbsent, Replace, ReplaceIfUnmodified, Remove, RemoveIfUnmodified, ContainsKey, GetWithVersion, Clear, Ping}
 use Rattle.message.specs.declared.Form.{Form}

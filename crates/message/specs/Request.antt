@@ -1,12 +1,12 @@
 -- A request, field by field (document 01, 'A request, field by field').
 use mathlib.Core.List.{List, [], _∷_}
-use mathlib.Core.Bool.{Bool, true, false, cond, _&&_}
+use mathlib.Core.Bool.{Bool, true, false, _&&_}
 use Prim.Native.Nat.{ℕ}
 use lib.Dec.{eqb, leb}
 use Rattle.wire.specs.Codec.{Codec, empty, byte, guard, seq, as-type, all}
 use Rattle.wire.specs.Number.{vInt, vLong}
 use Rattle.wire.specs.Field.{entryVersion, limited}
-use Rattle.field.specs.Answer.{partOf, limitedText}
+use Rattle.field.specs.FieldRead.{partOf, limitedText}
 use Rattle.message.specs.declared.Operation.{Operation}
 use Rattle.message.specs.declared.Operation.the-variants.{Put, Get, PutIfAbsent, Replace, ReplaceIfUnmodified, Remove, RemoveIfUnmodified, ContainsKey, GetWithVersion, Clear, Ping}
 use Rattle.message.specs.declared.Head.{Head}

@@ -2,7 +2,7 @@
 use field::EntryVersion;
 use field::Span;
 ghost use mathlib.Core.Path.{_≡_};
-ghost use Rattle.field.specs.Answer.{partOf};
+ghost use Rattle.field.specs.FieldRead.{partOf};
 ghost use Rattle.message.specs.Operation.{codeOf, asFound, findCode};
 ghost use Rattle.message.specs.Request.{nameLimit, keyLimit, valueLimit};
 ghost use Rattle.message.specs.Reply.{textLimit};

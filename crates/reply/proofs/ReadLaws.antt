@@ -9,14 +9,14 @@ use Rattle.wire.specs.Number.{vLong}
 use Rattle.wire.specs.Field.{entryVersion, limited}
 use Rattle.wire.proofs.Laws.{after-after, after-same}
 use Rattle.wire.proofs.At.{at-seq, at-guard, at-type, at-cond}
-use Rattle.field.specs.Answer.{limitedText, between, nowhere, spanTo}
+use Rattle.field.specs.FieldRead.{limitedText, between, nowhere, spanTo}
 use Rattle.field.proofs.Parts.{at-between, only}
 use Rattle.message.specs.Request.{valueLimit}
 use Rattle.message.specs.Reply.{Payload, textLimit, noBody, valueBody, versionedBody, textBody, isAwaited, rowsOf, bodyAt, isAllowed, allowed, fieldsOf, formOf, fields, message}
 use Rattle.message.specs.declared.Operation.{Operation}
 use Rattle.message.specs.declared.ReplyHead.{ReplyHead}
 use Rattle.message.specs.declared.Reply as code
-use Rattle.reply.specs.Answer.{replyAt, replyWith, headWith, withParts}
+use Rattle.reply.specs.ReplyRead.{replyAt, replyWith, headWith, withParts}
 
 -- an answer whose entry version is 0
 same-head : (a : ReplyHead) → a .entry .0 ≡ 0 → headWith a 0 ≡ a

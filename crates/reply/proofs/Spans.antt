@@ -7,7 +7,7 @@ use Prim.Native.Nat.{ℕ}
 use Rattle.wire.specs.Codec.{whole, after, mapped, refuse, readAt}
 use Rattle.wire.proofs.Laws.{never, mapped-back}
 use Rattle.wire.proofs.At.{at-front, typed, halves}
-use Rattle.field.specs.Answer.{partOf, spanTo}
+use Rattle.field.specs.FieldRead.{partOf, spanTo}
 use Rattle.field.proofs.Parts.{part-read, text-read, no-part}
 use Rattle.message.specs.declared.Operation.{Operation}
 use Rattle.message.specs.declared.Asked.{Asked}
@@ -16,7 +16,7 @@ use Rattle.message.specs.declared.Form.the-variants as form
 use Rattle.message.specs.Operation.{findCode}
 use Rattle.message.specs.Request.{valueLimit}
 use Rattle.message.specs.Reply.{textLimit, Reply, Payload, noBody, valueBody, versionedBody, textBody, fieldsOf, fields, message, isAwaited, rowsOf, replyTo, reply, replyIn}
-use Rattle.reply.specs.Answer.{asReply, replyAt}
+use Rattle.reply.specs.ReplyRead.{asReply, replyAt}
 use Rattle.reply.specs.declared.ReplyRead.{ReplyRead}
 
 module _ (s : List ℕ) where

@@ -15,10 +15,10 @@ use message::ReplyHead;
 ghost use mathlib.Core.Path.{_≡_};
 ghost use Rattle.wire.specs.Codec.{readAt, after, mapped, whole};
 ghost use Rattle.wire.specs.Field.{limited};
-ghost use Rattle.field.specs.Answer.{asNumber, nowhere, spanTo, stopped, limitedText};
+ghost use Rattle.field.specs.FieldRead.{asNumber, nowhere, spanTo, stopped, limitedText};
 ghost use Rattle.message.specs.Reply.{message, isAwaited, rowsOf, versionedBody, textLimit};
 ghost use Rattle.message.specs.Reply.{fieldsOf};
-ghost use Rattle.reply.specs.Answer.{asReply, replyAt, replyWith, withParts};
+ghost use Rattle.reply.specs.ReplyRead.{asReply, replyAt, replyWith, withParts};
 
 // What a field that is not whole makes of the reply.
 fn stop(r: NumberRead) -> ReplyRead

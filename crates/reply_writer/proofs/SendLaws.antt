@@ -16,7 +16,7 @@ use Rattle.wire.proofs.Laws.{never, both, and-false}
 use Rattle.wire.proofs.FieldLaws.{big-length, limited-good, limited-long, limited-over, limited-length}
 use Rattle.wire.proofs.WriteLaws.{send-broken, put-wrote, wrote-seq, wrote-guard, wrote-type}
 use Rattle.text.specs.Text.{isText}
-use Rattle.field.specs.Answer.{limitedText}
+use Rattle.field.specs.FieldRead.{limitedText}
 use Rattle.message.specs.Request.{isEmpty, valueLimit}
 use Rattle.message.specs.Reply.{Reply, Body, Payload, noEntry, noValue, noText, textLimit, noBody, valueBody, versionedBody, textBody, bodyAt, isAllowed, allowed, fieldsOf, formOf, toReply, fromReply, fields, message}
 use Rattle.reply_writer.specs.Frame.{framed}

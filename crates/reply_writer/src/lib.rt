@@ -10,7 +10,7 @@ use message::Sent;
 ghost use mathlib.Core.Path.{_≡_};
 ghost use Prim.Native.Nat.{_≤_};
 ghost use Rattle.wire.specs.Write.{send};
-ghost use Rattle.message.specs.Answer.{asSent};
+ghost use Rattle.message.specs.Sent.{asSent};
 ghost use Rattle.message.specs.Reply.{reply, replyOf, errorReply};
 ghost use Rattle.message.specs.Refusal.{refusal};
 ghost use Rattle.reply_writer.specs.Frame.{errorOf};

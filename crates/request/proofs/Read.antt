@@ -16,7 +16,7 @@ use Rattle.wire.proofs.Laws.{Laws, after-after, after-on, seq-laws, guard-laws,
 use Rattle.wire.proofs.At.{at-front, at-seq, at-guard, at-type, at-cond, at-exact}
 use Rattle.wire.proofs.FieldLaws.{limited-laws}
 use Rattle.wire.proofs.NumberLaws.{vInt-laws, vLong-laws}
-use Rattle.field.specs.Answer.{limitedText, between, nowhere, spanTo, asNumber}
+use Rattle.field.specs.FieldRead.{limitedText, between, nowhere, spanTo, asNumber}
 use Rattle.field.specs.declared.Span.{Span}
 use Rattle.field.specs.declared.NumberRead.{NumberRead}
 use Rattle.field.specs.declared.NumberRead.the-variants as n
@@ -26,7 +26,7 @@ use Rattle.message.specs.Operation.{findCode, isKnown, known}
 use Rattle.message.specs.Request.{bare, shapeOf, argsOf, operation, transaction, isVersion, editionAt, fields, toRequest, request, nameLimit, keyLimit, valueLimit}
 use Rattle.message.proofs.RequestLaws.{text-laws, operation-laws, transaction-laws}
 use Rattle.message.specs.Start.{start, idFound}
-use Rattle.request.specs.Answer.{requestAt, front, options}
+use Rattle.request.specs.RequestRead.{requestAt, front, options}
 use Rattle.request.specs.Parts.{asFront, asOptions, asArgs, optionsAt, argsAt, argsWith, togetherOf, keyedBy, writesBy}
 use Rattle.request.specs.declared.Args as code
 use Rattle.request.specs.declared.FrontRead.{FrontRead}

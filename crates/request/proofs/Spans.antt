@@ -9,11 +9,11 @@ use Rattle.wire.specs.Field.{limited}
 use Rattle.wire.proofs.Laws.{after-whole, sized, same-read, mapped-back}
 use Rattle.wire.proofs.At.{at-front, at-exact, typed, halves}
 use Rattle.wire.proofs.FieldLaws.{limited-laws}
-use Rattle.field.specs.Answer.{limitedText, partOf, spanTo}
+use Rattle.field.specs.FieldRead.{limitedText, partOf, spanTo}
 use Rattle.field.proofs.Parts.{part-read, text-read, no-part}
 use Rattle.message.specs.Request.{Shape, keyed, writes, writesIf, keyedIf, bare, shapeOf, Args, argsOf, nameLimit, keyLimit, valueLimit, Request, requestIn, request}
 use Rattle.message.proofs.RequestLaws.{text-laws}
-use Rattle.request.specs.Answer.{asRequest, front, options, Options, requestAt}
+use Rattle.request.specs.RequestRead.{asRequest, front, options, Options, requestAt}
 use Rattle.request.specs.declared.RequestRead.{RequestRead}
 use Rattle.request.proofs.Read.{front-laws, options-laws, in-parts}
 

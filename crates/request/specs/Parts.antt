@@ -4,11 +4,11 @@ use Prim.Native.Nat.{ℕ, _+_}
 use lib.ListN.{length}
 use Rattle.wire.specs.Codec.{Read, whole, more, refused}
 use Rattle.wire.specs.Field.{limited}
-use Rattle.field.specs.Answer.{limitedText, spanTo}
+use Rattle.field.specs.FieldRead.{limitedText, spanTo}
 use Rattle.field.specs.declared.Span.{Span}
 use Rattle.message.specs.declared.Request.{Request}
 use Rattle.message.specs.Request.{Shape, keyed, writes, writesIf, keyedIf, Args, nameLimit, keyLimit}
-use Rattle.request.specs.Answer as a
+use Rattle.request.specs.RequestRead as a
 use Rattle.request.specs.declared.Front.{Front}
 use Rattle.request.specs.declared.FrontRead.{FrontRead}
 use Rattle.request.specs.declared.FrontRead.the-variants as f

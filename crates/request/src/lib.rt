@@ -15,10 +15,10 @@ use rules::Shape;
 ghost use mathlib.Core.Path.{_≡_};
 ghost use Rattle.wire.specs.Codec.{readAt, whole, after, mapped};
 ghost use Rattle.wire.specs.Field.{limited};
-ghost use Rattle.field.specs.Answer.{asNumber, nowhere, spanTo, stopped};
+ghost use Rattle.field.specs.FieldRead.{asNumber, nowhere, spanTo, stopped};
 ghost use Rattle.message.specs.Request.{request, shapeOf, argsOf, valueLimit};
 ghost use Rattle.message.specs.Start.{start, idIn};
-ghost use Rattle.request.specs.Answer.{asRequest, requestAt, front, options};
+ghost use Rattle.request.specs.RequestRead.{asRequest, requestAt, front, options};
 ghost use Rattle.request.specs.Parts.{asFront, asOptions, asArgs, optionsAt, argsAt, argsWith, togetherOf, keyedBy, writesBy};
 
 // What reading a request finds: the request with the number of bytes it took, more needed, or a refusal by its number.

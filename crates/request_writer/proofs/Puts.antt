@@ -13,7 +13,7 @@ use Rattle.wire.specs.Field.{entryVersion, limited}
 use Rattle.wire.specs.Write.{Wrote, putAt}
 use Rattle.wire.proofs.Laws.{never, seq-valid, guard-valid, type-valid}
 use Rattle.wire.proofs.WriteLaws.{wrote-seq, wrote-guard, wrote-type, put-wrote}
-use Rattle.field.specs.Answer.{limitedText}
+use Rattle.field.specs.FieldRead.{limitedText}
 use Rattle.message.specs.declared.Operation.{Operation}
 use Rattle.message.specs.Operation.{codeOf}
 use Rattle.message.specs.Request.{keyed, writes, writesIf, keyedIf, bare, shapeOf, Args, argsOf, opFits, operation, transaction, isVersion, editionAt, fields, Request, request, nameLimit, keyLimit, valueLimit}

@@ -15,7 +15,7 @@ use Rattle.wire.proofs.NumberLaws.{valid}
 use Rattle.wire.proofs.NumberWrite.{number-good}
 use Rattle.wire.proofs.FieldLaws.{big-good, limited-valid, limited-good}
 use Rattle.text.specs.Text.{isText}
-use Rattle.field.specs.Answer.{limitedText}
+use Rattle.field.specs.FieldRead.{limitedText}
 use Rattle.message.specs.Operation.{codeOf}
 use Rattle.message.specs.Request.{Shape, keyed, writes, writesIf, keyedIf, bare, shapeOf, Args, argsOf, isEmpty, noTimes, noEntry, noValue, opFits, operation, transaction, isVersion, editionAt, fields, fromRequest, Request, request, nameLimit, keyLimit, valueLimit}
 use Rattle.message.proofs.RequestLaws.{code-found}

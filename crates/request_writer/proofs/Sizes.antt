@@ -7,7 +7,7 @@ use Rattle.wire.specs.Codec.{empty, byte, guard, seq, as-type}
 use Rattle.wire.specs.Number.{vInt, vLong}
 use Rattle.wire.proofs.NumberWrite.{int-long}
 use Rattle.wire.proofs.FieldLaws.{big-length, limited-length}
-use Rattle.field.specs.Answer.{limitedText}
+use Rattle.field.specs.FieldRead.{limitedText}
 use Rattle.message.specs.Request.{Shape, keyed, writes, writesIf, keyedIf, bare, shapeOf, Args, argsOf, operation, transaction, editionAt, fields, Request, request, nameLimit, keyLimit, valueLimit}
 use Rattle.message.proofs.Editions.{has-transaction, flags-small}
 use Rattle.request_writer.specs.Parts.{limitsOf, sizeOf, argsSize}

@@ -5,7 +5,7 @@ use message::Head;
 use message::Sent;
 ghost use mathlib.Core.Path.{_≡_};
 ghost use Rattle.wire.specs.Write.{send};
-ghost use Rattle.message.specs.Answer.{asSent};
+ghost use Rattle.message.specs.Sent.{asSent};
 ghost use Rattle.message.specs.Request.{request, requestOf};
 
 // Writes a request at the front of `out`.

@@ -9,6 +9,7 @@ use lib.Dec.{eqb, lit≤}
 use types.Run.{OneOf, miss}
 use denote.Enum.Declared.{tagOf}
 use borrow.Author.Tests.{eqb-true, eqb-false, ne-eqb}
+use Rattle.wire.proofs.Basics.{if-none}
 use Rattle.message.specs.Reply as m
 use Rattle.message.specs.Reply.{isAllowed, errors, bodyAt}
 use Rattle.rules.specs.Body.{asBody}
@@ -16,17 +17,13 @@ use Rattle.rules.specs.declared.Body.{Body}
 use Rattle.rules.specs.declared.Body.the-variants as b
 use Rattle.rules.proofs.Body as body
 
-same : (t : Bool) → _≡_ {A = Option m.Body} (cond t none none) none
-same true = refl
-same false = refl
-
 -- a row that is not allowed is as no row
 module _ (s : ℕ) (x : Option m.Body) where
   pub row-0 : cond (eqb s 0) x (cond (eqb s 1) none (cond (eqb s 2) none none)) ≡ cond (eqb s 0) x none
-  row-0 = rw (same (eqb s 2), same (eqb s 1))
+  row-0 = rw (if-none (eqb s 2), if-none (eqb s 1))
 
   pub rows-01 : (y : Option m.Body) → cond (eqb s 0) x (cond (eqb s 1) y (cond (eqb s 2) none none)) ≡ cond (eqb s 0) x (cond (eqb s 1) y none)
-  rows-01 y = rw (same (eqb s 2))
+  rows-01 y = rw (if-none (eqb s 2))
 
   pub rows-02 : (y : Option m.Body) → cond (eqb s 0) x (cond (eqb s 1) none (cond (eqb s 2) y none)) ≡ cond (eqb s 0) x (cond (eqb s 2) y none)
   rows-02 y = go (eqb s 1) refl

@@ -21,7 +21,7 @@ ghost use Prim.Native.Nat.{ℕ, _+_, _≤_, _<_};
 ghost use lib.ListN.{length};
 ghost use Rattle.wire.specs.Codec.{Valid};
 ghost use Rattle.wire.specs.Write.{written};
-ghost use Rattle.message.specs.Answer.{asSent};
+ghost use Rattle.message.specs.Sent.{asSent};
 ghost use Rattle.message.specs.Request as message;
 ghost use Rattle.message.specs.Request.{request, requestOf, requestIn};
 ghost use Rattle.map.specs.Step as map;

@@ -17,10 +17,10 @@ use Rattle.wire.proofs.Laws.{Laws, never, after-after}
 use Rattle.wire.proofs.At.{at-front, at-seq, at-type, at-guard, at-cond}
 use Rattle.message.specs.Request.{keyLimit, valueLimit}
 use Rattle.message.proofs.Most.{Most}
-use Rattle.field.specs.Answer.{stopped}
+use Rattle.field.specs.FieldRead.{stopped}
 use Rattle.field.proofs.Parts.{not-whole}
 use Rattle.hex.specs.Hex.{fromHex}
-use Rattle.hex.specs.Answer.{decodedTo, decoded}
+use Rattle.hex.specs.Coding.{decodedTo, decoded}
 use Rattle.hex.specs.declared.Decoded.{Decoded}
 use Rattle.hex.specs.declared.Decoded.the-variants as d
 use Rattle.hex.proofs.Decoded as decoded-type

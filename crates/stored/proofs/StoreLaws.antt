@@ -21,7 +21,7 @@ use Rattle.message.specs.Request.{keyLimit, valueLimit}
 use Rattle.message.proofs.Most.{Most}
 use Rattle.map.specs.State.{Entry, State, fresh}
 use Rattle.hex.specs.Hex.{toHex}
-use Rattle.hex.specs.Answer.{encoded}
+use Rattle.hex.specs.Coding.{encoded}
 use Rattle.hex.proofs.HexLaws.{hex-length}
 use Rattle.table.specs.Bytes.{be8, part}
 use Rattle.table.specs.Memory.{size, rowAt, entry, entryOf, entriesOf, stateOf}

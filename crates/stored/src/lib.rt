@@ -10,7 +10,7 @@ ghost use Prim.Native.Nat.{_≤_};
 ghost use lib.ListN.{length};
 ghost use lib.Seq.{sets};
 ghost use Rattle.wire.specs.Write.{laid};
-ghost use Rattle.message.specs.Answer.{asSent};
+ghost use Rattle.message.specs.Sent.{asSent};
 ghost use Rattle.table.specs.Memory.{size, stateOf};
 ghost use Rattle.table.specs.Change.{Answers, AnswersBy};
 ghost use Rattle.stored.specs.File.{form1, file};

@@ -144,7 +144,8 @@ pub record Filled (m v at : ℕ) (old new : List ℕ) (x i : ℕ) : Type 0 where
   pub long : length new ≡ length old
   pub within : i ≤ m
 
-sets-after : (vs l : List ℕ) (i j b : ℕ) → j < i → set (sets l i vs) j b ≡ sets (set l j b) i vs
+-- a write before others
+pub sets-after : (vs l : List ℕ) (i j b : ℕ) → j < i → set (sets l i vs) j b ≡ sets (set l j b) i vs
 sets-after [] l i j b h = refl
 sets-after (x ∷ vs) l i j b h =
     sets-after vs (set l i x) (suc i) j b (omega arith) ∙ ap (λ (m : List ℕ). sets m (suc i) vs) (set-comm l i j x b (λ e. omega arith))

@@ -1,4 +1,5 @@
 pub mod Laws
+pub mod Basics
 pub mod NumberLaws
 pub mod NumberRead
 pub mod NumberWrite

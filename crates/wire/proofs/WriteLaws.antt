@@ -6,7 +6,7 @@ use Prim.Native.Nat.{ℕ, suc, _+_, _-_, _≤_, _<_}
 use native.Mathlib.Nat.{zero-add, add-zero, add-suc, suc-add}
 use native.Mathlib.Omega.{arith}
 use lib.ListN.{length, take, drop, set, length-append, length-drop, drop-of-length-le}
-use lib.Seq.{sets, sets-eq, length-sets, drop-at, drop-drop, take-all, take-length, length-take-le}
+use lib.Seq.{sets, sets-eq, length-sets, drop-drop, take-all, take-length}
 use lib.Dec.{leb}
 use borrow.Author.Tests.{le-leb, lt-leb}
 use Rattle.wire.specs.Codec.{whole, Codec, Valid, raw, guard, seq, as-type, readAt}
@@ -104,21 +104,6 @@ module _ {A : Type 0} (c : Codec A) (a : A) (old : List ℕ) where
   pub send-room : Valid c a → Room c a 0 old → send c a old ≡ (written (length (c .enc a)), c .enc a ++ drop (length (c .enc a)) old)
   unfolding send
   send-room v h = rw (v, le-leb (length (c .enc a)) (length old) (omega arith))
-
-  -- a message with a written form and room for it comes back from any reader of what was left
-  pub send-back : Laws c → Valid c a → Room c a 0 old → (r : Sent) (new : List ℕ) → (r, new) ≡ send c a old → readAt c new 0 ≡ whole a (length (c .enc a))
-  send-back l v h r new e =
-      let q : new ≡ c .enc a ++ drop (length (c .enc a)) old = ap (λ (p : Sent × List ℕ). p .1) (e ∙ send-room v h) in
-      rw q (send-read l (c .enc a ++ drop (length (c .enc a)) old) (length (c .enc a)) (send-room v h))
-
--- what was written is read back where it was written
-pub wrote-read : {A : Type 0} (c : Codec A) → Laws c → (a : A) (old new : List ℕ) (at r : ℕ)
-    → Valid c a → at + length (c .enc a) ≤ length old → Wrote c a old new at r → readAt c new at ≡ whole a r
-unfolding readAt
-wrote-read c l a old new at r v h w =
-    let p : drop at new ≡ c .enc a ++ drop (at + length (c .enc a)) old =
-    rw (w .list, sets-eq (c .enc a) old at h, append-assoc) (drop-at (take at old) _ at (length-take-le at old (omega arith))) in
-    rw (p, l .round a (drop (at + length (c .enc a)) old) v, w .next)
 
 -- bytes copied to the front of what stands from `at` on
 pub wrote-copy : (n at : ℕ) (s old new : List ℕ) → at + length s ≤ length old → new ≡ take (length s) s ++ drop (length s) (take (length old - at) (drop at old))

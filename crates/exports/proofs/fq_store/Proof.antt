@@ -1,6 +1,6 @@
 -- `exports::fq_store` meets its contract: what storing answers is told. Assumes nothing.
 use native.Mathlib.Omega.{arith}
-use Rattle.message.specs.Answer.{asSent}
+use Rattle.message.specs.Sent.{asSent}
 use Rattle.exports.proofs.CodeLaws.{storing-fits}
 use borrow.Author.Needs.{needs}
 use Rattle.exports.proofs.fq_store.Statement.{statement}

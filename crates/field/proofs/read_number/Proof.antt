@@ -8,7 +8,7 @@ use lib.Dec.{lit≤}
 use Rattle.wire.specs.Codec.{readAt}
 use Rattle.wire.specs.Number.{limit, number}
 use Rattle.wire.proofs.NumberRead.{Going, start, step, factor, fits-last, fits-short, at-end, at-low, at-last, at-over, at-short}
-use Rattle.field.specs.Answer.{numberOf, topOf, mostOf}
+use Rattle.field.specs.FieldRead.{numberOf, topOf, mostOf}
 use Rattle.field.specs.declared.Kind.{Kind}
 use Rattle.field.specs.declared.Kind.the-variants.{VInt, VLong}
 use borrow.Author.Needs.{needs}

@@ -3,7 +3,7 @@ use mathlib.Core.Path.{ap, _∙_}
 use Rattle.wire.specs.Codec.{refuse, mapped}
 use Rattle.message.specs.Reply.{reply}
 use Rattle.wire.proofs.At.{at-front}
-use Rattle.reply.specs.Answer.{replyAt}
+use Rattle.reply.specs.ReplyRead.{replyAt}
 use borrow.Author.Needs.{needs}
 use Rattle.reply.proofs.read_reply.Statement.{statement}
 use Rattle.reply.proofs.read_reply.Tie as tie

@@ -6,7 +6,7 @@ use lib.ListN.{length}
 use Rattle.wire.specs.Number.{number, vLong}
 use Rattle.wire.proofs.NumberWrite.{enc-some}
 use Rattle.wire.proofs.WriteLaws.{put-broken, put-short, put-done}
-use Rattle.field.specs.Answer.{numberOf, greatestOf}
+use Rattle.field.specs.FieldRead.{numberOf, greatestOf}
 use Rattle.field.proofs.Numbers.{kind-good, kind-bad, kind-bytes, wrote-kind, greatest-long}
 use borrow.Author.Needs.{needs}
 use Rattle.field.proofs.put.put_number.Statement.{statement}

@@ -3,7 +3,7 @@ use mathlib.Core.Path.{sym, _∙_}
 use borrow.Author.Tests.{not-true, not-false}
 use Rattle.wire.specs.Codec.{guard}
 use Rattle.wire.specs.Write.{putAt}
-use Rattle.field.specs.Answer.{limitedText}
+use Rattle.field.specs.FieldRead.{limitedText}
 use borrow.Author.Needs.{needs}
 use Rattle.field.proofs.put.put_text.Statement.{statement}
 use Rattle.field.proofs.put.put_text.Tie as tie

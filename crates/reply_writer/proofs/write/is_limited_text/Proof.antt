@@ -1,7 +1,7 @@
 -- `reply_writer::write::is_limited_text` meets its contract. Assumes nothing.
 use mathlib.Core.Path.{sym, _∙_}
 use Rattle.wire.specs.Codec.{guard}
-use Rattle.field.specs.Answer.{limitedText}
+use Rattle.field.specs.FieldRead.{limitedText}
 use borrow.Author.Needs.{needs}
 use Rattle.reply_writer.proofs.write.is_limited_text.Statement.{statement}
 use Rattle.reply_writer.proofs.write.is_limited_text.Tie as tie

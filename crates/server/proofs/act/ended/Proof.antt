@@ -1,7 +1,7 @@
 -- `server::act::ended` meets its contract. Assumes nothing.
 use mathlib.Core.Path.{refl, sym, ap, _∙_}
 use Rattle.wire.proofs.Laws.{never}
-use Rattle.message.specs.Answer.{asSent}
+use Rattle.message.specs.Sent.{asSent}
 use Rattle.wire.proofs.WriteLaws.{count}
 use borrow.Author.Needs.{needs}
 use Rattle.server.proofs.act.ended.Statement.{statement}

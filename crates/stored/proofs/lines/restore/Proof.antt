@@ -10,7 +10,7 @@ use Rattle.stored.specs.Answer.{exactly}
 use Rattle.message.specs.Request.{keyLimit, valueLimit}
 use Rattle.wire.proofs.Laws.{after-after}
 use Rattle.field.proofs.Parts.{span-stops, limited-in}
-use Rattle.field.specs.Answer.{partOf, asSpan}
+use Rattle.field.specs.FieldRead.{partOf, asSpan}
 use Rattle.map.specs.State.{Entry}
 use Rattle.stored.proofs.LoadLaws.{entry-at, stopped-none}
 use borrow.Author.Needs.{needs}

@@ -1,7 +1,7 @@
 -- What the reader answers of a reply: its numbers, and where its value and its text stand in the bytes.
 use Prim.Native.Nat.{ℕ}
 use Rattle.wire.specs.Codec.{Read, whole, more, refused}
-use Rattle.field.specs.Answer.{spanTo}
+use Rattle.field.specs.FieldRead.{spanTo}
 use Rattle.field.specs.declared.Span.{Span}
 use Rattle.message.specs.Reply.{Reply, Payload}
 use Rattle.message.specs.declared.ReplyHead.{ReplyHead}

@@ -7,7 +7,7 @@ use lib.Dec.{leb}
 use Rattle.wire.specs.Codec.{Read, whole, more, refused, Codec, byte, guard, seq, as-type, all}
 use Rattle.wire.specs.Number.{vInt}
 use Rattle.wire.specs.Field.{limited}
-use Rattle.field.specs.Answer.{limitedText, spanTo}
+use Rattle.field.specs.FieldRead.{limitedText, spanTo}
 use Rattle.message.specs.declared.Head.{Head}
 use Rattle.message.specs.declared.Request as code
 use Rattle.message.specs.Request.{Request, nameLimit, keyLimit, operation, transaction, isVersion, editionAt}

@@ -1,5 +1,4 @@
 -- What a writer's answer says.
-use Prim.Native.Nat.{ℕ}
 use Rattle.wire.specs.Write as wire
 use Rattle.message.specs.declared.Sent.{Sent}
 use Rattle.message.specs.declared.Sent.the-variants as s

@@ -33,19 +33,18 @@ use Rattle.map.specs.Reply.{flat, pieces}
 use Rattle.map.proofs.Keeps.{keeps}
 use Rattle.map.proofs.Answered.{did}
 use Rattle.map.proofs.Format.{answer-most}
-use Rattle.line.specs.Line.{longest, asksOf, asks, Given, given, stateLeft, refused15, onOutcome, onFrame, onAsked, lineStep}
-use Rattle.line.specs.Feed.{lineEnd, Turn, turn, ended, turnOf}
-use Rattle.line.specs.Turns.{lineRoom, both, Turns, full, done, then}
-use Rattle.line.proofs.Pieces.{left-later}
+use Rattle.service.specs.Line.{longest, asksOf, asks, Given, given, stateLeft, refused15, onOutcome, onFrame, onAsked, lineStep}
+use Rattle.service.specs.Feed.{lineEnd, Turn, turn, ended, turnOf}
+use Rattle.service.specs.Turns.{lineRoom, both, Turns, full, done, then}
+use Rattle.service.proofs.Pieces.{left-later}
 use Rattle.table.proofs.Lists.{lt-or-ge}
 use Rattle.table.specs.Bytes.{part}
 use Rattle.table.specs.Write.{put}
 use Rattle.table.specs.Memory.{stateOf, Sound}
 use Rattle.table.specs.Form.{form}
 use Rattle.table.proofs.HasForm.{has-form}
-use Rattle.stream.specs.Sound.{isSound}
-use Rattle.stream.specs.Stream.{Left}
-use Rattle.stream.proofs.Sounds.{is-sound, sound-is}
+use Rattle.service.specs.Stream.{Left}
+use Rattle.service.proofs.Decides.{decSound}
 use Rattle.server.specs.declared.Fed.{Fed}
 use Rattle.server.specs.declared.Served.the-variants as served
 use Rattle.server.specs.Lines.{fedOf, TurnsDone}
@@ -185,7 +184,7 @@ turns-exist (suc n) last p s st room f h = turns-from last p s st room f (λ p u
 -- a table that is left
 leaves : (t : List ℕ) (o : Option State) → Fit (stateLeft (stateOf t) o) → (t′ : List ℕ) × Left t o t′
 leaves t none f = (t, refl)
-leaves t (some st) f = let m = has-form st (f .table) (f .order) in (form st, (m .state, sound-is (form st) (m .sound)))
+leaves t (some st) f = let m = has-form st (f .table) (f .order) in (form st, (m .state, m .sound))
 
 -- what can be done, for each case of what is given
 module _ (buf t out : List ℕ) (s : Window) where
@@ -212,7 +211,7 @@ module _ (buf t out : List ℕ) (s : Window) where
 
   serve : Ready buf t out s → Answers buf t out s
   serve r =
-      let d = is-sound t (r .sound) in
+      let d = r .sound in
       let e = turns-exist (suc (length (inside buf s))) (s .ended) (s .carried) (inside buf s) (stateOf t) (length out) (record { table = d .table; order = d .form .order }) (omega arith) in
       let x : Turn = e .turn in
       let m = leaves t (x .next) (e .fits .fit) in
@@ -226,13 +225,13 @@ module _ (buf t out : List ℕ) (s : Window) where
   with-lies : Lies buf s → Answers buf t out s
   with-lies i =
       ⊎-elim
-      (λ l. ⊎-elim (λ h. refused 12 (record { why = inl (refl, inr h); lies = i; same = same })) (λ h. test l h (isSound t) refl) (lt-or-ge (length out) lineRoom))
+      (λ l. ⊎-elim (λ h. refused 12 (record { why = inl (refl, inr h); lies = i; same = same })) (λ h. test l h (decSound t)) (lt-or-ge (length out) lineRoom))
       (λ l. refused 12 (record { why = inl (refl, inl l); lies = i; same = same }))
       (lt-or-ge longest (length buf))
     where
-      test : longest < length buf → lineRoom ≤ length out → (b : Bool) → isSound t ≡ b → Answers buf t out s
-      test l h true e = serve (record { lies = i; long = l; room = h; sound = e })
-      test l h false e = refused 13 (record { why = inr (refl, l, h, e); lies = i; same = same })
+      test : longest < length buf → lineRoom ≤ length out → Dec (Sound t) → Answers buf t out s
+      test l h (yes e) = serve (record { lies = i; long = l; room = h; sound = e })
+      test l h (no e) = refused 13 (record { why = inr (refl, l, h, e); lies = i; same = same })
 
   pub answers : Answers buf t out s
   answers =

@@ -16,7 +16,8 @@ use Rattle.table.specs.Memory.{entry, stateOf, Sound}
 use Rattle.table.proofs.Lists.{lt-or-ge}
 use Rattle.table.proofs.Restores.{each-mid}
 use Rattle.stored.specs.File.{form1, entryLine, headLine, line, entryLines, file}
-use Rattle.stored.specs.Answer.{lineAt, laid}
+use Rattle.wire.specs.Write.{laid}
+use Rattle.stored.specs.Answer.{lineAt}
 use Rattle.stored.proofs.LineLaws.{entry-most, head-most, head-good, table-good}
 use Rattle.stored.proofs.StoreLaws.{laid-done, twice, line-length}
 use Rattle.files.specs.declared.NextStore.{NextStore}

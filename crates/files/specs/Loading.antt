@@ -5,7 +5,7 @@ use mathlib.Core.Bool.{Bool, true, false}
 use mathlib.Core.List.{List, [], _∷_, _++_}
 use Prim.Native.Nat.{ℕ, _≤_, _<_}
 use lib.ListN.{length, drop}
-use Rattle.line.specs.Feed.{joined}
+use Rattle.service.specs.Feed.{joined}
 use Rattle.stored.specs.File.{form1}
 use Rattle.stored.specs.Answer.{LoadsLines}
 use Rattle.stored.specs.declared.Loading.{Loading}

@@ -3,8 +3,7 @@ use native.Mathlib.Omega.{arith}
 use Rattle.message.specs.Request.{requestIn}
 use Rattle.map.specs.Step.{step}
 use Rattle.table.specs.Memory.{stateOf}
-use Rattle.line.specs.Line.{onOutcome}
-use Rattle.stream.proofs.Sounds.{is-sound}
+use Rattle.service.specs.Line.{onOutcome}
 use Rattle.server.specs.Act.{at}
 use Rattle.server.proofs.LineLaws.{Shows, shows, gives}
 use borrow.Author.Needs.{needs}
@@ -14,7 +13,7 @@ use Rattle.server.proofs.lines.send_reply.Tie as tie
 perform-requires : tie.Need-perform-requires
 perform-requires c κs =
     let s = c .before .before .before .before .before in
-    (record { sound = is-sound _ (s .pre .0); room = omega arith; second = s .pre .1 .1 .0 }, s .pre .1 .1 .1)
+    (record { sound = s .pre .0; room = omega arith; second = s .pre .1 .1 .0 }, s .pre .1 .1 .1)
 
 -- the reply in its buffer
 abbrev begin : tie.After-perform → tie.Start

@@ -29,12 +29,11 @@ use Rattle.map.specs.Step.{Context, Change, keep, store, drop, empty, Outcome, 
 use Rattle.map.specs.Reply.{flat}
 use Rattle.map.proofs.Answered.{did}
 use Rattle.map.proofs.Format.{answer-most}
-use Rattle.table.specs.Memory.{stateOf}
-use Rattle.stream.specs.Sound.{isSound}
-use Rattle.stream.specs.Serve.{Effect, refused, errorPieces, still, onStep, onRead, serve, room}
-use Rattle.stream.specs.Stream.{Call, Done, Left, effectOf, Serves}
-use Rattle.stream.specs.Many.{goesOn}
-use Rattle.stream.proofs.Sounds.{is-sound}
+use Rattle.table.specs.Memory.{stateOf, Sound}
+use Rattle.service.specs.Serve.{Effect, refused, errorPieces, still, onStep, onRead, serve, room}
+use Rattle.service.specs.Stream.{Call, Done, Left, Serves}
+use Rattle.service.specs.Many.{goesOn}
+use Rattle.service.proofs.Sounds.{sound-is, effectIn, does-in}
 
 -- a step is refused by 9, 10 or 11
 abbrev Late : Outcome → Type 0
@@ -107,15 +106,15 @@ module _ (input : List ℕ) (b : Bytes input) (small : idIn input < 0x8000_0000_
       }
 
 -- of a call
-pub facts : (input : List ℕ) → Bytes input → idIn input < 0x8000_0000_0000_0000 → (t : List ℕ) (c : Call) (d : Done) → isSound t ≡ true → room ≤ length (c .buffer)
-    → Serves input t c d → Facts input (effectOf input t c)
+pub facts : (input : List ℕ) → Bytes input → idIn input < 0x8000_0000_0000_0000 → (t : List ℕ) (c : Call) (d : Done) → Sound t → room ≤ length (c .buffer)
+    → Serves input t c d → Facts input (effectIn input t c)
 unfolding serve
-facts input b i t c d s h x = rw (le-ltb (length (c .buffer)) room h, s) (facts-read input b i (c .context) (stateOf t) (is-sound t s .table) (request .dec input) refl)
+facts input b i t c d s h x = rw (le-ltb (length (c .buffer)) room h, sound-is t s) (facts-read input b i (c .context) (stateOf t) (s .table) (request .dec input) refl)
 
 -- a sound table stays sound
-pub stays-sound : (input t : List ℕ) (c : Call) (d : Done) → isSound t ≡ true → Serves input t c d → isSound (d .table) ≡ true
-stays-sound input t c d s x = go (effectOf input t c .next) (x .table)
+pub stays-sound : (input t : List ℕ) (c : Call) (d : Done) → Sound t → Serves input t c d → Sound (d .table)
+stays-sound input t c d s x = go (effectIn input t c .next) (does-in x .table)
   where
-    go : (n : _) → Left t n (d .table) → isSound (d .table) ≡ true
-    go none e = ap isSound e ∙ s
+    go : (n : _) → Left t n (d .table) → Sound (d .table)
+    go none e = rw e s
     go (some st) e = e .1

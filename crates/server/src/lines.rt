@@ -15,10 +15,10 @@ ghost use lib.ListN.{length};
 ghost use Rattle.hex.specs.Hex.{toHex};
 ghost use Rattle.wire.specs.Codec.{Valid};
 ghost use Rattle.message.specs.Request.{request, requestIn};
-ghost use Rattle.message.specs.Reply.{errorReply};
-ghost use Rattle.message.specs.Refusal.{refusal};
 ghost use Rattle.request.specs.Answer.{idIn};
 ghost use Rattle.map.specs.Step.{step};
+ghost use Rattle.map.specs.Reply.{flat};
+ghost use Rattle.service.specs.Serve.{errorPieces};
 ghost use Rattle.service.specs.Feed.{lineEnd, turnOf};
 ghost use Rattle.service.specs.Turns.{lineRoom};
 ghost use Rattle.table.specs.Memory.{stateOf, Sound};
@@ -85,7 +85,7 @@ fn send_error(frame: &[u8], k: u8, out: &mut [u8], at: usize) -> usize
     requires { ⌜ at + lineRoom ≤ length (now out) ⌝ }
     requires { ⌜ 1 ≤ k ⌝ }
     requires { ⌜ k ≤ 11 ⌝ }
-    ensures { λ r. ⌜ Puts (toHex (errorReply .enc (refusal k (idIn (now (frame .entry))))) ++ (0x0a ∷ [])) (now (out .entry)) (now (out .exit)) at r ⌝ }
+    ensures { λ r. ⌜ Puts (toHex (flat (errorPieces k (idIn (now (frame .entry))))) ++ (0x0a ∷ [])) (now (out .entry)) (now (out .exit)) at r ⌝ }
 {
     let mut reply = [0; 512];
     let a = act::refuse(&mut reply, request::read_id(frame), k, 0);
@@ -105,10 +105,10 @@ fn send_reply(
     requires { ⌜ at + lineRoom ≤ length (now out) ⌝ }
     requires { ⌜ second .0 < 0x1_0000_0000 ⌝ }
     requires { ⌜ Valid request (requestIn (now frame) r) ⌝ }
-    ensures { λ n. ⌜ GivesReply (requestIn (now (frame .entry)) r) (step (asked (second .0) (now (frame .entry)) .context) (requestIn (now (frame .entry)) r) (stateOf (now (t .entry)))) (now (out .entry)) (now (out .exit)) at n (now (t .entry)) (now (t .exit)) ⌝ }
+    ensures { λ n. ⌜ GivesReply (requestIn (now (frame .entry)) r) (length (now (frame .entry))) (step (asked (second .0) (now (frame .entry)) .context) (requestIn (now (frame .entry)) r) (stateOf (now (t .entry)))) (now (out .entry)) (now (out .exit)) at n (now (t .entry)) (now (t .exit)) ⌝ }
 {
     let mut reply = [0; 512];
-    let a = act::perform(frame, r, 0, t, second, &mut reply);
+    let a = act::perform(frame, r, frame.len(), t, second, &mut reply);
     put_reply(&reply[..a.size], out, at)
 }
 

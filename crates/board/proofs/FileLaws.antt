@@ -19,7 +19,6 @@ use Rattle.board.specs.declared.file.Turned.the-variants as turned
 use Rattle.board.proofs.file.Turned as turned-code
 use Rattle.board.specs.Turn.{Piece, FileServed, LoadReady, Loads, Builds, Stores}
 use Rattle.table.specs.Memory.{Sound}
-use Rattle.stream.proofs.Sounds.{sound-is}
 use Rattle.files.specs.declared.NextStore.{NextStore}
 use Rattle.files.specs.declared.NextStore.the-variants as store
 use Rattle.files.specs.Storing.{StoreReady, StoresNext}
@@ -63,7 +62,7 @@ pub load-begin : (buf : List ℕ) → length buf ≡ 65536 → LoadReady buf beg
 load-begin buf h = record { lies = record { order = omega arith; within = omega arith }; long = omega arith }
 
 pub serve-begin : (buf t out : List ℕ) → length buf ≡ 65536 → length out ≡ 65536 → Sound t → Ready buf t out begin
-serve-begin buf t out h o s = record { lies = record { order = omega arith; within = omega arith }; long = omega arith; room = omega arith; sound = sound-is t s }
+serve-begin buf t out h o s = record { lies = record { order = omega arith; within = omega arith }; long = omega arith; room = omega arith; sound = s }
 
 pub storing : {t out : List ℕ} (out′ : List ℕ) (i : ℕ) (r : NextStore) → StoreReady t out → StoresNext t out i r out′ → Stores r
 storing out′ i (store.Write n j) r x = tt

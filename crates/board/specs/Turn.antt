@@ -4,7 +4,7 @@ use mathlib.Core.Bool.{Bool, true}
 use mathlib.Core.List.{List, [], _++_}
 use Prim.Native.Nat.{ℕ, _<_}
 use lib.ListN.{length}
-use Rattle.line.specs.Feed.{joined}
+use Rattle.service.specs.Feed.{joined}
 use Rattle.table.specs.Memory.{size, stateOf, Sound}
 use Rattle.stored.specs.File as file
 use Rattle.stored.specs.File.{form1}

@@ -12,7 +12,7 @@ use Rattle.wire.specs.Codec.{Valid}
 use Rattle.wire.proofs.Laws.{never}
 use Rattle.map.specs.State.{Entry, State}
 use Rattle.map.specs.Table.{Each}
-use Rattle.line.specs.Feed.{joined}
+use Rattle.service.specs.Feed.{joined}
 use Rattle.hex.specs.Hex.{toHex}
 use Rattle.hex.proofs.HexLaws.{hex-length}
 use Rattle.table.specs.Bytes.{part}

@@ -4,7 +4,7 @@ use mathlib.Core.Bool.{Bool, true, false, cond}
 use mathlib.Core.List.{List, [], _∷_, _++_}
 use Prim.Native.Nat.{ℕ, _+_, _≤_, _<_}
 use lib.ListN.{length, drop}
-use Rattle.line.specs.Feed.{joined}
+use Rattle.service.specs.Feed.{joined}
 use Rattle.map.specs.State.{State}
 use Rattle.table.specs.Memory.{stateOf}
 use Rattle.stored.specs.File.{form1}

@@ -41,8 +41,8 @@ use Rattle.reply_body.specs.declared.Form.{Form}
 use Rattle.reply_body.specs.declared.Form.the-variants as f
 use Rattle.reply_body.proofs.Form as form-code
 use Rattle.reply_body.proofs.BodyLaws.{code-small}
-use Rattle.stream.specs.Serve as stream
-use Rattle.stream.specs.Serve.{room, errorPieces}
+use Rattle.service.specs.Serve as stream
+use Rattle.service.specs.Serve.{room, errorPieces}
 use Rattle.plan.specs.declared.Held.{Held}
 use Rattle.plan.specs.Plan.{heldAt}
 use Rattle.server.specs.declared.Answer.{Answer}

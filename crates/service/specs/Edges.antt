@@ -1,24 +1,12 @@
 -- Document 01, 'Cases at the edges': the number cases and the five request lines, as one list under one claim.
-use mathlib.Core.Path.{_≡_, refl}
+use mathlib.Core.Path.{_≡_}
 use mathlib.Core.List.{List, [], _∷_, _++_}
 use Prim.Native.Nat.{ℕ}
-use Rattle.wire.specs.Codec.{Read, whole, more, refused, Codec, empty, byte, raw, guard, seq, as-type}
-use Rattle.wire.specs.Field.{bigEndian, limited}
-use Rattle.wire.specs.Number.{numberDec, numberEnc, number, vInt, vLong}
-use Rattle.field.specs.Answer.{limitedText}
-use Rattle.text.specs.Text.{textAfter, isText}
-use Rattle.hex.specs.Hex.{digitOf, isDigit, digitValue, toHex, fromHex}
-use Rattle.hex.specs.Number.{second}
-use Rattle.message.specs.Edition.{editionOf}
-use Rattle.message.specs.Operation.{findCode}
-use Rattle.message.specs.Refusal.{rows, rowOf, refusal}
-use Rattle.message.specs.Reply.{bodyAt, textBody, bodyOf, fields, message, errorReply}
-use Rattle.message.specs.Request.{shapeOf, argsOf, operation, transaction, fields as request-fields, request}
-use Rattle.request.specs.Answer.{start, idIn}
-use Rattle.map.specs.Reply.{flat, shownPieces, pieces}
-use Rattle.map.specs.Step.{plans, plan, shows, entry, stored, held, full, planned, answer, act, step}
-use Rattle.line.specs.Line.{asks, onOutcome, onFrame, stateLeft, lineStep}
-use Rattle.map.specs.State.{State, fresh, sameList, find, without}
+use Rattle.wire.specs.Codec.{Read, whole, more, refused, Codec}
+use Rattle.wire.specs.Number.{vInt, vLong}
+use Rattle.hex.specs.Hex.{toHex}
+use Rattle.map.specs.State.{State}
+use Rattle.service.specs.Line.{stateLeft, lineStep}
 
 pub data Kind : Type 0 where
   int long : Kind
@@ -65,8 +53,3 @@ cases =
     ∷ line (0x00 ∷ 0x00 ∷ 0x00 ∷ 0x06 ∷ []) (0xa0 ∷ 0x03 ∷ 0x0a ∷ 0x0d ∷ 0x00 ∷ 0x01 ∷ 0x01 ∷ 0x00 ∷ 0x00 ∷ 0x02 ∷ 0x62 ∷ 0x31 ∷ 0x00 ∷ 0x00 ∷ 0x00 ∷ 0x00 ∷ 0x00 ∷ 0x00 ∷ 0x00 ∷ 0x02 ∷ []) (0xa1 ∷ 0x03 ∷ 0x0e ∷ 0x01 ∷ 0x00 ∷ 0x00 ∷ [])
     ∷ line (0x00 ∷ 0x00 ∷ 0x00 ∷ 0x07 ∷ []) (0xa1 ∷ []) (0xa1 ∷ 0x00 ∷ 0x50 ∷ 0x81 ∷ 0x00 ∷ 0x09 ∷ 0x62 ∷ 0x61 ∷ 0x64 ∷ 0x20 ∷ 0x6d ∷ 0x61 ∷ 0x67 ∷ 0x69 ∷ 0x63 ∷ [])
     ∷ []
-
-pub edges : All cases fresh
-unfolding cases limitedText empty byte raw guard seq as-type bigEndian limited numberDec numberEnc number vInt vLong textAfter isText digitOf isDigit digitValue toHex fromHex second editionOf findCode rows rowOf refusal bodyAt textBody bodyOf fields message errorReply shapeOf argsOf operation transaction request-fields request start idIn flat shownPieces pieces sameList find without plans plan shows entry stored held full planned answer act step asks onOutcome onFrame lineStep
-edges =
-    ((refl, refl), ((refl, refl), ((refl, refl), ((refl, refl), ((refl, refl), ((refl, refl), ((refl, tt), ((refl, tt), ((refl, tt), ((refl, refl), (refl, (refl, (refl, (refl, (refl, tt)))))))))))))))

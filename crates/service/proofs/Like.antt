@@ -13,10 +13,11 @@ use Rattle.map.specs.Reply.{Piece, flat}
 use Rattle.map.proofs.Sent as sent
 use Rattle.map.proofs.Sent.{same-size}
 use Rattle.table.specs.Memory.{stateOf}
-use Rattle.stream.specs.Sound.{isSound}
-use Rattle.stream.specs.Serve.{Answer, Effect}
-use Rattle.stream.specs.Stream.{Call, Done, Left, Does}
-use Rattle.stream.specs.Demand3.{Progress, ahead, wrote, gone, stateBut, sentBut, Alike}
+use Rattle.service.specs.Serve.{Answer, Effect}
+use Rattle.service.specs.Stream.{Call, Done, Left, Does}
+use Rattle.service.specs.Demand3.{Progress, ahead, wrote, gone, stateBut, sentBut, Alike}
+use Rattle.service.proofs.Decides.{isSound}
+use Rattle.service.proofs.Sounds.{both-sound}
 
 pub answered-answer : {a b : map-step.Answer} {s t : State} → answered a s ≡ answered b t → a ≡ b
 answered-answer e = cc
@@ -71,4 +72,4 @@ same-next t t′ n n′ s s′ g e x y = go n x (subst (λ (m : Option State). L
   where
     go : (m : Option State) → Left t m s → Left t′ m s′ → Same s s′
     go none p q = rw (p, q) g
-    go (some st) p q = record { state = q .0 ∙ sym (p .0); sounds = q .1 ∙ sym (p .1) }
+    go (some st) p q = record { state = q .0 ∙ sym (p .0); sounds = both-sound s′ s (q .1) (p .1) }

@@ -29,15 +29,14 @@ use Rattle.map.specs.Step.{Context, Change, keep, store, drop, empty, Outcome, 
 use Rattle.map.specs.Reply.{flat}
 use Rattle.map.proofs.Answered.{did}
 use Rattle.map.proofs.Format.{answer-most}
-use Rattle.table.specs.Memory.{stateOf}
-use Rattle.stream.specs.Sound.{isSound}
-use Rattle.stream.specs.Serve.{Effect, refused, errorPieces, still, onStep, onRead, serve, room}
-use Rattle.stream.specs.Stream.{Call, Done, Left, effectOf, Serves}
-use Rattle.stream.specs.Many.{goesOn}
-use Rattle.stream.proofs.Sounds.{is-sound}
+use Rattle.table.specs.Memory.{stateOf, Sound}
+use Rattle.service.specs.Serve.{Effect, refused, errorPieces, still, onStep, onRead, serve, room}
+use Rattle.service.specs.Stream.{Call, Done, Left, Serves}
+use Rattle.service.specs.Many.{goesOn}
+use Rattle.service.proofs.Sounds.{sound-is, effectIn, does-in}
 
 -- a step is refused by 9, 10 or 11
-abbrev Late : Outcome → Type 0
+abbrev pub Late : Outcome → Type 0
 Late (map-step.refused k) = (9 ≤ k) × (k ≤ 11)
 Late (answered a st) = Unit {0}
 
@@ -52,11 +51,12 @@ late-act c r st a drop = tt
 late-act c r st a empty = tt
 late-act c r st a store = late-cond (full r st) _ _ (omega arith) (late-cond (ltb (st .last) lastVersion) _ _ tt (omega arith))
 
-late : (c : Context) (r : Request) (st : State) → Late (step c r st)
+pub late : (c : Context) (r : Request) (st : State) → Late (step c r st)
 unfolding step
 late c r st = late-cond (isEmpty (r .name)) _ _ (late-act c r st (answer r st) (planned r st .change)) (omega arith)
 
-error-size : (k id : ℕ) → 1 ≤ k → k ≤ 11 → id < 0x8000_0000_0000_0000 → length (flat (errorPieces k id)) ≤ room
+-- an error reply has at most 279 bytes, as any reply has
+pub error-size : (k id : ℕ) → 1 ≤ k → k ≤ 11 → id < 0x8000_0000_0000_0000 → length (flat (errorPieces k id)) ≤ 279
 unfolding flat
 error-size k id l h i =
     rw (append-nil (errorReply .enc (refusal k id))) (omega (arith, error-most (refusal k id) (refusal-good k id l h i)))
@@ -84,7 +84,7 @@ module _ (input : List ℕ) (b : Bytes input) (small : idIn input < 0x8000_0000_
       record {
         within = request-laws .spans input r n e;
         some = λ _. some-bytes r n e;
-        size = error-size k (r .id) (omega (arith, h .0)) (h .1) (request-small r v .id);
+        size = omega (arith, error-size k (r .id) (omega (arith, h .0)) (h .1) (request-small r v .id));
       }
   facts-step r n e (answered a t) q h =
       let v = request-laws .exact input r n b e .good in
@@ -103,19 +103,19 @@ module _ (input : List ℕ) (b : Bytes input) (small : idIn input < 0x8000_0000_
       record {
         within = omega arith;
         some = λ g. never (let z : goesOn (refused k) ≡ false = rw (lt-leb 9 k (omega (arith, l .1))) in cc);
-        size = error-size k (idIn input) (l .0) (omega (arith, l .1)) small;
+        size = omega (arith, error-size k (idIn input) (l .0) (omega (arith, l .1)) small);
       }
 
 -- of a call
-pub facts : (input : List ℕ) → Bytes input → idIn input < 0x8000_0000_0000_0000 → (t : List ℕ) (c : Call) (d : Done) → isSound t ≡ true → room ≤ length (c .buffer)
-    → Serves input t c d → Facts input (effectOf input t c)
+pub facts : (input : List ℕ) → Bytes input → idIn input < 0x8000_0000_0000_0000 → (t : List ℕ) (c : Call) (d : Done) → Sound t → room ≤ length (c .buffer)
+    → Serves input t c d → Facts input (effectIn input t c)
 unfolding serve
-facts input b i t c d s h x = rw (le-ltb (length (c .buffer)) room h, s) (facts-read input b i (c .context) (stateOf t) (is-sound t s .table) (request .dec input) refl)
+facts input b i t c d s h x = rw (le-ltb (length (c .buffer)) room h, sound-is t s) (facts-read input b i (c .context) (stateOf t) (s .table) (request .dec input) refl)
 
 -- a sound table stays sound
-pub stays-sound : (input t : List ℕ) (c : Call) (d : Done) → isSound t ≡ true → Serves input t c d → isSound (d .table) ≡ true
-stays-sound input t c d s x = go (effectOf input t c .next) (x .table)
+pub stays-sound : (input t : List ℕ) (c : Call) (d : Done) → Sound t → Serves input t c d → Sound (d .table)
+stays-sound input t c d s x = go (effectIn input t c .next) (does-in x .table)
   where
-    go : (n : _) → Left t n (d .table) → isSound (d .table) ≡ true
-    go none e = ap isSound e ∙ s
+    go : (n : _) → Left t n (d .table) → Sound (d .table)
+    go none e = rw e s
     go (some st) e = e .1

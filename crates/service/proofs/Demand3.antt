@@ -12,11 +12,11 @@ use Rattle.message.proofs.Lists.{lists}
 use Rattle.message.proofs.Value.{value-valid, value-last}
 use Rattle.map.specs.Step as map-step
 use Rattle.map.proofs.Sent as sent
-use Rattle.stream.specs.Serve.{served}
-use Rattle.stream.specs.Stream.{Call, Done, Run}
-use Rattle.stream.specs.Demand3.{ahead, SameCalls, Independent, Changed, Demand3}
-use Rattle.stream.proofs.Served.{served-calls}
-use Rattle.stream.proofs.Ahead.{ahead-independent}
+use Rattle.service.specs.Serve.{served}
+use Rattle.service.specs.Stream.{Call, Done, Run}
+use Rattle.service.specs.Demand3.{ahead, SameCalls, Independent, Changed, Demand3}
+use Rattle.service.proofs.Served.{served-calls}
+use Rattle.service.proofs.Ahead.{ahead-independent}
 
 split : (a : List Request) (r : Request) (b : List Request) → WellFormed (a ++ (r ∷ b)) → WellFormed a × Valid request r
 split [] r b v = (tt, v .0)

@@ -6,8 +6,8 @@ use mathlib.Core.Option.{none}
 use Prim.Native.Nat.{ℕ, _+_, _-_, _≤_, _<_}
 use lib.ListN.{length, drop}
 use Rattle.map.specs.State.{State}
-use Rattle.line.specs.Line.{stateLeft, later}
-use Rattle.line.specs.Feed.{Turn, turn, turnOf}
+use Rattle.service.specs.Line.{stateLeft, later}
+use Rattle.service.specs.Feed.{Turn, turn, turnOf}
 
 -- the room for the longest line that a line gives: 279 bytes in digits, and the line end
 abbrev pub lineRoom : ℕ

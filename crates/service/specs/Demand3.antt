@@ -1,7 +1,7 @@
 -- The claim about lists of requests and streams, as one record.
 use mathlib.Core.Path.{_≡_}
 use mathlib.Core.List.{List, [], _∷_, _++_, map}
-use mathlib.Core.Bool.{true, cond}
+use mathlib.Core.Bool.{Bool, cond}
 use Prim.Native.Nat.{ℕ, zero, suc, _≤_}
 use lib.ListN.{length, take, drop}
 use lib.Seq.{sets}
@@ -17,10 +17,10 @@ use Rattle.map.specs.Step as map-step
 use Rattle.map.specs.Step.{Outcome, answered, step, stateAfter}
 use Rattle.map.specs.Revalue.{stateWith, piecesWith}
 use Rattle.map.specs.Reply.{Piece, flat, pieces}
-use Rattle.table.specs.Memory.{stateOf}
-use Rattle.stream.specs.Sound.{isSound}
-use Rattle.stream.specs.Serve.{Answer, Effect, Verdict, served, refused, room}
-use Rattle.stream.specs.Stream.{Call, Done, effectOf, Run}
+use Rattle.table.specs.Memory.{stateOf, Sound}
+use Rattle.table.specs.Found.{Tells}
+use Rattle.service.specs.Serve.{Answer, Effect, Verdict, served, refused, room}
+use Rattle.service.specs.Stream.{Call, Done, effectOf, Run}
 
 -- what is seen of a call: its answer, the number of bytes sent and the buffer with them, and the state after it ("Of tables, the map's state is
 -- compared")
@@ -65,11 +65,10 @@ Roomy (suc n) [] = Unit {0}
 Roomy (suc n) (c ∷ cs) = (room ≤ length (c .buffer)) × Roomy n cs
 
 -- "at the same seconds and with the same reply room"
-abbrev pub SameCalls : List Call → List Call → Type 0
-SameCalls [] [] = Unit {0}
-SameCalls [] (c ∷ cs) = ⊥
-SameCalls (c ∷ cs) [] = ⊥
-SameCalls (c ∷ cs) (c′ ∷ cs′) = (c′ .context ≡ c .context) × (length (c′ .buffer) ≡ length (c .buffer)) × SameCalls cs cs′
+pub data SameCalls : List Call → List Call → Type 0 where
+  same-end : SameCalls [] []
+  same-call : {c c′ : Call} {cs cs′ : List Call} → c′ .context ≡ c .context → length (c′ .buffer) ≡ length (c .buffer) → SameCalls cs cs′
+      → SameCalls (c ∷ cs) (c′ ∷ cs′)
 
 -- how far a stream has come with one request of its row
 pub data Progress : Type 0 where
@@ -118,8 +117,8 @@ pub record Alike (u w : List ℕ) (p q : Progress) (e : Effect) (c c′ : Call) 
 -- call for call; input and table are those of the one
 pub data Independent (u w : List ℕ) : Progress → List ℕ → List ℕ → List Call → List Call → List Done → List Done → Type 0 where
   end : {p : Progress} {input table : List ℕ} → Independent u w p input table [] [] [] []
-  call : {p : Progress} {input table : List ℕ} {c c′ : Call} {cs cs′ : List Call} {d d′ : Done} {ds ds′ : List Done}
-      → Alike u w p (progress p table d) (effectOf input table c) c c′ d d′
+  call : {p : Progress} {input table : List ℕ} {c c′ : Call} {cs cs′ : List Call} {d d′ : Done} {ds ds′ : List Done} {ok : Bool}
+      → Tells ok (Sound table) → Alike u w p (progress p table d) (effectOf ok input table c) c c′ d d′
       → Independent u w (progress p table d) (drop (d .answer .taken) input) (d .table) cs cs′ ds ds′
       → Independent u w p input table (c ∷ cs) (c′ ∷ cs′) (d ∷ ds) (d′ ∷ ds′)
 
@@ -136,7 +135,7 @@ pub record Demand3 : Type 0 where
   pub lists : (rs ss : List Request) → WellFormed rs → WellFormed ss → Begins (written rs) (written ss) → Begins rs ss
   -- "The first calls, one for each request, read exactly that list in its order: each takes just its request's bytes, and its reply and the table
   -- after it are those of the simple map from that table."
-  pub served : (rs : List Request) (tail table : List ℕ) (calls : List Call) (dones : List Done) → WellFormed rs → isSound table ≡ true
+  pub served : (rs : List Request) (tail table : List ℕ) (calls : List Call) (dones : List Done) → WellFormed rs → Sound table
       → Roomy (length rs) calls → Run (written rs ++ tail) table calls dones
       → take (length rs) (map seen dones) ≡ play rs calls (stateOf table)
   -- "let bytes of one request's value in the row change, but not its length": the request with another value changes these bytes alone

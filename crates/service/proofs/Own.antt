@@ -23,14 +23,14 @@ use Rattle.map.proofs.Finding.{fresh}
 use Rattle.map.proofs.Commute.{step-value, issues}
 use Rattle.map.proofs.Sent as sent
 use Rattle.table.specs.Memory.{stateOf}
-use Rattle.stream.specs.Sound.{isSound}
-use Rattle.stream.specs.Serve.{Answer, Effect, refused, still, onStep, room}
-use Rattle.stream.specs.Stream.{Call, Done, Does, effectOf, Serves}
-use Rattle.stream.specs.Demand3.{ahead, wrote, gone, passes, call}
-use Rattle.stream.proofs.Sounds.{bounded}
-use Rattle.stream.proofs.Calls.{serve-at}
-use Rattle.stream.proofs.Like.{answered-state, Like, Same, same-next}
-use Rattle.stream.proofs.After.{Wrote}
+use Rattle.service.specs.Serve.{Answer, Effect, refused, still, onStep, room}
+use Rattle.service.specs.Stream.{Call, Done, Does}
+use Rattle.service.specs.Demand3.{ahead, wrote, gone, passes, call}
+use Rattle.service.proofs.Decides.{isSound}
+use Rattle.service.proofs.Sounds.{is-sound, both-sound, bounded, effectIn}
+use Rattle.service.proofs.Calls.{serve-at}
+use Rattle.service.proofs.Like.{answered-state, Like, Same, same-next}
+use Rattle.service.proofs.After.{Wrote}
 
 not-less : (a b : ℕ) → b ≡ a → passes 0 a b ≡ gone
 not-less a b e = rw (le-ltb a b (omega arith))
@@ -78,13 +78,13 @@ module _ (r : Request) (w : List ℕ) (len : length w ≡ length (r .args .value
             fresh next w (stateOf (d .table) .last) (stateOf (d .table) .entries) (bounded (d .table) (x .table .1)) (omega (arith, lasts, h)) in
             let k : stateWith next w (stateOf (d .table)) ≡ stateOf (d .table) = rw f in
             past taken (not-less (stateOf t .last) (stateOf (d .table) .last) (lasts ∙ h))
-            (record { state = y .table .0 ∙ (ap (stateWith next w) (sym (x .table .0)) ∙ k); sounds = y .table .1 ∙ sym (x .table .1) })
+            (record { state = y .table .0 ∙ (ap (stateWith next w) (sym (x .table .0)) ∙ k); sounds = both-sound (d′ .table) (d .table) (y .table .1) (x .table .1) })
 
         issued : s .last ≡ next → Own t d d′
         issued h =
             new taken (less (stateOf t .last) (stateOf (d .table) .last) (lasts ∙ h))
             (record {
-              sounds = y .table .1 ∙ sym (x .table .1);
+              sounds = both-sound (d′ .table) (d .table) (y .table .1) (x .table .1);
               state = y .table .0 ∙ ap (stateWith next w) (sym (x .table .0));
               own = ap (stateWith next (r .args .value)) (x .table .0) ∙ (answered-state q ∙ sym (x .table .0));
               issued = omega (arith, lasts, h);
@@ -98,13 +98,14 @@ module _ (r : Request) (w : List ℕ) (len : length w ≡ length (r .args .value
 
   module _ (v : Valid request r) (vw : Valid request (withValue w r)) where
     pub own : (rest t t′ : List ℕ) (c c′ : Call) (d d′ : Done) → Same t t′ → c′ .context ≡ c .context → length (c′ .buffer) ≡ length (c .buffer)
-        → Serves (request .enc r ++ rest) t c d → Serves (request .enc (withValue w r) ++ rest) t′ c′ d′
-        → Like (r .args .value) w len (ahead 0) (effectOf (request .enc r ++ rest) t c) (effectOf (request .enc (withValue w r) ++ rest) t′ c′)
+        → Does (effectIn (request .enc r ++ rest) t c) t (c .buffer) d
+        → Does (effectIn (request .enc (withValue w r) ++ rest) t′ c′) t′ (c′ .buffer) d′
+        → Like (r .args .value) w len (ahead 0) (effectIn (request .enc r ++ rest) t c) (effectIn (request .enc (withValue w r) ++ rest) t′ c′)
         × Own t d d′
     unfolding still
     own rest t t′ c c′ d d′ g k l x y =
         let p = serve-at r v rest (isSound t) (stateOf t) (c .context) (length (c .buffer)) in
-        let q : effectOf (request .enc (withValue w r) ++ rest) t′ c′
+        let q : effectIn (request .enc (withValue w r) ++ rest) t′ c′
         ≡ cond (ltb (length (c .buffer)) room) (still (refused 12)) (cond (isSound t) (onStep (withValue w r) n o′) (still (refused 13))) =
         serve-at (withValue w r) vw rest (isSound t′) (stateOf t′) (c′ .context) (length (c′ .buffer)) ∙ rw (g .sounds, g .state, k, l, value-length r w v len) in
         let z = go (ltb (length (c .buffer)) room) (isSound t) refl (subst (λ (f : Effect). Does f t (c .buffer) d) p x)
@@ -135,7 +136,7 @@ module _ (r : Request) (w : List ℕ) (len : length w ≡ length (r .args .value
         )
         go false true s x y =
             let next = suc (stateOf t .last) in
-            let h = bounded t s in
+            let h = bounded t (is-sound t s) in
             let j : o′ ≡ outcomeState next w o = step-value w (c .context) r (stateOf t) h in (
               subst (λ (f : Outcome). Like (r .args .value) w len (ahead 0) (onStep r n o) (onStep (withValue w r) n f)) (sym j) (like-step n next o),
               at t t′ (c .buffer) (c′ .buffer) d d′ g (c .context) o refl (sym (step-value (r .args .value) (c .context) r (stateOf t) h)) x

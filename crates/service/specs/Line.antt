@@ -1,6 +1,6 @@
 -- A line of a file of requests, and the line that it gives (document 01, 'Files').
 use mathlib.Core.List.{List, [], _∷_, _++_}
-use mathlib.Core.Bool.{Bool, true, false, cond, _&&_}
+use mathlib.Core.Bool.{Bool, true, false, cond, _&&_, not}
 use mathlib.Core.Option.{Option, none, some}
 use Prim.Native.Nat.{ℕ}
 use lib.ListN.{length, take, drop, getD}
@@ -10,13 +10,10 @@ use Rattle.wire.specs.Codec.{Read}
 use Rattle.hex.specs.Hex.{toHex, fromHex}
 use Rattle.hex.specs.Number.{second}
 use Rattle.message.specs.Request.{Request, request}
-use Rattle.message.specs.Reply.{errorReply}
-use Rattle.message.specs.Refusal.{refusal}
-use Rattle.request.specs.Answer.{idIn}
 use Rattle.map.specs.State.{State}
-use Rattle.map.specs.Step as map
-use Rattle.map.specs.Step.{Context, Outcome, answered, step}
-use Rattle.map.specs.Reply.{flat, pieces}
+use Rattle.map.specs.Step.{Context}
+use Rattle.map.specs.Reply.{flat}
+use Rattle.service.specs.Serve.{Effect, onRead}
 
 -- "Longer than 1,024 characters, the line end not counted, is 14."
 abbrev pub longest : ℕ
@@ -61,15 +58,19 @@ abbrev pub later : Option State → Option State → Option State
 later a none = a
 later a (some st) = some st
 
-unfoldable pub onOutcome : Request → Outcome → Given
-onOutcome r (map.refused k) = given (toHex (errorReply .enc (refusal k (r .id)))) none
-onOutcome r (answered a next) = given (toHex (flat (pieces r a))) (some next)
+-- what a call sends, in digits, and the state that it leaves
+abbrev pub inDigits : Effect → Given
+inDigits e = given (toHex (flat (e .sent))) (e .next)
 
--- "The order is 14, 1 to 8, 15, the rest": a whole frame with bytes behind it, and one that is cut, is 15 and changes nothing
+-- no whole request, or one with bytes behind it
+abbrev pub isUneven : ℕ → Read Request → Bool
+isUneven len (wire.refused k) = false
+isUneven len wire.more = true
+isUneven len (wire.whole r n) = not (eqb n len)
+
+-- "The order is 14, 1 to 8, 15, the rest": else a frame is a call
 unfoldable pub onFrame : Asks → State → Read Request → Given
-onFrame a st (wire.refused k) = given (toHex (errorReply .enc (refusal k (idIn (a .frame))))) none
-onFrame a st wire.more = given refused15 none
-onFrame a st (wire.whole r n) = cond (eqb n (length (a .frame))) (onOutcome r (step (a .context) r st)) (given refused15 none)
+onFrame a st x = cond (isUneven (length (a .frame)) x) (given refused15 none) (inDigits (onRead (a .frame) (a .context) st x))
 
 abbrev pub onAsked : State → Option Asks → Given
 onAsked st none = given refused14 none

@@ -7,7 +7,7 @@ use Prim.Native.Nat.{ℕ, suc, _+_}
 use lib.ListN.{length, take, drop}
 use lib.Dec.{eqb, ltb, leb}
 use Rattle.map.specs.State.{State}
-use Rattle.line.specs.Line.{longest, Given, given, stateLeft, later, lineStep}
+use Rattle.service.specs.Line.{longest, Given, given, stateLeft, later, lineStep}
 
 -- how many bytes stand before the first line end; all of them where there is none
 unfoldable pub lineEnd : List ℕ → ℕ

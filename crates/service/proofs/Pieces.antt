@@ -12,8 +12,8 @@ use lib.Dec.{eqb, ltb}
 use borrow.Author.Tests.{ltb-true, ltb-false, lt-ltb, lt-leb}
 use Rattle.wire.proofs.Laws.{both}
 use Rattle.map.specs.State.{State}
-use Rattle.line.specs.Line.{longest, asks, Given, given, stateLeft, later, refused14, lineStep, linesStep}
-use Rattle.line.specs.Feed.{lineEnd, Turn, turn, ended, turnOf, longer, linesOf, joined, Feeds, took, read, end}
+use Rattle.service.specs.Line.{longest, asks, Given, given, stateLeft, later, refused14, lineStep, linesStep}
+use Rattle.service.specs.Feed.{lineEnd, Turn, turn, ended, turnOf, longer, linesOf, joined, Feeds, took, read, end}
 
 -- two lefts, one after the other
 pub later-none : (o : Option State) → later none o ≡ o

@@ -16,9 +16,10 @@ use Rattle.map.specs.Step.{Context, Outcome, answered, step}
 use Rattle.map.specs.Issued.{IssuedOnce}
 use Rattle.map.proofs.Laws.{Next, issues-after, once-none, once-next}
 use Rattle.table.specs.Memory.{stateOf}
-use Rattle.stream.specs.Sound.{isSound}
-use Rattle.stream.specs.Serve.{refused, still, onStep, onRead, serve, room}
-use Rattle.stream.specs.Stream.{Call, Done, Left, effectOf, Run}
+use Rattle.service.specs.Serve.{refused, still, onStep, onRead, serve, room}
+use Rattle.service.specs.Stream.{Call, Done, Left, Run, run-end, run-call}
+use Rattle.service.proofs.Decides.{isSound}
+use Rattle.service.proofs.Sounds.{effectIn, does-in}
 
 -- a state that is left issues none, or the next one
 abbrev NextState : State → Option State → Type 0
@@ -52,10 +53,8 @@ next-left t t′ (some st) h l = rw (l .0) h
 
 pub never-twice : (input t : List ℕ) (cs : List Call) (ds : List Done) → Run input t cs ds
     → IssuedOnce (stateOf t .last) (map (λ (d : Done). stateOf (d .table) .last) ds)
-never-twice input t [] [] x = once-none (stateOf t .last)
-never-twice input t [] (d ∷ ds) x = absurd x
-never-twice input t (c ∷ cs) [] x = absurd x
-never-twice input t (c ∷ cs) (d ∷ ds) x =
+never-twice input t [] [] run-end = once-none (stateOf t .last)
+never-twice input t (c ∷ cs) (d ∷ ds) (run-call x xs) =
     once-next (stateOf t .last) (stateOf (d .table) .last) _
-    (next-left t (d .table) (effectOf input t c .next) (on-call (c .context) (stateOf t) input (isSound t) (length (c .buffer))) (x .0 .table))
-    (never-twice (drop (d .answer .taken) input) (d .table) cs ds (x .1))
+    (next-left t (d .table) (effectIn input t c .next) (on-call (c .context) (stateOf t) input (isSound t) (length (c .buffer))) (does-in x .table))
+    (never-twice (drop (d .answer .taken) input) (d .table) cs ds xs)

@@ -1,3 +1,4 @@
+pub mod Decides
 pub mod Sounds
 pub mod Calls
 pub mod Like
@@ -10,3 +11,5 @@ pub mod Determined
 pub mod Exist
 pub mod Bounds
 pub mod Once
+pub mod Pieces
+pub mod Edges

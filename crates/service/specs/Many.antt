@@ -7,8 +7,8 @@ use Prim.Native.Nat.{ℕ, suc, _+_}
 use lib.ListN.{take, drop}
 use lib.Dec.{leb}
 use Rattle.map.specs.Step.{Context}
-use Rattle.stream.specs.Serve.{Verdict, served, more, refused}
-use Rattle.stream.specs.Stream.{Call, Done, Serves}
+use Rattle.service.specs.Serve.{Verdict, served, more, refused}
+use Rattle.service.specs.Stream.{Call, Done, Serves}
 
 -- "After 1 to 8 a stream is closed: nothing behind it is read. After 9 to 11 it goes on." Where more is needed, and after 12 and 13, it ends too.
 abbrev pub goesOn : Verdict → Bool

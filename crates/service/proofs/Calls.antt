@@ -17,8 +17,8 @@ use Rattle.map.specs.State.{State}
 use Rattle.map.specs.Step as map-step
 use Rattle.map.specs.Step.{Context, step}
 use Rattle.map.proofs.Sent as sent
-use Rattle.stream.specs.Serve.{refused, still, onStep, onRead, serve, room}
-use Rattle.stream.specs.Demand3.{call}
+use Rattle.service.specs.Serve.{refused, still, onStep, onRead, serve, room}
+use Rattle.service.specs.Demand3.{call}
 
 pub serve-at : (r : Request) → Valid request r → (t : List ℕ) (ok : Bool) (st : State) (second : Context) (space : ℕ)
     → serve (request .enc r ++ t) ok st second space

@@ -19,14 +19,14 @@ use Rattle.map.specs.Reply.{flat}
 use Rattle.map.proofs.Keeps.{keeps}
 use Rattle.map.proofs.Sent as sent
 use Rattle.table.specs.Memory.{stateOf, Sound}
-use Rattle.stream.specs.Sound.{isSound}
-use Rattle.stream.specs.Serve.{more, refused, still, onStep, onRead, serve, room}
-use Rattle.stream.specs.Stream.{Call, Done, Left, effectOf, Serves, Run}
-use Rattle.stream.specs.Demand3.{after, call}
+use Rattle.service.specs.Serve.{more, refused, still, onStep, onRead, serve, room}
+use Rattle.service.specs.Stream.{Call, Done, Left, Serves, Run, run-end, run-call}
+use Rattle.service.specs.Demand3.{after, call}
 use Rattle.wire.proofs.Laws.{bytes-drop}
 use Rattle.table.specs.Form.{form}
 use Rattle.table.proofs.HasForm.{has-form}
-use Rattle.stream.proofs.Sounds.{is-sound, sound-is}
+use Rattle.service.proofs.Decides.{isSound}
+use Rattle.service.proofs.Sounds.{is-sound, tells-sound, effectIn}
 
 -- "Each call is given a second, 0 to 4,294,967,295."
 abbrev pub InRange : List Call → Type 0
@@ -50,7 +50,7 @@ module _ (input : List ℕ) (b : Bytes input) (c : Context) (h : c .second < 0x1
   fits-read wire.more e = tt
   fits-read (wire.refused k) e = tt
 
-fits : (input : List ℕ) → Bytes input → (t : List ℕ) (c : Call) → c .context .second < 0x1_0000_0000 → Fits (effectOf input t c .next)
+fits : (input : List ℕ) → Bytes input → (t : List ℕ) (c : Call) → c .context .second < 0x1_0000_0000 → Fits (effectIn input t c .next)
 unfolding serve still
 fits input b t c h = go (ltb (length (c .buffer)) room) (isSound t) refl
   where
@@ -68,24 +68,29 @@ left old (some st) = form st
 left-is : (old : List ℕ) (n : Option State) → Fits n → Left old n (left old n)
 unfolding left
 left-is old none f = refl
-left-is old (some st) f = let x = has-form st (f .0) (f .1) in (x .state, sound-is (form st) (x .sound))
+left-is old (some st) f = let x = has-form st (f .0) (f .1) in (x .state, x .sound)
 
 unfoldable doing : List ℕ → List ℕ → Call → Done
 doing input t c =
     record {
-      answer = effectOf input t c .answer;
-      size = length (flat (effectOf input t c .sent));
-      buffer = sets (c .buffer) 0 (flat (effectOf input t c .sent));
-      table = left t (effectOf input t c .next);
+      answer = effectIn input t c .answer;
+      size = length (flat (effectIn input t c .sent));
+      buffer = sets (c .buffer) 0 (flat (effectIn input t c .sent));
+      table = left t (effectIn input t c .next);
     }
 
 serves : (input : List ℕ) → Bytes input → (t : List ℕ) (c : Call) → c .context .second < 0x1_0000_0000 → Serves input t c (doing input t c)
 unfolding doing
-serves input b t c h = record { answer = refl; size = refl; buffer = refl; table = left-is t (effectOf input t c .next) (fits input b t c h) }
+serves input b t c h =
+    record {
+      ok = isSound t;
+      tells = tells-sound t;
+      does = record { answer = refl; size = refl; buffer = refl; table = left-is t (effectIn input t c .next) (fits input b t c h) };
+    }
 
 pub exists : (input : List ℕ) → Bytes input → (t : List ℕ) (cs : List Call) → InRange cs → (ds : List Done) × Run input t cs ds
-exists input b t [] h = ([], tt)
+exists input b t [] h = ([], run-end)
 exists input b t (c ∷ cs) h =
     let d = doing input t c in
     let z = exists (drop (d .answer .taken) input) (bytes-drop (d .answer .taken) input b) (d .table) cs (h .1) in
-    (d ∷ z .0, (serves input b t c (h .0), z .1))
+    (d ∷ z .0, run-call (serves input b t c (h .0)) (z .1))

@@ -20,11 +20,12 @@ use Rattle.map.proofs.Keeps.{keeps}
 use Rattle.map.proofs.Sent as sent
 use Rattle.map.proofs.Sent.{pieces-with}
 use Rattle.table.specs.Memory.{stateOf}
-use Rattle.stream.specs.Sound.{isSound}
-use Rattle.stream.specs.Serve.{Answer, Effect, effect, served, more, refused, still, onStep, onRead, serve, room}
-use Rattle.stream.specs.Stream.{Call, Done, Left, effectOf, Run}
-use Rattle.stream.specs.Demand3.{wrote, gone, after, SameCalls, Independent, end, call}
-use Rattle.stream.proofs.Like.{answered-answer, answered-state, Like, like-gone, same-answer, alike, Same, same-next}
+use Rattle.service.specs.Serve.{Answer, Effect, effect, served, more, refused, still, onStep, onRead, serve, room}
+use Rattle.service.specs.Stream.{Call, Done, Left, Run, run-end, run-call}
+use Rattle.service.specs.Demand3.{wrote, gone, after, SameCalls, same-end, same-call, Independent, end, call}
+use Rattle.service.proofs.Decides.{isSound}
+use Rattle.service.proofs.Sounds.{tells-sound, both-sound, effectIn, first-of, rest-of}
+use Rattle.service.proofs.Like.{answered-answer, answered-state, Like, like-gone, same-answer, alike, Same, same-next}
 
 -- once the request wrote the entry of version v, an effect keeps the difference
 module _ (u w : List ℕ) (len : length w ≡ length u) (v : ℕ) where
@@ -73,23 +74,17 @@ module _ (u w : List ℕ) (len : length w ≡ length u) where
   -- the request wrote nothing
   pub gone-independent : (input t t′ : List ℕ) (cs cs′ : List Call) (ds ds′ : List Done) → Same t t′ → SameCalls cs cs′
       → Run input t cs ds → Run input t′ cs′ ds′ → Independent u w gone input t cs cs′ ds ds′
-  gone-independent input t t′ [] [] [] [] g m x y = end
-  gone-independent input t t′ [] [] [] (d′ ∷ ds′) g m x y = absurd y
-  gone-independent input t t′ [] [] (d ∷ ds) ds′ g m x y = absurd x
-  gone-independent input t t′ [] (c′ ∷ cs′) ds ds′ g m x y = absurd m
-  gone-independent input t t′ (c ∷ cs) [] ds ds′ g m x y = absurd m
-  gone-independent input t t′ (c ∷ cs) (c′ ∷ cs′) [] ds′ g m x y = absurd x
-  gone-independent input t t′ (c ∷ cs) (c′ ∷ cs′) (d ∷ ds) [] g m x y = absurd y
-  gone-independent input t t′ (c ∷ cs) (c′ ∷ cs′) (d ∷ ds) (d′ ∷ ds′) g m x y =
-      let e = effectOf input t c in
-      let e′ = effectOf input t′ c′ in
-      let q : e′ ≡ e = rw (g .sounds, g .state, m .0, m .1) in
+  gone-independent input t t′ [] [] [] [] g same-end run-end run-end = end
+  gone-independent input t t′ (c ∷ cs) (c′ ∷ cs′) (d ∷ ds) (d′ ∷ ds′) g (same-call i j m) x y =
+      let e = effectIn input t c in
+      let e′ = effectIn input t′ c′ in
+      let q : e′ ≡ e = rw (g .sounds, g .state, i, j) in
       let k = like-gone u w len e e′ q in
-      let s = same-next t t′ (e .next) (e′ .next) (d .table) (d′ .table) g (ap (λ (f : Effect). f .next) q) (x .0 .table) (y .0 .table) in
-      call (alike u w len gone gone e e′ t t′ c c′ d d′ k (x .0) (y .0) (s .state) refl)
-      (gone-independent (drop (d .answer .taken) input) (d .table) (d′ .table) cs cs′ ds ds′ s (m .2) (x .1)
+      let s = same-next t t′ (e .next) (e′ .next) (d .table) (d′ .table) g (ap (λ (f : Effect). f .next) q) (first-of x .table) (first-of y .table) in
+      call (tells-sound t) (alike u w len gone gone e e′ t t′ c c′ d d′ k (first-of x) (first-of y) (s .state) refl)
+      (gone-independent (drop (d .answer .taken) input) (d .table) (d′ .table) cs cs′ ds ds′ s m (rest-of x)
       (subst (λ (a : Answer). Run (drop (a .taken) input) (d′ .table) cs′ ds′)
-      (same-answer u w len gone e e′ t t′ (c .buffer) (c′ .buffer) d d′ k (x .0) (y .0)) (y .1)))
+      (same-answer u w len gone e e′ t t′ (c .buffer) (c′ .buffer) d d′ k (first-of x) (first-of y)) (rest-of y)))
 
   module _ (v : ℕ) where
     -- the request wrote the entry of version v
@@ -105,34 +100,28 @@ module _ (u w : List ℕ) (len : length w ≡ length u) where
     wrote-next t t′ s s′ (some a) none g z p q = absurd z
     wrote-next t t′ s s′ (some a) (some b) g z p q =
         record {
-          sounds = q .1 ∙ sym (p .1);
+          sounds = both-sound s′ s (q .1) (p .1);
           state = q .0 ∙ (z .0 ∙ ap (stateWith v w) (sym (p .0)));
           own = ap (stateWith v u) (p .0) ∙ (z .1 ∙ sym (p .0));
           issued = rw (p .0) (z .2);
         }
 
     wrote-tracks : (input t t′ : List ℕ) (c c′ : Call) → Wrote t t′ → c′ .context ≡ c .context → length (c′ .buffer) ≡ length (c .buffer)
-        → Tracks u w len v (effectOf input t c) (effectOf input t′ c′)
+        → Tracks u w len v (effectIn input t c) (effectIn input t′ c′)
     wrote-tracks input t t′ c c′ g k l =
-        let q : effectOf input t′ c′ ≡ serve input (isSound t) (stateWith v w (stateOf t)) (c .context) (length (c .buffer)) = rw (g .sounds, g .state, k, l) in
-        subst (λ (f : Effect). Tracks u w len v (effectOf input t c) f) (sym q)
+        let q : effectIn input t′ c′ ≡ serve input (isSound t) (stateWith v w (stateOf t)) (c .context) (length (c .buffer)) = rw (g .sounds, g .state, k, l) in
+        subst (λ (f : Effect). Tracks u w len v (effectIn input t c) f) (sym q)
         (track u w len v (stateOf t) (g .own) (g .issued) input (isSound t) (c .context) (length (c .buffer)))
 
     pub wrote-independent : (input t t′ : List ℕ) (cs cs′ : List Call) (ds ds′ : List Done) → Wrote t t′ → SameCalls cs cs′
         → Run input t cs ds → Run input t′ cs′ ds′ → Independent u w (wrote v) input t cs cs′ ds ds′
-    wrote-independent input t t′ [] [] [] [] g m x y = end
-    wrote-independent input t t′ [] [] [] (d′ ∷ ds′) g m x y = absurd y
-    wrote-independent input t t′ [] [] (d ∷ ds) ds′ g m x y = absurd x
-    wrote-independent input t t′ [] (c′ ∷ cs′) ds ds′ g m x y = absurd m
-    wrote-independent input t t′ (c ∷ cs) [] ds ds′ g m x y = absurd m
-    wrote-independent input t t′ (c ∷ cs) (c′ ∷ cs′) [] ds′ g m x y = absurd x
-    wrote-independent input t t′ (c ∷ cs) (c′ ∷ cs′) (d ∷ ds) [] g m x y = absurd y
-    wrote-independent input t t′ (c ∷ cs) (c′ ∷ cs′) (d ∷ ds) (d′ ∷ ds′) g m x y =
-        let e = effectOf input t c in
-        let e′ = effectOf input t′ c′ in
-        let z = wrote-tracks input t t′ c c′ g (m .0) (m .1) in
-        let s = wrote-next t t′ (d .table) (d′ .table) (e .next) (e′ .next) g (z .next) (x .0 .table) (y .0 .table) in
-        call (alike u w len (wrote v) (wrote v) e e′ t t′ c c′ d d′ (z .like) (x .0) (y .0) (s .state) (s .own))
-        (wrote-independent (drop (d .answer .taken) input) (d .table) (d′ .table) cs cs′ ds ds′ s (m .2) (x .1)
+    wrote-independent input t t′ [] [] [] [] g same-end run-end run-end = end
+    wrote-independent input t t′ (c ∷ cs) (c′ ∷ cs′) (d ∷ ds) (d′ ∷ ds′) g (same-call i j m) x y =
+        let e = effectIn input t c in
+        let e′ = effectIn input t′ c′ in
+        let z = wrote-tracks input t t′ c c′ g i j in
+        let s = wrote-next t t′ (d .table) (d′ .table) (e .next) (e′ .next) g (z .next) (first-of x .table) (first-of y .table) in
+        call (tells-sound t) (alike u w len (wrote v) (wrote v) e e′ t t′ c c′ d d′ (z .like) (first-of x) (first-of y) (s .state) (s .own))
+        (wrote-independent (drop (d .answer .taken) input) (d .table) (d′ .table) cs cs′ ds ds′ s m (rest-of x)
         (subst (λ (a : Answer). Run (drop (a .taken) input) (d′ .table) cs′ ds′)
-        (same-answer u w len (wrote v) e e′ t t′ (c .buffer) (c′ .buffer) d d′ (z .like) (x .0) (y .0)) (y .1)))
+        (same-answer u w len (wrote v) e e′ t t′ (c .buffer) (c′ .buffer) d d′ (z .like) (first-of x) (first-of y)) (rest-of y)))

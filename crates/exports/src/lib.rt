@@ -12,7 +12,7 @@ ghost use Rattle.wire.specs.Codec.{mapped};
 ghost use Rattle.message.specs.Request.{request};
 ghost use Rattle.message.specs.Reply.{reply};
 ghost use Rattle.request.specs.Answer.{requestAt};
-ghost use Rattle.reply_body.specs.Asked.{asked};
+ghost use Rattle.rules.specs.Asked.{asked};
 ghost use Rattle.reply.specs.Answer.{replyAt};
 ghost use Rattle.table.specs.Memory.{Sound};
 ghost use Rattle.table.specs.Found.{Tells as Says};

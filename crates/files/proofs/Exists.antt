@@ -20,7 +20,7 @@ use Rattle.message.specs.Request.{Request, request}
 use Rattle.message.proofs.RequestLaws.{request-laws}
 use Rattle.message.proofs.Refusals.{refusals}
 use Rattle.message.proofs.Sizes.{request-small}
-use Rattle.request.specs.Answer.{idIn}
+use Rattle.message.specs.Start.{idIn}
 use Rattle.map.specs.State.{State}
 use Rattle.map.specs.Table.{IsTable, Ascending}
 use Rattle.map.specs.Step as map

@@ -1,6 +1,7 @@
 pub mod Operation
 pub mod Edition
 pub mod Request
+pub mod Start
 pub mod Reply
 pub mod Refusal
 pub mod Written

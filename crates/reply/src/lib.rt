@@ -6,7 +6,7 @@ use message::Reply;
 ghost use mathlib.Core.Path.{_≡_};
 ghost use Rattle.wire.specs.Codec.{mapped};
 ghost use Rattle.message.specs.Reply.{reply};
-ghost use Rattle.reply_body.specs.Asked.{asked};
+ghost use Rattle.rules.specs.Asked.{asked};
 ghost use Rattle.reply.specs.Answer.{asReply, replyAt};
 
 // What reading a reply finds: the reply with the count of its bytes, more needed, or a refusal by its number.

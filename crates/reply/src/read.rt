@@ -11,13 +11,13 @@ use field::VersionRead;
 use message::Answer;
 use message::Operation;
 use message::Reply;
-use reply_body::Form;
+use rules::Form;
 ghost use mathlib.Core.Path.{_≡_};
 ghost use Rattle.wire.specs.Codec.{readAt, after, mapped, whole};
 ghost use Rattle.wire.specs.Field.{limited};
 ghost use Rattle.field.specs.Answer.{asNumber, nowhere, spanTo, stopped, limitedText};
 ghost use Rattle.message.specs.Reply.{message, isAwaited, rowsOf, versionedBody, textLimit};
-ghost use Rattle.reply_body.specs.Body.{fieldsOf};
+ghost use Rattle.rules.specs.Body.{fieldsOf};
 ghost use Rattle.reply.specs.Answer.{asReply, replyAt, replyWith, withParts};
 
 // What a field that is not whole makes of the reply.
@@ -123,15 +123,15 @@ pub(crate) fn read_message(s: &[u8], o: Operation, flag: bool) -> ReplyRead
     let ByteRead::Whole(op, c3) = r3 else {
         return ReplyRead::More;
     };
-    if !reply_body::is_awaited(o, op) {
+    if !rules::is_awaited(o, op) {
         return ReplyRead::Refused(4);
     }
     let r4 = field::read_byte(s, c3);
     let ByteRead::Whole(status, c4) = r4 else {
         return ReplyRead::More;
     };
-    let b = reply_body::body_at(o, op, status);
-    if !reply_body::is_allowed(b) {
+    let b = rules::body_at(o, op, status);
+    if !rules::is_allowed(b) {
         return ReplyRead::Refused(8);
     }
     let r5 = field::read_between(s, c4, 0, 0, 8);
@@ -144,5 +144,5 @@ pub(crate) fn read_message(s: &[u8], o: Operation, flag: bool) -> ReplyRead
         status: status,
         entry: EntryVersion(0),
     };
-    read_body(s, c5, a, reply_body::form_of(flag, b))
+    read_body(s, c5, a, rules::form_of(flag, b))
 }

@@ -5,14 +5,14 @@ use field::EntryVersion;
 use message::Answer;
 use message::Found;
 use message::Sent;
-use reply_body::Form;
+use rules::Form;
 ghost use mathlib.Core.Path.{_≡_};
 ghost use Prim.Native.Nat.{_≤_};
 ghost use Rattle.wire.specs.Write.{send};
 ghost use Rattle.message.specs.Answer.{asSent};
 ghost use Rattle.message.specs.Reply.{reply, replyOf, errorReply};
 ghost use Rattle.message.specs.Refusal.{refusal};
-ghost use Rattle.reply_body.specs.Asked.{asked};
+ghost use Rattle.rules.specs.Asked.{asked};
 ghost use Rattle.reply_writer.specs.Frame.{errorOf};
 
 // The reply to an operation, which was asked with flag 0x0001 or without: its numbers, value and text. What is not sent is 0 or empty.
@@ -23,14 +23,14 @@ pub fn write_reply(out: &mut [u8], op: u8, flag: bool, a: Answer, value: &[u8], 
     let Found::Known(o) = found else {
         return Sent::Refused(16);
     };
-    if !reply_body::is_awaited(o, a.op) {
+    if !rules::is_awaited(o, a.op) {
         return Sent::Refused(16);
     }
-    let b = reply_body::body_at(o, a.op, a.status);
-    if !reply_body::is_allowed(b) {
+    let b = rules::body_at(o, a.op, a.status);
+    if !rules::is_allowed(b) {
         return Sent::Refused(16);
     }
-    write::write_message(out, a, reply_body::form_of(flag, b), value, text)
+    write::write_message(out, a, rules::form_of(flag, b), value, text)
 }
 
 // The error reply of a refusal, whatever was asked.

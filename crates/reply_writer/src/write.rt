@@ -4,7 +4,7 @@ use field::put;
 use message::Answer;
 use message::Reply;
 use message::Sent;
-use reply_body::Form;
+use rules::Form;
 ghost use mathlib.Core.Path.{_≡_};
 ghost use mathlib.Core.Bool.{_&&_};
 ghost use Prim.Native.Nat.{_+_, _≤_};
@@ -17,7 +17,7 @@ ghost use Rattle.field.specs.Answer.{limitedText};
 ghost use Rattle.message.specs.Answer.{asSent};
 ghost use Rattle.message.specs.Request.{isEmpty};
 ghost use Rattle.message.specs.Reply.{replyOf};
-ghost use Rattle.reply_body.specs.Body.{fieldsOf};
+ghost use Rattle.rules.specs.Body.{fieldsOf};
 ghost use Rattle.reply_writer.specs.Frame.{framed, payloadOf};
 
 // Is a number 0, and are there no bytes?

@@ -25,7 +25,8 @@ use Rattle.field.proofs.Parts.{only, at-between, not-whole, not-refused}
 use Rattle.message.specs.Operation.{findCode, isKnown, known}
 use Rattle.message.specs.Request.{bare, shapeOf, argsOf, operation, transaction, isVersion, ed, fields, toRequest, request, nameLimit, keyLimit, valueLimit}
 use Rattle.message.proofs.RequestLaws.{text-laws, operation-laws, transaction-laws}
-use Rattle.request.specs.Answer.{requestAt, start, front, options, idFound}
+use Rattle.message.specs.Start.{start, idFound}
+use Rattle.request.specs.Answer.{requestAt, front, options}
 use Rattle.request.specs.Parts.{asFront, asOptions, asArgs, optionsAt, argsAt, argsWith, togetherOf, keyedBy, writesBy}
 use Rattle.request.specs.declared.Args as code
 use Rattle.request.specs.declared.FrontRead.{FrontRead}
@@ -37,7 +38,7 @@ use Rattle.request.specs.declared.ArgsRead.the-variants as a
 use Rattle.request.proofs.FrontRead as front-read
 use Rattle.request.proofs.OptionsRead as options-read
 use Rattle.request.proofs.ArgsRead as args-read
-use Rattle.request.proofs.Editions.{has-transaction, op-known}
+use Rattle.message.proofs.Editions.{has-transaction, op-known}
 
 after-only : {A : Type 0} (r : Read A) → after r (λ a n. whole a n) ≡ r
 after-only (whole a n) = refl

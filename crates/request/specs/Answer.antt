@@ -1,16 +1,17 @@
--- What the reader answers of a request: its numbers, and where its name, key and value stand in the bytes. And the message id that an error reply answers to.
+-- What the reader answers of a request: its numbers, and where its name, key and value stand in the bytes.
 use mathlib.Core.List.{List}
 use mathlib.Core.Bool.{_&&_}
 use Prim.Native.Nat.{ℕ, _+_}
 use lib.ListN.{length}
-use lib.Dec.{eqb, leb}
+use lib.Dec.{leb}
 use Rattle.wire.specs.Codec.{Read, whole, more, refused, Codec, byte, guard, seq, as-type, all}
-use Rattle.wire.specs.Number.{vInt, vLong}
+use Rattle.wire.specs.Number.{vInt}
 use Rattle.wire.specs.Field.{limited}
 use Rattle.field.specs.Answer.{limitedText, spanTo}
 use Rattle.message.specs.declared.Head.{Head}
 use Rattle.message.specs.declared.Request as code
 use Rattle.message.specs.Request.{Request, nameLimit, keyLimit, operation, transaction, isVersion, ed}
+use Rattle.message.specs.Start.{start}
 use Rattle.request.specs.declared.Front.{Front}
 use Rattle.request.specs.declared.RequestRead.{RequestRead}
 use Rattle.request.specs.declared.RequestRead.the-variants as r
@@ -20,10 +21,7 @@ asRequest (r.Whole q n) = whole q n
 asRequest r.More = more
 asRequest (r.Refused k) = refused k
 
--- The fields of a request before its arguments, in two parts: up to the operation, of which the magic and the message id come first, ..
-unfoldable pub start : Codec ℕ
-start = as-type all (λ p. p .1) (λ i. (0xa0, i)) (seq (guard (λ m. eqb m 0xa0) 1 byte) λ _. vLong)
-
+-- The fields of a request before its arguments, in two parts: up to the operation, ..
 unfoldable pub front : Codec Front
 front =
     as-type all (λ p. record { id = p .0; version = p .1 .0; op = p .1 .1 }) (λ f. (f .id, (f .version, f .op)))
@@ -77,12 +75,3 @@ requestAt m n =
       key = spanTo (m .args .key) (keyEnd m);
       value = spanTo (m .args .value) n;
     }
-
-abbrev pub idFound : Read ℕ → ℕ
-idFound (whole i n) = i
-idFound more = 0
-idFound (refused k) = 0
-
--- "message id 0 for 1 and 2 and the one read otherwise"
-unfoldable pub idIn : List ℕ → ℕ
-idIn s = idFound (start .dec s)

@@ -7,7 +7,7 @@ use Rattle.wire.specs.Field.{limited}
 use Rattle.field.specs.Answer.{limitedText, spanTo}
 use Rattle.field.specs.declared.Span.{Span}
 use Rattle.message.specs.declared.Request.{Request}
-use Rattle.message.specs.Request.{Shape, keyed, writes, writesIf, keyedIf, bare, Args, nameLimit, keyLimit}
+use Rattle.message.specs.Request.{Shape, keyed, writes, writesIf, keyedIf, Args, nameLimit, keyLimit}
 use Rattle.request.specs.Answer as a
 use Rattle.request.specs.declared.Front.{Front}
 use Rattle.request.specs.declared.FrontRead.{FrontRead}
@@ -18,8 +18,6 @@ use Rattle.request.specs.declared.OptionsRead.the-variants as o
 use Rattle.request.specs.declared.Args as code-args
 use Rattle.request.specs.declared.ArgsRead.{ArgsRead}
 use Rattle.request.specs.declared.ArgsRead.the-variants as r
-use Rattle.request.specs.declared.Shape as code
-use Rattle.request.specs.declared.Shape.the-variants as s
 
 abbrev pub asFront : FrontRead → Read Front
 asFront (f.Whole x c) = whole x (c .at)
@@ -71,13 +69,6 @@ togetherOf f o a =
       key = a .key;
       value = a .value;
     }
-
-abbrev pub asShape : code.Shape → Shape
-asShape s.Keyed = keyed
-asShape s.Writes = writes
-asShape s.WritesIf = writesIf
-asShape s.KeyedIf = keyedIf
-asShape s.Bare = bare
 
 -- the shapes with an entry version, where the operation is a conditional one, and without
 abbrev pub keyedBy : Bool → Shape

@@ -11,13 +11,15 @@ use message::Found;
 use message::Head;
 use message::Operation;
 use message::Request;
+use rules::Shape;
 ghost use mathlib.Core.Path.{_≡_};
 ghost use Rattle.wire.specs.Codec.{readAt, whole, after, mapped};
 ghost use Rattle.wire.specs.Field.{limited};
 ghost use Rattle.field.specs.Answer.{asNumber, nowhere, spanTo, stopped};
-ghost use Rattle.message.specs.Request.{request, shapeOf, argsOf, valueLimit, isVersion, ed};
-ghost use Rattle.request.specs.Answer.{asRequest, requestAt, start, front, options, idIn};
-ghost use Rattle.request.specs.Parts.{asFront, asOptions, asArgs, asShape, optionsAt, argsAt, argsWith, togetherOf, keyedBy, writesBy};
+ghost use Rattle.message.specs.Request.{request, shapeOf, argsOf, valueLimit};
+ghost use Rattle.message.specs.Start.{start, idIn};
+ghost use Rattle.request.specs.Answer.{asRequest, requestAt, front, options};
+ghost use Rattle.request.specs.Parts.{asFront, asOptions, asArgs, optionsAt, argsAt, argsWith, togetherOf, keyedBy, writesBy};
 
 // What reading a request finds: the request with the number of bytes it took, more needed, or a refusal by its number.
 pub enum RequestRead {
@@ -68,56 +70,6 @@ enum ArgsRead {
     Refused(u8),
 }
 
-// Which arguments an operation is sent.
-pub enum Shape {
-    Keyed,
-    Writes,
-    WritesIf,
-    KeyedIf,
-    Bare,
-}
-
-pub fn shape_of(op: Operation) -> Shape
-    ensures { λ r. ⌜ asShape r ≡ shapeOf op ⌝ }
-{
-    match op {
-        Operation::Put => Shape::Writes,
-        Operation::Get => Shape::Keyed,
-        Operation::PutIfAbsent => Shape::Writes,
-        Operation::Replace => Shape::Writes,
-        Operation::ReplaceIfUnmodified => Shape::WritesIf,
-        Operation::Remove => Shape::Keyed,
-        Operation::RemoveIfUnmodified => Shape::KeyedIf,
-        Operation::ContainsKey => Shape::Keyed,
-        Operation::GetWithVersion => Shape::Keyed,
-        Operation::Clear => Shape::Bare,
-        Operation::Ping => Shape::Bare,
-    }
-}
-
-pub fn is_served(version: u8) -> bool
-    ensures { λ r. ⌜ r ≡ isVersion version ⌝ }
-{
-    match version {
-        10 => true,
-        11 => true,
-        12 => true,
-        _ => false,
-    }
-}
-
-// The greatest flags of a version.
-pub fn greatest_flags(version: u8) -> u64
-    ensures { λ r. ⌜ r ≡ ed version .flags ⌝ }
-{
-    match version {
-        10 => 1,
-        11 => 1,
-        12 => 7,
-        _ => 0,
-    }
-}
-
 // The magic and the message id.
 fn read_start(s: &[u8]) -> NumberRead
     ensures { λ r. ⌜ asNumber r ≡ start .dec (now (s .entry)) ⌝ }
@@ -154,7 +106,7 @@ fn read_front(s: &[u8]) -> FrontRead
     let ByteRead::Whole(version, c2) = r2 else {
         return FrontRead::More;
     };
-    if !is_served(version) {
+    if !rules::is_served(version) {
         return FrontRead::Refused(3);
     }
     let r3 = field::read_byte(s, c2);
@@ -207,7 +159,7 @@ fn read_options(s: &[u8], c: Cursor, version: u8) -> OptionsRead
     let NumberRead::Whole(flags, c2) = r2 else {
         return stop_options(r2);
     };
-    if greatest_flags(version) < flags {
+    if rules::greatest_flags(version) < flags {
         return OptionsRead::Refused(8);
     }
     let r3 = field::read_between(s, c2, 1, 3, 8);
@@ -321,7 +273,7 @@ fn read_writes(s: &[u8], c: Cursor, conditional: bool) -> ArgsRead
 fn read_args(s: &[u8], c: Cursor, op: Operation) -> ArgsRead
     ensures { λ r. ⌜ asArgs r ≡ mapped (argsAt (c .at)) (readAt (argsOf (shapeOf op)) (now (s .entry)) (c .at)) ⌝ }
 {
-    let shape = shape_of(op);
+    let shape = rules::shape_of(op);
     match shape {
         Shape::Keyed => read_keyed(s, c, false),
         Shape::Writes => read_writes(s, c, false),

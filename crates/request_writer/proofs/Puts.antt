@@ -17,7 +17,7 @@ use Rattle.field.specs.Answer.{limitedText}
 use Rattle.message.specs.declared.Operation.{Operation}
 use Rattle.message.specs.Operation.{codeOf}
 use Rattle.message.specs.Request.{keyed, writes, writesIf, keyedIf, bare, shapeOf, Args, argsOf, opFits, operation, transaction, isVersion, ed, fields, Request, request, nameLimit, keyLimit, valueLimit}
-use Rattle.request.proofs.Editions.{has-transaction}
+use Rattle.message.proofs.Editions.{has-transaction}
 use Rattle.request_writer.specs.Parts.{Ready}
 
 -- the writer of a field

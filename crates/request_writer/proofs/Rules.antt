@@ -16,9 +16,10 @@ use Rattle.wire.proofs.NumberWrite.{number-good}
 use Rattle.wire.proofs.FieldLaws.{big-good, limited-valid, limited-good}
 use Rattle.text.specs.Text.{isText}
 use Rattle.field.specs.Answer.{limitedText}
+use Rattle.message.specs.Operation.{codeOf}
 use Rattle.message.specs.Request.{Shape, keyed, writes, writesIf, keyedIf, bare, shapeOf, Args, argsOf, isEmpty, noTimes, noEntry, noValue, opFits, operation, transaction, isVersion, ed, fields, fromRequest, Request, request, nameLimit, keyLimit, valueLimit}
 use Rattle.message.proofs.RequestLaws.{code-found}
-use Rattle.request.proofs.Editions.{has-transaction, op-known, flags-small, version-small, code-small}
+use Rattle.message.proofs.Editions.{has-transaction, op-known, flags-small, version-small, code-small}
 use Rattle.request_writer.specs.Parts.{Limits, limitsOf}
 
 -- a test of a message tells its rules
@@ -204,7 +205,7 @@ operation-good : (q : Request) → Valid (operation (ed (q .version))) (q .op)
 unfolding operation byte
 operation-good q =
     type-good _ _ _ _ refl
-    (guard-good (opFits (ed (q .version))) 4 byte (rw (op-known (q .version), code-found (q .op))) (lt-ltb _ 256 (code-small (q .op))))
+    (guard-good (opFits (ed (q .version))) 4 byte (rw (op-known (q .version), code-found (q .op))) (lt-ltb (codeOf (q .op)) 256 (omega (arith, code-small (q .op)))))
 
 transaction-good : (v : ℕ) → Valid (transaction (ed v .transaction)) tt
 unfolding transaction byte

@@ -9,7 +9,7 @@ use Rattle.wire.proofs.NumberWrite.{int-long}
 use Rattle.wire.proofs.FieldLaws.{big-length, limited-length}
 use Rattle.field.specs.Answer.{limitedText}
 use Rattle.message.specs.Request.{Shape, keyed, writes, writesIf, keyedIf, bare, shapeOf, Args, argsOf, operation, transaction, ed, fields, Request, request, nameLimit, keyLimit, valueLimit}
-use Rattle.request.proofs.Editions.{has-transaction, flags-small}
+use Rattle.message.proofs.Editions.{has-transaction, flags-small}
 use Rattle.request_writer.specs.Parts.{limitsOf, sizeOf, argsSize}
 use Rattle.request_writer.proofs.Rules.{Within, within, Rules}
 

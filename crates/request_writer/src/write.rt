@@ -4,7 +4,7 @@ use field::put;
 use message::Head;
 use message::Operation;
 use message::Request;
-use request::Shape;
+use rules::Shape;
 ghost use mathlib.Core.Path.{_≡_};
 ghost use Prim.Native.Nat.{_+_, _≤_};
 ghost use lib.ListN.{length};
@@ -24,7 +24,7 @@ pub(crate) struct Limits {
 fn limits_of(op: Operation) -> Limits
     ensures { λ r. ⌜ asLimits r ≡ limitsOf (shapeOf op) ⌝ }
 {
-    let shape = request::shape_of(op);
+    let shape = rules::shape_of(op);
     match shape {
         Shape::Keyed => Limits {
             key: Request::KEY,
@@ -90,10 +90,10 @@ pub(crate) fn keeps_rules(h: Head, name: &[u8], key: &[u8], value: &[u8]) -> boo
     if 0x7fff_ffff_ffff_ffff < h.id {
         return false;
     }
-    if !request::is_served(h.version) {
+    if !rules::is_served(h.version) {
         return false;
     }
-    if request::greatest_flags(h.version) < h.flags {
+    if rules::greatest_flags(h.version) < h.flags {
         return false;
     }
     if h.intelligence < 1 {
@@ -129,7 +129,7 @@ fn args_len(h: Head, key: &[u8], value: &[u8]) -> usize
     ensures { λ r. ⌜ (r ≡ argsSize (shapeOf (h .op)) (argsWith h (now (key .entry)) (now (value .entry)))) × (r ≤ 1000) ⌝ }
 {
     let op = h.op;
-    let shape = request::shape_of(op);
+    let shape = rules::shape_of(op);
     let k = size(key);
     let times = put::number_len(h.lifespan) + put::number_len(h.idle);
     let v = size(value);
@@ -195,7 +195,7 @@ fn put_args(out: &mut [u8], at: usize, h: Head, key: &[u8], value: &[u8]) -> usi
     ensures { λ r. ⌜ Wrote (argsOf (shapeOf (h .op))) (argsWith h (now (key .entry)) (now (value .entry))) (now (out .entry)) (now (out .exit)) at r ⌝ }
 {
     let op = h.op;
-    let shape = request::shape_of(op);
+    let shape = rules::shape_of(op);
     match shape {
         Shape::Keyed => put::put_limited(out, at, key, Request::KEY),
         Shape::Writes => put_writes(out, at, h, key, value),

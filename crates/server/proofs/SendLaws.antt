@@ -34,13 +34,13 @@ use Rattle.map.proofs.Format.{pieces-reply, reply-valid, answer-most}
 use Rattle.table.specs.Memory as memory
 use Rattle.table.specs.Memory.{stateOf, Sound}
 use Rattle.table.specs.Found.{entryAt}
-use Rattle.request.specs.Answer.{start, idFound, idIn}
-use Rattle.reply_body.specs.Asked.{asked}
-use Rattle.reply_body.specs.Body.{formOf}
-use Rattle.reply_body.specs.declared.Form.{Form}
-use Rattle.reply_body.specs.declared.Form.the-variants as f
-use Rattle.reply_body.proofs.Form as form-code
-use Rattle.reply_body.proofs.BodyLaws.{code-small}
+use Rattle.message.specs.Start.{start, idFound, idIn}
+use Rattle.rules.specs.Asked.{asked}
+use Rattle.rules.specs.Body.{formOf}
+use Rattle.rules.specs.declared.Form.{Form}
+use Rattle.rules.specs.declared.Form.the-variants as f
+use Rattle.rules.proofs.Form as form-code
+use Rattle.message.proofs.Editions.{code-small}
 use Rattle.service.specs.Serve as stream
 use Rattle.service.specs.Serve.{room, errorPieces}
 use Rattle.plan.specs.declared.Held.{Held}

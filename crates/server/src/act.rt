@@ -9,8 +9,8 @@ use message::Sent;
 use plan::Change;
 use plan::Held;
 use plan::Judged;
-use reply_body::Form;
 use request::RequestRead;
+use rules::Form;
 use table::Table;
 ghost use mathlib.Core.Path.{_≡_};
 ghost use mathlib.Core.List.{List};
@@ -106,7 +106,7 @@ fn respond(out: &mut [u8], t: &[u8], h: Head, status: u8, held: Held, taken: usi
     let code = message::code(op);
     let flag = h.flags % 2 == 1;
     let awaited = code + 1;
-    let f = reply_body::form_of(flag, reply_body::body_at(op, awaited, status));
+    let f = rules::form_of(flag, rules::body_at(op, awaited, status));
     let a = message::Answer {
         id: h.id,
         op: awaited,

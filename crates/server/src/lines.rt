@@ -15,7 +15,7 @@ ghost use lib.ListN.{length};
 ghost use Rattle.hex.specs.Hex.{toHex};
 ghost use Rattle.wire.specs.Codec.{Valid};
 ghost use Rattle.message.specs.Request.{request, requestIn};
-ghost use Rattle.request.specs.Answer.{idIn};
+ghost use Rattle.message.specs.Start.{idIn};
 ghost use Rattle.map.specs.Step.{step};
 ghost use Rattle.map.specs.Reply.{flat};
 ghost use Rattle.service.specs.Serve.{errorPieces};

@@ -21,7 +21,7 @@ use Rattle.message.proofs.Sizes.{request-small}
 use Rattle.message.proofs.Refusals.{refusals}
 use Rattle.message.proofs.ReplySize.{error-most}
 use Rattle.message.proofs.ErrorLaws.{refusal-good}
-use Rattle.request.specs.Answer.{idIn}
+use Rattle.message.specs.Start.{idIn}
 use Rattle.map.specs.State.{State}
 use Rattle.map.specs.Table.{IsTable}
 use Rattle.map.specs.Step as map-step

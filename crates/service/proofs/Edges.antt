@@ -12,7 +12,7 @@ use Rattle.message.specs.Operation.{findCode}
 use Rattle.message.specs.Refusal.{rows, rowOf, refusal}
 use Rattle.message.specs.Reply.{bodyAt, textBody, bodyOf, fields, message, errorReply}
 use Rattle.message.specs.Request.{shapeOf, argsOf, operation, transaction, fields as request-fields, request}
-use Rattle.request.specs.Answer.{start, idIn}
+use Rattle.message.specs.Start.{start, idIn}
 use Rattle.map.specs.Reply.{flat, shownPieces, pieces}
 use Rattle.map.specs.Step.{plans, plan, shows, entry, stored, held, full, planned, answer, act, step}
 use Rattle.service.specs.Line.{asks, onFrame, lineStep}

@@ -9,7 +9,7 @@ use Rattle.wire.specs.Codec.{Read}
 use Rattle.message.specs.Request.{Request, request}
 use Rattle.message.specs.Reply.{errorReply}
 use Rattle.message.specs.Refusal.{refusal}
-use Rattle.request.specs.Answer.{idIn}
+use Rattle.message.specs.Start.{idIn}
 use Rattle.map.specs.State.{State}
 use Rattle.map.specs.Step as map
 use Rattle.map.specs.Step.{Context, Outcome, answered, step}

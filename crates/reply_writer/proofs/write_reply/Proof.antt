@@ -6,7 +6,7 @@ use Rattle.wire.specs.Codec.{refuse}
 use Rattle.wire.specs.Write.{send}
 use Rattle.message.specs.Operation.{findCode}
 use Rattle.message.specs.Reply.{reply, replyOf, bodyAt, isAwaited, rowsOf, isAllowed}
-use Rattle.reply_body.proofs.BodyLaws.{fields-form}
+use Rattle.rules.proofs.BodyLaws.{fields-form}
 use Rattle.reply_writer.proofs.SendLaws.{send-other, send-unlisted, send-framed}
 use borrow.Author.Needs.{needs}
 use Rattle.reply_writer.proofs.write_reply.Statement.{statement}

@@ -3,8 +3,8 @@ use mathlib.Core.Path.{refl, sym, ap, _∙_}
 use mathlib.Core.Bool.{false}
 use lib.Dec.{eqb}
 use Rattle.message.specs.Reply.{errorCode, errors, bodyOf, isAllowed, errorReply}
-use Rattle.reply_body.specs.Body.{fieldsOf}
-use Rattle.reply_body.proofs.BodyLaws.{error-text}
+use Rattle.rules.specs.Body.{fieldsOf}
+use Rattle.rules.proofs.BodyLaws.{error-text}
 use Rattle.reply_writer.specs.Frame.{errorOf}
 use Rattle.reply_writer.proofs.SendLaws.{send-framed}
 use borrow.Author.Needs.{needs}

@@ -1,6 +1,6 @@
 -- `request::read_id` meets its contract: an id that is not whole is 0. Assumes nothing.
 use Rattle.request.proofs.Read.{no-id}
-use Rattle.request.specs.Answer.{idIn}
+use Rattle.message.specs.Start.{idIn}
 use borrow.Author.Needs.{needs}
 use Rattle.request.proofs.read_id.Statement.{statement}
 use Rattle.request.proofs.read_id.Tie as tie

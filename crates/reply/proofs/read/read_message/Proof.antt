@@ -7,7 +7,7 @@ use Rattle.wire.specs.Number.{vLong}
 use Rattle.field.proofs.Parts.{number-stops}
 use Rattle.message.specs.Reply.{isAwaited, rowsOf, bodyAt, isAllowed, message}
 use Rattle.message.specs.declared.Reply.{Reply}
-use Rattle.reply_body.proofs.BodyLaws.{fields-form}
+use Rattle.rules.proofs.BodyLaws.{fields-form}
 use Rattle.reply.specs.Answer.{replyAt}
 use Rattle.reply.proofs.ReadLaws.{rest1, rest2, rest3, rest4, rest5, at-message}
 use borrow.Author.Needs.{needs}

@@ -1,8 +1,8 @@
 -- `request_writer::write::put_args` meets its contract: the shape decides. Assumes nothing.
 use mathlib.Core.Path.{_≡_, sym, _∙_}
 use Rattle.message.specs.Request.{shapeOf}
-use Rattle.request.specs.declared.Shape.{Shape}
-use Rattle.request.specs.Parts.{asShape}
+use Rattle.rules.specs.declared.Shape.{Shape}
+use Rattle.rules.specs.Shape.{asShape}
 use Rattle.request_writer.proofs.Puts.{put-keyed, put-bare}
 use borrow.Author.Needs.{needs}
 use Rattle.request_writer.proofs.write.put_args.Statement.{statement}

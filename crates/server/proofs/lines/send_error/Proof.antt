@@ -3,7 +3,7 @@ use mathlib.Core.Path.{_≡_}
 use native.Mathlib.Omega.{arith}
 use lib.ListN.{take}
 use Rattle.wire.specs.Codec.{Bytes}
-use Rattle.request.specs.Answer.{idIn}
+use Rattle.message.specs.Start.{idIn}
 use Rattle.map.specs.Reply.{flat}
 use Rattle.service.specs.Serve.{errorPieces}
 use Rattle.server.proofs.SendLaws.{id-small}

@@ -1,0 +1,87 @@
+-- The rows of the reply table by status, and the fields of a body. Assumes nothing.
+use mathlib.Core.Path.{_≡_, refl, sym}
+use mathlib.Core.List.{[], _∷_}
+use mathlib.Core.Option.{Option, none, some}
+use mathlib.Core.Bool.{Bool, true, false, cond}
+use Prim.Native.Nat.{ℕ, _≤_}
+use native.Mathlib.Omega.{arith}
+use lib.Dec.{eqb, lit≤}
+use types.Run.{OneOf, miss}
+use denote.Enum.Declared.{tagOf}
+use borrow.Author.Tests.{eqb-true, eqb-false, ne-eqb}
+use Rattle.message.specs.Reply as m
+use Rattle.message.specs.Reply.{isAllowed, errors, bodyAt, bodyOf}
+use Rattle.rules.specs.Body.{asBody, formOf, fieldsOf}
+use Rattle.rules.specs.declared.Body.{Body}
+use Rattle.rules.specs.declared.Body.the-variants as b
+use Rattle.rules.proofs.Body as body
+
+same : (t : Bool) → _≡_ {A = Option m.Body} (cond t none none) none
+same true = refl
+same false = refl
+
+-- a row that is not allowed is as no row
+module _ (s : ℕ) (x : Option m.Body) where
+  pub row-0 : cond (eqb s 0) x (cond (eqb s 1) none (cond (eqb s 2) none none)) ≡ cond (eqb s 0) x none
+  row-0 = rw (same (eqb s 2), same (eqb s 1))
+
+  pub rows-01 : (y : Option m.Body) → cond (eqb s 0) x (cond (eqb s 1) y (cond (eqb s 2) none none)) ≡ cond (eqb s 0) x (cond (eqb s 1) y none)
+  rows-01 y = rw (same (eqb s 2))
+
+  pub rows-02 : (y : Option m.Body) → cond (eqb s 0) x (cond (eqb s 1) none (cond (eqb s 2) y none)) ≡ cond (eqb s 0) x (cond (eqb s 2) y none)
+  rows-02 y = go (eqb s 1) refl
+    where
+      go : (t : Bool) → eqb s 1 ≡ t → cond (eqb s 0) x (cond t none (cond (eqb s 2) y none)) ≡ cond (eqb s 0) x (cond (eqb s 2) y none)
+      go true e = rw (eqb-true s 1 e)
+      go false e = refl
+
+-- the statuses of an error reply
+else-row : {A : Type 0} {x y : A} (t : Bool) → (t ≡ false → y ≡ x) → cond t x y ≡ x
+else-row true h = refl
+else-row false h = h refl
+
+module _ (s : ℕ) where
+  pub error-text : 0x81 ≤ s → s ≤ 0x86 → some m.text ≡ bodyAt s errors
+  unfolding bodyAt
+  error-text l h =
+      sym
+      (else-row (eqb s 0x81) λ a.
+      else-row (eqb s 0x82) λ b.
+      else-row (eqb s 0x83) λ c.
+      else-row (eqb s 0x84) λ d.
+      else-row (eqb s 0x85) λ e.
+      else-row (eqb s 0x86) λ f.
+      absurd
+      (omega (arith, eqb-false s 0x81 a, eqb-false s 0x82 b, eqb-false s 0x83 c, eqb-false s 0x84 d, eqb-false s 0x85 e, eqb-false s 0x86 f)))
+
+  pub error-none : ((k : ℕ) → 0x81 ≤ k → k ≤ 0x86 → s ≡ k → ⊥) → none ≡ bodyAt s errors
+  unfolding bodyAt
+  error-none n =
+      rw (
+        ne-eqb s 0x81 (n 0x81 (lit≤ tt) (lit≤ tt)),
+        ne-eqb s 0x82 (n 0x82 (lit≤ tt) (lit≤ tt)),
+        ne-eqb s 0x83 (n 0x83 (lit≤ tt) (lit≤ tt)),
+        ne-eqb s 0x84 (n 0x84 (lit≤ tt) (lit≤ tt)),
+        ne-eqb s 0x85 (n 0x85 (lit≤ tt) (lit≤ tt)),
+        ne-eqb s 0x86 (n 0x86 (lit≤ tt) (lit≤ tt)),
+      )
+
+pub is-listed : (x : Body) → OneOf (0 ∷ 1 ∷ 2 ∷ 3 ∷ 4 ∷ 5 ∷ []) (tagOf body.the-type x) → true ≡ isAllowed (asBody x)
+is-listed b.Nothing k = refl
+is-listed b.Old k = refl
+is-listed b.OldNone k = refl
+is-listed b.Value k = refl
+is-listed b.Versioned k = refl
+is-listed b.Text k = refl
+is-listed b.NotAllowed k = absurd (miss (0 ∷ 1 ∷ 2 ∷ 3 ∷ 4 ∷ 5 ∷ []) 6 tt k)
+
+pub fields-form : (flag : Bool) (x : m.Body) → bodyOf flag x ≡ fieldsOf (formOf flag x)
+unfolding bodyOf fieldsOf
+fields-form flag m.nothing = refl
+fields-form true m.old = refl
+fields-form false m.old = refl
+fields-form true m.oldNone = refl
+fields-form false m.oldNone = refl
+fields-form flag m.value = refl
+fields-form flag m.versioned = refl
+fields-form flag m.text = refl

@@ -1,0 +1,12 @@
+-- `rules::old` meets its contract. Assumes nothing.
+use Rattle.rules.proofs.old.Statement.{statement}
+use Rattle.rules.proofs.old.Tie as tie
+
+returns : tie.Need-returns
+returns c = rw (c .if1 .taken)
+
+returns-2 : tie.Need-returns-2
+returns-2 c = rw (c .if1 .left)
+
+pub old-spec : {M : Type 1} → statement M
+old-spec = tie.close (tie.spec returns returns-2)

@@ -1,0 +1,178 @@
+// The tables of the protocol: the served versions and their flags, the arguments of each operation, and the reply table with the fields of each body.
+use message::Operation;
+use message::Reply;
+ghost use mathlib.Core.Path.{_≡_};
+ghost use mathlib.Core.Bool.{cond};
+ghost use mathlib.Core.Option.{none};
+ghost use lib.Dec.{eqb};
+ghost use Rattle.message.specs.Request.{shapeOf, isVersion, ed};
+ghost use Rattle.message.specs.Reply.{bodyAt, table, errors, rowsOf, isAwaited, isAllowed, allowed};
+ghost use Rattle.rules.specs.Body.{asBody, formOf, oldForm};
+ghost use Rattle.rules.specs.Shape.{asShape};
+
+// Which arguments an operation is sent.
+pub enum Shape {
+    Keyed,
+    Writes,
+    WritesIf,
+    KeyedIf,
+    Bare,
+}
+
+pub fn shape_of(op: Operation) -> Shape
+    ensures { λ r. ⌜ asShape r ≡ shapeOf op ⌝ }
+{
+    match op {
+        Operation::Put => Shape::Writes,
+        Operation::Get => Shape::Keyed,
+        Operation::PutIfAbsent => Shape::Writes,
+        Operation::Replace => Shape::Writes,
+        Operation::ReplaceIfUnmodified => Shape::WritesIf,
+        Operation::Remove => Shape::Keyed,
+        Operation::RemoveIfUnmodified => Shape::KeyedIf,
+        Operation::ContainsKey => Shape::Keyed,
+        Operation::GetWithVersion => Shape::Keyed,
+        Operation::Clear => Shape::Bare,
+        Operation::Ping => Shape::Bare,
+    }
+}
+
+pub fn is_served(version: u8) -> bool
+    ensures { λ r. ⌜ r ≡ isVersion version ⌝ }
+{
+    match version {
+        10 => true,
+        11 => true,
+        12 => true,
+        _ => false,
+    }
+}
+
+// The greatest flags of a version.
+pub fn greatest_flags(version: u8) -> u64
+    ensures { λ r. ⌜ r ≡ ed version .flags ⌝ }
+{
+    match version {
+        10 => 1,
+        11 => 1,
+        12 => 7,
+        _ => 0,
+    }
+}
+
+// What a reply carries behind its marker.
+pub enum Body {
+    Nothing,
+    Old,
+    OldNone,
+    Value,
+    Versioned,
+    Text,
+    NotAllowed,
+}
+
+// The fields of a body: none; bytes of at most a length; an entry version and a value; a text.
+pub enum Form {
+    Nothing,
+    Value(u64),
+    Versioned,
+    Text,
+}
+
+// "The reply's code is the request's plus 1; 0x50 is the error reply."
+pub fn is_awaited(o: Operation, op: u8) -> bool
+    ensures { λ r. ⌜ r ≡ isAwaited o op ⌝ }
+{
+    if op == message::code(o) + 1 {
+        return true;
+    }
+    op == 0x50
+}
+
+// The body of a status, where 00, 01 and 02 have the bodies `a`, `b` and `c`.
+fn row(status: u8, a: Body, b: Body, c: Body) -> Body
+    ensures { λ r. ⌜ asBody r ≡ cond (eqb status 0) (asBody a) (cond (eqb status 1) (asBody b) (cond (eqb status 2) (asBody c) none)) ⌝ }
+{
+    match status {
+        0x00 => a,
+        0x01 => b,
+        0x02 => c,
+        _ => Body::NotAllowed,
+    }
+}
+
+// The reply table.
+fn in_table(o: Operation, status: u8) -> Body
+    ensures { λ r. ⌜ asBody r ≡ bodyAt status (table o) ⌝ }
+{
+    match o {
+        Operation::Put => row(status, Body::Old, Body::NotAllowed, Body::NotAllowed),
+        Operation::PutIfAbsent => row(status, Body::OldNone, Body::Old, Body::NotAllowed),
+        Operation::Replace => row(status, Body::Old, Body::OldNone, Body::NotAllowed),
+        Operation::ReplaceIfUnmodified => row(status, Body::Old, Body::OldNone, Body::OldNone),
+        Operation::Remove => row(status, Body::Old, Body::NotAllowed, Body::OldNone),
+        Operation::RemoveIfUnmodified => row(status, Body::Old, Body::OldNone, Body::OldNone),
+        Operation::Get => row(status, Body::Value, Body::NotAllowed, Body::Nothing),
+        Operation::GetWithVersion => row(status, Body::Versioned, Body::NotAllowed, Body::Nothing),
+        Operation::ContainsKey => row(status, Body::Nothing, Body::NotAllowed, Body::Nothing),
+        Operation::Clear => row(status, Body::Nothing, Body::NotAllowed, Body::NotAllowed),
+        Operation::Ping => row(status, Body::Nothing, Body::NotAllowed, Body::NotAllowed),
+    }
+}
+
+// The statuses of an error reply.
+fn in_errors(status: u8) -> Body
+    ensures { λ r. ⌜ asBody r ≡ bodyAt status errors ⌝ }
+{
+    if status < 0x81 {
+        return Body::NotAllowed;
+    }
+    if 0x86 < status {
+        return Body::NotAllowed;
+    }
+    Body::Text
+}
+
+pub fn body_at(o: Operation, op: u8, status: u8) -> Body
+    ensures { λ r. ⌜ asBody r ≡ bodyAt status (rowsOf o op) ⌝ }
+{
+    if op == 0x50 {
+        in_errors(status)
+    } else {
+        in_table(o, status)
+    }
+}
+
+pub fn is_allowed(b: Body) -> bool
+    ensures { λ r. ⌜ r ≡ isAllowed (asBody b) ⌝ }
+{
+    match b {
+        Body::NotAllowed => false,
+        _ => true,
+    }
+}
+
+// The fields of a body: an old value is sent only if the flag was set.
+pub fn form_of(flag: bool, b: Body) -> Form
+    ensures { λ r. ⌜ r ≡ formOf flag (allowed (asBody b)) ⌝ }
+{
+    match b {
+        Body::Nothing => Form::Nothing,
+        Body::Old => old(flag, Reply::VALUE),
+        Body::OldNone => old(flag, 0),
+        Body::Value => Form::Value(Reply::VALUE),
+        Body::Versioned => Form::Versioned,
+        Body::Text => Form::Text,
+        Body::NotAllowed => Form::Nothing,
+    }
+}
+
+fn old(flag: bool, lim: u64) -> Form
+    ensures { λ r. ⌜ r ≡ oldForm flag lim ⌝ }
+{
+    if flag {
+        Form::Value(lim)
+    } else {
+        Form::Nothing
+    }
+}

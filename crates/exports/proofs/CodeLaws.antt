@@ -16,7 +16,7 @@ use Rattle.table.proofs.Lists.{lt-or-ge}
 use Rattle.stored.specs.File.{form1, file}
 use Rattle.stored.specs.Answer.{Storing}
 use Rattle.exports.specs.Codes.{sentCode, tell}
-use Rattle.exports.specs.Messages.{isHead, HeadFits, isAnswer, AnswerFits}
+use Rattle.exports.specs.Messages.{isHead, HeadFits, isReplyHead, ReplyHeadFits}
 
 pub head-fits : (ns : List ℕ) → isHead ns ≡ true → HeadFits ns
 head-fits ns e =
@@ -25,8 +25,8 @@ head-fits ns e =
     let d = both (leb (getD ns 2 0) 255) _ (b .1) in
     record { long = leb-true _ _ (a .0); version = leb-true _ _ (b .0); op = leb-true _ _ (d .0); intelligence = leb-true _ _ (d .1) }
 
-pub answer-fits : (ns : List ℕ) → isAnswer ns ≡ true → AnswerFits ns
-answer-fits ns e =
+pub reply-head-fits : (ns : List ℕ) → isReplyHead ns ≡ true → ReplyHeadFits ns
+reply-head-fits ns e =
     let a = both (leb 4 (length ns)) _ e in
     let b = both (leb (getD ns 1 0) 255) _ (a .1) in
     record { long = leb-true _ _ (a .0); op = leb-true _ _ (b .0); status = leb-true _ _ (b .1) }

@@ -8,12 +8,13 @@ use lib.Dec.{leb}
 use Rattle.wire.specs.Write.{Sent, kept, send}
 use Rattle.message.specs.declared.Operation.{Operation}
 use Rattle.message.specs.declared.Head.{Head}
-use Rattle.message.specs.declared.Answer.{Answer}
+use Rattle.message.specs.declared.Asked.{Asked}
+use Rattle.message.specs.declared.ReplyHead.{ReplyHead}
 use Rattle.message.specs.declared.Request as code
 use Rattle.message.specs.declared.Reply as code-reply
 use Rattle.message.specs.Operation.{codeOf, findCode}
 use Rattle.message.specs.Request.{request, requestOf}
-use Rattle.message.specs.Reply.{Asked, reply, replyOf}
+use Rattle.message.specs.Reply.{reply, replyOf}
 
 -- the count of bytes of a request that was read, its numbers, and where its name, key and value stand
 abbrev pub wholeRequest : code.Request → ℕ → List ℕ
@@ -24,7 +25,7 @@ wholeRequest q n =
 -- the same of a reply, and where its value and text stand
 abbrev pub wholeReply : code-reply.Reply → ℕ → List ℕ
 wholeReply q n =
-    n ∷ q .answer .id ∷ q .answer .op ∷ q .answer .status ∷ q .answer .entry .0 ∷ q .value .start ∷ q .value .len ∷ q .text .start ∷ q .text .len ∷ []
+    n ∷ q .head .id ∷ q .head .op ∷ q .head .status ∷ q .head .entry .0 ∷ q .value .start ∷ q .value .len ∷ q .text .start ∷ q .text .len ∷ []
 
 -- the numbers of a request to be written: too few, one that does not fit its field, or a code that is not served are none of a request
 abbrev pub headWith : List ℕ → Operation → Head
@@ -59,16 +60,16 @@ unfoldable pub sendRequest : List ℕ → List ℕ → List ℕ → List ℕ →
 sendRequest ns name key value old = cond (isHead ns) (sendHead ns (findCode (getD ns 2 0)) name key value old) (kept 16, old)
 
 -- the same of a reply
-abbrev pub answerWith : List ℕ → Answer
-answerWith ns = record { id = getD ns 0 0; op = getD ns 1 0; status = getD ns 2 0; entry = record { 0 = getD ns 3 0 } }
+abbrev pub replyHeadWith : List ℕ → ReplyHead
+replyHeadWith ns = record { id = getD ns 0 0; op = getD ns 1 0; status = getD ns 2 0; entry = record { 0 = getD ns 3 0 } }
 
-abbrev pub isAnswer : List ℕ → Bool
-isAnswer ns = leb 4 (length ns) && (leb (getD ns 1 0) 255 && leb (getD ns 2 0) 255)
+abbrev pub isReplyHead : List ℕ → Bool
+isReplyHead ns = leb 4 (length ns) && (leb (getD ns 1 0) 255 && leb (getD ns 2 0) 255)
 
-pub record AnswerFits (ns : List ℕ) : Type 0 where
+pub record ReplyHeadFits (ns : List ℕ) : Type 0 where
   pub long : 4 ≤ length ns
   pub op : getD ns 1 0 ≤ 255
   pub status : getD ns 2 0 ≤ 255
 
 unfoldable pub sendReply : Asked → List ℕ → List ℕ → List ℕ → List ℕ → Sent × List ℕ
-sendReply a ns value text old = cond (isAnswer ns) (send (reply a) (replyOf (answerWith ns) value text) old) (kept 16, old)
+sendReply a ns value text old = cond (isReplyHead ns) (send (reply a) (replyOf (replyHeadWith ns) value text) old) (kept 16, old)

@@ -1,10 +1,10 @@
 // The numbers of a message that the caller gives.
 use field::EntryVersion;
-use message::Answer;
 use message::Head;
 use message::Operation;
+use message::ReplyHead;
 ghost use mathlib.Core.Path.{_≡_};
-ghost use Rattle.exports.specs.Messages.{isHead, headWith, HeadFits, isAnswer, answerWith, AnswerFits};
+ghost use Rattle.exports.specs.Messages.{isHead, headWith, HeadFits, isReplyHead, replyHeadWith, ReplyHeadFits};
 
 // Are they those of a request, but for the operation?
 pub(crate) fn is_head(ns: &[u64]) -> bool
@@ -40,8 +40,8 @@ pub(crate) fn head(ns: &[u64], op: Operation) -> Head
 }
 
 // Are they those of a reply?
-pub(crate) fn is_answer(ns: &[u64]) -> bool
-    ensures { λ r. ⌜ r ≡ isAnswer (now (ns .entry)) ⌝ }
+pub(crate) fn is_reply_head(ns: &[u64]) -> bool
+    ensures { λ r. ⌜ r ≡ isReplyHead (now (ns .entry)) ⌝ }
 {
     if ns.len() < 4 {
         return false;
@@ -52,11 +52,11 @@ pub(crate) fn is_answer(ns: &[u64]) -> bool
     ns[2] <= 255
 }
 
-pub(crate) fn answer(ns: &[u64]) -> Answer
-    requires { ⌜ AnswerFits (now ns) ⌝ }
-    ensures { λ r. ⌜ r ≡ answerWith (now (ns .entry)) ⌝ }
+pub(crate) fn reply_head(ns: &[u64]) -> ReplyHead
+    requires { ⌜ ReplyHeadFits (now ns) ⌝ }
+    ensures { λ r. ⌜ r ≡ replyHeadWith (now (ns .entry)) ⌝ }
 {
-    Answer {
+    ReplyHead {
         id: ns[0],
         op: ns[1] as u8,
         status: ns[2] as u8,

@@ -3,6 +3,7 @@
 mod given;
 mod tell;
 
+use message::Asked;
 use message::Found;
 use reply::ReplyRead;
 use request::RequestRead;
@@ -10,9 +11,8 @@ use server::Served;
 ghost use mathlib.Core.Path.{_≡_};
 ghost use Rattle.wire.specs.Codec.{mapped};
 ghost use Rattle.message.specs.Request.{request};
-ghost use Rattle.message.specs.Reply.{reply};
+ghost use Rattle.message.specs.Reply.{asked, reply};
 ghost use Rattle.request.specs.Answer.{requestAt};
-ghost use Rattle.rules.specs.Asked.{asked};
 ghost use Rattle.reply.specs.Answer.{replyAt};
 ghost use Rattle.table.specs.Memory.{Sound};
 ghost use Rattle.table.specs.Found.{Tells as Says};
@@ -45,7 +45,7 @@ pub extern "C" fn fq_read_request(input: &[u8], answer: &mut [u64]) -> u64
 pub extern "C" fn fq_read_reply(input: &[u8], op: u8, flag: bool, answer: &mut [u64]) -> u64
     ensures { λ r. ⌜ (r, now (answer .exit)) ≡ told wholeReply (mapped replyAt (reply (asked op flag) .dec (now (input .entry)))) (now (answer .entry)) ⌝ }
 {
-    let a = reply::read_reply(input, op, flag);
+    let a = reply::read_reply(input, Asked { op: op, flag: flag });
     match a {
         ReplyRead::Whole(q, n) => {
             tell::reply(answer, q, n);
@@ -90,11 +90,11 @@ pub extern "C" fn fq_write_reply(
 ) -> u64
     ensures { λ r. ⌜ (r, now (out .exit)) ≡ coded (sendReply (asked op flag) (now (numbers .entry)) (now (value .entry)) (now (text .entry)) (now (out .entry))) ⌝ }
 {
-    if !given::is_answer(numbers) {
+    if !given::is_reply_head(numbers) {
         return 16;
     }
-    let a = given::answer(numbers);
-    tell::sent(reply_writer::write_reply(out, op, flag, a, value, text))
+    let h = given::reply_head(numbers);
+    tell::sent(reply_writer::write_reply(out, Asked { op: op, flag: flag }, h, value, text))
 }
 
 // Whether the memory is a sound table.

@@ -59,15 +59,15 @@ pub(crate) fn request(answer: &mut [u64], q: Request, n: usize)
 pub(crate) fn reply(answer: &mut [u64], q: Reply, n: usize)
     ensures { λ _. ⌜ now (answer .exit) ≡ tell (wholeReply q n) (now (answer .entry)) ⌝ }
 {
-    let a = q.answer;
-    let entry = a.entry;
+    let h = q.head;
+    let entry = h.entry;
     let value = q.value;
     let text = q.text;
     let ns = [
         n as u64,
-        a.id,
-        a.op as u64,
-        a.status as u64,
+        h.id,
+        h.op as u64,
+        h.status as u64,
         entry.0,
         value.start as u64,
         value.len as u64,

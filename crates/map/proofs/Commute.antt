@@ -2,17 +2,17 @@
 -- itself it only makes the value of the entry that it writes. Assumes nothing.
 use mathlib.Core.Path.{_≡_, refl, sym, ap, _∙_}
 use mathlib.Core.List.{List}
-use mathlib.Core.Bool.{Bool, true, false}
+use mathlib.Core.Bool.{true, false}
 use mathlib.Core.Option.{Option, none, some}
 use mathlib.Core.Logic.{_⊎_, inl, inr}
 use Prim.Native.Nat.{ℕ, suc, _≤_}
 use native.Mathlib.Omega.{arith}
-use lib.Dec.{ltb}
+use lib.Dec.{eqb, ltb}
 use borrow.Author.Tests.{ne-eqb, eq-eqb}
 use Rattle.message.specs.Request.{Request, isEmpty}
 use Rattle.message.specs.Value.{withValue}
-use Rattle.message.specs.Reply as reply
-use Rattle.message.specs.Reply.{Body}
+use Rattle.message.specs.declared.Form.{Form}
+use Rattle.message.specs.declared.Form.the-variants as form
 use Rattle.map.specs.State.{Entry, State, without}
 use Rattle.map.specs.Step.{Context, Change, keep, store, drop, empty, shows, Answer, answered, lastVersion, deadline, entry, stored, dropped, emptied, isNone, names, held, versionOf, full, planned, answer, act, step}
 use Rattle.map.specs.Table.{Each}
@@ -25,19 +25,14 @@ module _ (v : ℕ) (w : List ℕ) where
   version-with none = refl
   version-with (some e) = refl
 
-  shows-with : (t : Bool) (b : Body) (f : Option Entry) → shows t b (foundWith v w f) ≡ shownWith v w (shows t b f)
+  shows-with : (g : Form) (f : Option Entry) → shows g (foundWith v w f) ≡ shownWith v w (shows g f)
   unfolding shows shownWith
-  shows-with t reply.nothing f = refl
-  shows-with true reply.old none = refl
-  shows-with true reply.old (some e) = refl
-  shows-with false reply.old f = refl
-  shows-with true reply.oldNone f = refl
-  shows-with false reply.oldNone f = refl
-  shows-with t reply.value none = refl
-  shows-with t reply.value (some e) = refl
-  shows-with t reply.versioned none = refl
-  shows-with t reply.versioned (some e) = refl
-  shows-with t reply.text f = refl
+  shows-with form.Nothing f = refl
+  shows-with (form.Value lim) none = refl
+  shows-with (form.Value lim) (some e) = rw (cond-of (shownWith v w) (eqb lim 0))
+  shows-with form.Versioned none = refl
+  shows-with form.Versioned (some e) = refl
+  shows-with form.Text f = refl
 
   none-with : (f : Option Entry) → isNone (foundWith v w f) ≡ isNone f
   none-with none = refl

@@ -17,7 +17,7 @@ use Rattle.message.specs.declared.Operation.the-variants.{Put, Get, PutIfAbsent
 use Rattle.message.specs.Operation.{codeOf}
 use Rattle.message.specs.Request.{valueLimit, Request, request}
 use Rattle.message.specs.Reply as m
-use Rattle.message.specs.Reply.{Body, table, bodyAt, isAllowed, allowed, Reply, payload, noBody, valueBody, versionedBody, bodyOf, fields, message, isAwaited, rowsOf, reply}
+use Rattle.message.specs.Reply.{Body, table, bodyAt, isAllowed, allowed, Reply, payload, noBody, valueBody, versionedBody, fieldsOf, formOf, fields, message, isAwaited, rowsOf, reply}
 use Rattle.message.proofs.RequestLaws.{code-found, pick}
 use Rattle.message.proofs.RequestParts as asked
 use Rattle.message.proofs.ReplyParts.{whole-reply}
@@ -92,13 +92,14 @@ limited-flat : (e : Entry) → vInt .enc (length (e .value)) ++ (e .value ++ [])
 unfolding limited as-type seq guard raw
 limited-flat e = rw append-nil
 
-shown-enc : (t : Bool) (b : Body) (f : Option Entry) → Fit b f → flat (shownPieces (shows t b f)) ≡ bodyOf t b .enc (carried (shows t b f))
-unfolding shows shownPieces flat bodyOf noBody valueBody versionedBody as-type limited seq guard raw empty vInt number numberEnc
+shown-enc : (t : Bool) (b : Body) (f : Option Entry) → Fit b f → flat (shownPieces (shows (formOf t b) f)) ≡ fieldsOf (formOf t b) .enc (carried (shows (formOf t b) f))
+unfolding shows shownPieces flat fieldsOf noBody valueBody versionedBody as-type limited seq guard raw empty vInt number numberEnc
 shown-enc t m.nothing f h = refl
 shown-enc true m.old none h = refl
 shown-enc true m.old (some e) h = limited-flat e
 shown-enc false m.old f h = refl
-shown-enc true m.oldNone f h = refl
+shown-enc true m.oldNone none h = refl
+shown-enc true m.oldNone (some e) h = refl
 shown-enc false m.oldNone f h = refl
 shown-enc t m.value (some e) h = limited-flat e
 shown-enc t m.versioned (some e) h = ap (λ (s : List ℕ). entryVersion .enc (e .version) ++ s) (limited-flat e)
@@ -124,13 +125,14 @@ held-fits r st s =
 value-good : (e : Entry) → Fits e → Valid (limited valueLimit) (e .value)
 value-good e h = limited-good valueLimit (e .value) (omega (arith, h .0 .value)) (h .0 .value) (bytes-are (e .value) (h .0 .valueBytes))
 
-shown-good : (t : Bool) (b : Body) (f : Option Entry) → Fit b f → Maybe Fits f → Valid (bodyOf t b) (carried (shows t b f))
-unfolding shows bodyOf noBody valueBody versionedBody
+shown-good : (t : Bool) (b : Body) (f : Option Entry) → Fit b f → Maybe Fits f → Valid (fieldsOf (formOf t b)) (carried (shows (formOf t b) f))
+unfolding shows fieldsOf noBody valueBody versionedBody
 shown-good t m.nothing f h i = type-good _ _ _ _ refl empty-good
 shown-good true m.old none h i = type-good _ _ _ _ refl (none-good valueLimit)
 shown-good true m.old (some e) h i = type-good _ _ _ _ refl (value-good e i)
 shown-good false m.old f h i = type-good _ _ _ _ refl empty-good
-shown-good true m.oldNone f h i = type-good _ _ _ _ refl (none-good 0)
+shown-good true m.oldNone none h i = type-good _ _ _ _ refl (none-good 0)
+shown-good true m.oldNone (some e) h i = type-good _ _ _ _ refl (none-good 0)
 shown-good false m.oldNone f h i = type-good _ _ _ _ refl empty-good
 shown-good t m.value (some e) h i = type-good _ _ _ _ refl (value-good e i)
 shown-good t m.versioned (some e) h i = type-good _ _ _ _ refl (seq-good _ _ (big-good 8 (e .version) (omega (arith, i .1))) (value-good e i))
@@ -140,20 +142,21 @@ abbrev pub oldOf : Option Entry → Shown
 oldOf none = noValue
 oldOf (some e) = value e
 
-shows-old : (t : Bool) (f : Option Entry) → shows t m.old f ≡ cond t (oldOf f) nothing
+shows-old : (t : Bool) (f : Option Entry) → shows (formOf t m.old) f ≡ cond t (oldOf f) nothing
 unfolding shows
 shows-old true none = refl
 shows-old true (some e) = refl
 shows-old false f = refl
 
-shows-none : (t : Bool) (f : Option Entry) → shows t m.oldNone f ≡ cond t noValue nothing
+shows-none : (t : Bool) (f : Option Entry) → shows (formOf t m.oldNone) f ≡ cond t noValue nothing
 unfolding shows
-shows-none true f = refl
+shows-none true none = refl
+shows-none true (some e) = refl
 shows-none false f = refl
 
 -- the bytes of a message, and of the pieces
 message-enc : (comes : ℕ → Bool) (rows : ℕ → List (ℕ × Body)) (flag : Bool) (x : Reply) → message comes rows flag .enc x
-    ≡ 0xa1 ∷ (vLong .enc (x .id) ++ (x .op ∷ x .status ∷ 0 ∷ bodyOf flag (allowed (bodyAt (x .status) (rows (x .op)))) .enc (payload (x .entry) (x .value) (x .text))))
+    ≡ 0xa1 ∷ (vLong .enc (x .id) ++ (x .op ∷ x .status ∷ 0 ∷ fieldsOf (formOf flag (allowed (bodyAt (x .status) (rows (x .op))))) .enc (x .payload)))
 unfolding message fields seq guard byte as-type
 message-enc comes rows flag x = refl
 
@@ -172,7 +175,7 @@ module _ (r : Request) (st : State) where
 
   planned-told : Told (r .op) (held r st) (planned r st)
   unfolding planned
-  planned-told = told (r .op) (r .args .entry) (held r st)
+  planned-told = told (r .op) (r .args .entryVersion) (held r st)
 
   -- the pieces of a reply are the bytes of its format
   pub pieces-reply : flat (pieces r (answer r st)) ≡ reply (askedBy r) .enc (replyTo r (answer r st))

@@ -8,13 +8,14 @@ use Rattle.wire.specs.Field.{entryVersion}
 use Rattle.message.specs.Operation.{codeOf}
 use Rattle.message.specs.Request.{Request}
 use Rattle.message.specs.Reply as message
-use Rattle.message.specs.Reply.{Asked}
+use Rattle.message.specs.declared.Asked.{Asked}
+use Rattle.message.specs.Reply.{asked}
 use Rattle.map.specs.State.{Entry}
 use Rattle.map.specs.Step.{Shown, nothing, noValue, value, versioned, Answer, wantsOld}
 
 -- what was asked by a request
 abbrev pub askedBy : Request → Asked
-askedBy r = record { op = codeOf (r .op); flag = wantsOld r }
+askedBy r = asked (codeOf (r .op)) (wantsOld r)
 
 abbrev pub entryOf : Shown → ℕ
 entryOf nothing = 0
@@ -31,7 +32,7 @@ valueOf (versioned e) = e .value
 -- the reply to a request
 abbrev pub replyTo : Request → Answer → message.Reply
 replyTo r a =
-    record { id = r .id; op = codeOf (r .op) + 1; status = a .status; entry = entryOf (a .shown); value = valueOf (a .shown); text = [] }
+    record { id = r .id; op = codeOf (r .op) + 1; status = a .status; payload = message.payload (entryOf (a .shown)) (valueOf (a .shown)) [] }
 
 pub data Piece : Type 0 where
   fixed : List ℕ → Piece

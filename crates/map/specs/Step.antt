@@ -8,8 +8,9 @@ use lib.Dec.{eqb, leb, ltb}
 use Rattle.message.specs.declared.Operation.{Operation}
 use Rattle.message.specs.declared.Operation.the-variants.{Put, Get, PutIfAbsent, Replace, ReplaceIfUnmodified, Remove, RemoveIfUnmodified, ContainsKey, GetWithVersion, Clear, Ping}
 use Rattle.message.specs.Request.{Args, Request, isEmpty}
-use Rattle.message.specs.Reply as reply
-use Rattle.message.specs.Reply.{Body, bodyAt, allowed, table}
+use Rattle.message.specs.declared.Form.{Form}
+use Rattle.message.specs.declared.Form.the-variants as form
+use Rattle.message.specs.Reply.{formOf, bodyAt, allowed, table}
 use Rattle.map.specs.State.{Entry, State, withEntries, find, without, hasKey}
 
 -- "A served table has at most 128 keys."
@@ -66,20 +67,15 @@ pub data Shown : Type 0 where
   value : Entry → Shown
   versioned : Entry → Shown
 
--- The reply table's body, of the entry held before the step. "Old value is sent only if flag 0x0001 was set: length and bytes held before the
--- call, or length 0 if the key was absent."
-unfoldable pub shows : Bool → Body → Option Entry → Shown
-shows flag reply.nothing f = nothing
-shows true reply.old none = noValue
-shows true reply.old (some e) = value e
-shows false reply.old f = nothing
-shows true reply.oldNone f = noValue
-shows false reply.oldNone f = nothing
-shows flag reply.value none = nothing
-shows flag reply.value (some e) = value e
-shows flag reply.versioned none = nothing
-shows flag reply.versioned (some e) = versioned e
-shows flag reply.text f = nothing
+-- What a reply of the form shows of the entry held before the step: "length and bytes held before the call, or length 0 if the key was absent". A value of at
+-- most 0 bytes is length 0.
+unfoldable pub shows : Form → Option Entry → Shown
+shows form.Nothing f = nothing
+shows (form.Value lim) none = noValue
+shows (form.Value lim) (some e) = cond (eqb lim 0) noValue (value e)
+shows form.Versioned none = nothing
+shows form.Versioned (some e) = versioned e
+shows form.Text f = nothing
 
 pub record Answer : Type 0 where
   pub status : ℕ
@@ -137,13 +133,13 @@ unfoldable pub full : Request → State → Bool
 full r st = isNone (held r st) && leb mostKeys (length (st .entries))
 
 unfoldable pub planned : Request → State → Plan
-planned r st = plan (r .op) (r .args .entry) (versionOf (held r st))
+planned r st = plan (r .op) (r .args .entryVersion) (versionOf (held r st))
 
 unfoldable pub answer : Request → State → Answer
 answer r st =
     record {
       status = planned r st .status;
-      shown = shows (wantsOld r) (allowed (bodyAt (planned r st .status) (table (r .op)))) (held r st);
+      shown = shows (formOf (wantsOld r) (allowed (bodyAt (planned r st .status) (table (r .op))))) (held r st);
     }
 
 -- "11: the write would take effect and no version is left"

@@ -11,16 +11,16 @@ use Rattle.message.specs.declared.Operation.{Operation}
 use Rattle.message.specs.declared.Operation.the-variants.{Put, Get, PutIfAbsent, Replace, ReplaceIfUnmodified, Remove, RemoveIfUnmodified, ContainsKey, GetWithVersion, Clear, Ping}
 use Rattle.message.specs.Operation.{codeOf, findCode, isKnown, known}
 use Rattle.message.specs.Edition.{Edition, editionOf, isServed, served}
-use Rattle.message.specs.Request.{opFits, isVersion, ed}
+use Rattle.message.specs.Request.{opFits, isVersion, editionAt}
 use Rattle.message.proofs.RequestLaws.{pick}
 
-pub has-transaction : (v : ℕ) → ed v .transaction ≡ true
+pub has-transaction : (v : ℕ) → editionAt v .transaction ≡ true
 unfolding editionOf
 has-transaction v =
     let P : Option Edition → Type 0 = λ e. served e .transaction ≡ true in
     pick P (eqb v 10) (λ e. refl) (pick P (eqb v 11) (λ e. refl) (pick P (eqb v 12) (λ e. refl) refl))
 
-has-operation : (v : ℕ) (o : Operation) → ed v .serves o ≡ true
+has-operation : (v : ℕ) (o : Operation) → editionAt v .serves o ≡ true
 unfolding editionOf
 has-operation v o =
     let P : Option Edition → Type 0 = λ e. served e .serves o ≡ true in
@@ -31,10 +31,10 @@ and-true : (x : Bool) → (x && true) ≡ x
 and-true true = refl
 and-true false = refl
 
-pub op-known : (v n : ℕ) → opFits (ed v) n ≡ isKnown (findCode n)
+pub op-known : (v n : ℕ) → opFits (editionAt v) n ≡ isKnown (findCode n)
 op-known v n = rw (has-operation v (known (findCode n)), and-true)
 
-pub flags-small : (v : ℕ) → ed v .flags ≤ 7
+pub flags-small : (v : ℕ) → editionAt v .flags ≤ 7
 unfolding editionOf
 flags-small v =
     let P : Option Edition → Type 0 = λ e. served e .flags ≤ 7 in

@@ -17,8 +17,9 @@ use Rattle.text.specs.Text as t
 use Rattle.text.specs.Text.{isText, textAfter, stepOf, leadOf}
 use Rattle.field.specs.Answer.{limitedText}
 use Rattle.message.specs.declared.Operation.{Operation}
+use Rattle.message.specs.declared.Asked.{Asked}
 use Rattle.message.specs.Operation.{codeOf, findCode}
-use Rattle.message.specs.Reply.{textLimit, Asked, text, errors, errorCode, bodyAt, isAllowed, allowed, Reply, textBody, bodyOf, fields, message, isAwaited, rowsOf, reply, errorReply}
+use Rattle.message.specs.Reply.{textLimit, text, errors, errorCode, bodyAt, isAllowed, allowed, Reply, payload, textBody, fieldsOf, formOf, fields, message, isAwaited, rowsOf, reply, errorReply}
 use Rattle.message.specs.Refusal.{Row, rows, rowOf, refusal}
 use Rattle.message.proofs.ReplyParts.{Parts, parts, whole-reply}
 use Rattle.message.proofs.ReplySize.{error-text}
@@ -35,8 +36,8 @@ module _ (o : Operation) (flag : Bool) (r : Reply) (e : eqb (r .op) errorCode �
   error-rows = rw e
 
   -- what an error carries does not go by the flag
-  error-body : bodyOf flag (allowed (bodyAt (r .status) (rowsOf o (r .op)))) ≡ bodyOf false (allowed (bodyAt (r .status) errors))
-  unfolding bodyOf
+  error-body : fieldsOf (formOf flag (allowed (bodyAt (r .status) (rowsOf o (r .op))))) ≡ fieldsOf (formOf false (allowed (bodyAt (r .status) errors)))
+  unfolding fieldsOf
   error-body = rw (error-rows, error-text (r .status) t)
 
   error-parts : Parts (λ op. eqb op errorCode) (λ op. errors) false r → Parts (isAwaited o) (rowsOf o) flag r
@@ -63,8 +64,8 @@ error-reply a o f r v =
 
 -- an error reply of any id, status and text
 error-good : (id s : ℕ) (t : List ℕ) → id < 0x8000_0000_0000_0000 → Valid (guard (λ s. isAllowed (bodyAt s errors)) 8 byte) s → Valid (limitedText textLimit) t
-    → Valid errorReply (record { id = id; op = errorCode; status = s; entry = 0; value = []; text = t })
-unfolding errorReply bodyOf textBody vLong guard byte
+    → Valid errorReply (record { id = id; op = errorCode; status = s; payload = payload 0 [] t })
+unfolding errorReply fieldsOf textBody vLong guard byte
 error-good id s t h v w =
     whole-reply (λ op. eqb op errorCode) (λ op. errors) false _
     (record {

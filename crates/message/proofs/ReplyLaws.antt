@@ -13,13 +13,16 @@ use Rattle.wire.proofs.NumberLaws.{vLong-laws}
 use Rattle.wire.proofs.FieldLaws.{big-laws, limited-laws}
 use Rattle.field.specs.Answer.{limitedText}
 use Rattle.message.specs.declared.Operation.{Operation}
+use Rattle.message.specs.declared.Form.{Form}
+use Rattle.message.specs.declared.Form.the-variants as form
+use Rattle.message.specs.declared.Asked.{Asked}
 use Rattle.message.specs.Operation.{findCode}
 use Rattle.message.specs.Request.{valueLimit}
-use Rattle.message.specs.Reply.{textLimit, Asked, Body, nothing, old, oldNone, value, versioned, text, errors, errorCode, bodyAt, isAllowed, allowed, Payload, payload, noEntry, noValue, noText, noBody, valueBody, versionedBody, textBody, bodyOf, Fields, fields, toReply, fromReply, message, isAwaited, rowsOf, replyTo, reply, errorReply}
+use Rattle.message.specs.Reply.{textLimit, Body, errors, errorCode, bodyAt, isAllowed, allowed, Payload, payload, noEntry, noValue, noText, noBody, valueBody, versionedBody, textBody, fieldsOf, formOf, Fields, fields, toReply, fromReply, message, isAwaited, rowsOf, replyTo, reply, errorReply}
 use Rattle.message.proofs.RequestLaws.{is-empty, is-zero, text-laws}
 
 -- what a reply carries
-same-payload : (p : Payload) {e : ℕ} {v t : List ℕ} → e ≡ p .entry → v ≡ p .value → t ≡ p .text → payload e v t ≡ p
+same-payload : (p : Payload) {e : ℕ} {v t : List ℕ} → e ≡ p .entryVersion → v ≡ p .value → t ≡ p .text → payload e v t ≡ p
 same-payload p q r s = rw (q, r, s)
 
 noBody-laws : Laws noBody
@@ -41,7 +44,7 @@ valueBody-laws lim =
 versionedBody-laws : Laws versionedBody
 unfolding versionedBody
 versionedBody-laws =
-    type-laws noText (λ p. payload (p .0) (p .1) []) (λ p. (p .entry, p .value)) (seq entryVersion λ _. limited valueLimit)
+    type-laws noText (λ p. payload (p .0) (p .1) []) (λ p. (p .entryVersion, p .value)) (seq entryVersion λ _. limited valueLimit)
     (seq-laws _ _ (big-laws 8) λ _. limited-laws valueLimit) (λ p t. same-payload p refl refl (is-empty _ t)) (λ s v. (refl, refl))
 
 textBody-laws : Laws textBody
@@ -50,16 +53,12 @@ textBody-laws =
     type-laws (λ p. noEntry p && noValue p) (λ t. payload 0 [] t) (λ p. p .text) (limitedText textLimit) (text-laws textLimit)
     (λ p t. let x = both (noEntry p) (noValue p) t in same-payload p (is-zero _ (x .0)) (is-empty _ (x .1)) refl) (λ s v. (refl, refl))
 
-pub bodyOf-laws : (flag : Bool) (b : Body) → Laws (bodyOf flag b)
-unfolding bodyOf
-bodyOf-laws flag nothing = noBody-laws
-bodyOf-laws true old = valueBody-laws valueLimit
-bodyOf-laws false old = noBody-laws
-bodyOf-laws true oldNone = valueBody-laws 0
-bodyOf-laws false oldNone = noBody-laws
-bodyOf-laws flag value = valueBody-laws valueLimit
-bodyOf-laws flag versioned = versionedBody-laws
-bodyOf-laws flag text = textBody-laws
+pub fieldsOf-laws : (f : Form) → Laws (fieldsOf f)
+unfolding fieldsOf
+fieldsOf-laws form.Nothing = noBody-laws
+fieldsOf-laws (form.Value lim) = valueBody-laws lim
+fieldsOf-laws form.Versioned = versionedBody-laws
+fieldsOf-laws form.Text = textBody-laws
 
 -- a message, whatever operations may come and whatever their rows are
 module _ (comes : ℕ → Bool) (rows : ℕ → List (ℕ × Body)) (flag : Bool) where
@@ -70,7 +69,7 @@ module _ (comes : ℕ → Bool) (rows : ℕ → List (ℕ × Body)) (flag : Bool
       seq-laws _ _ vLong-laws λ _.
       seq-laws _ _ (guard-laws comes 4 byte byte-laws) λ op.
       seq-laws _ _ (guard-laws (λ s. isAllowed (bodyAt s (rows op))) 8 byte byte-laws) λ status.
-      seq-laws _ _ (guard-laws (λ m. eqb m 0) 8 byte byte-laws) λ _. bodyOf-laws flag (allowed (bodyAt status (rows op)))
+      seq-laws _ _ (guard-laws (λ m. eqb m 0) 8 byte byte-laws) λ _. fieldsOf-laws (formOf flag (allowed (bodyAt status (rows op))))
 
   -- the magic and the marker of what is read
   fields-back : (p : ℕ × Fields) → Valid (fields comes rows flag) p → fromReply (toReply p) ≡ p

@@ -7,13 +7,13 @@ use lib.Dec.{eqb}
 use Rattle.wire.specs.Codec.{Valid, byte, guard, all}
 use Rattle.wire.specs.Number.{vLong}
 use Rattle.wire.proofs.Laws.{seq-valid, seq-good, type-valid, type-good}
-use Rattle.message.specs.Reply.{Body, bodyAt, isAllowed, allowed, Reply, payload, bodyOf, fields, toReply, fromReply, message}
+use Rattle.message.specs.Reply.{Body, bodyAt, isAllowed, allowed, Reply, fieldsOf, formOf, fields, toReply, fromReply, message}
 
 pub record Parts (comes : ℕ → Bool) (rows : ℕ → List (ℕ × Body)) (flag : Bool) (r : Reply) : Type 0 where
   pub id : Valid vLong (r .id)
   pub op : Valid (guard comes 4 byte) (r .op)
   pub status : Valid (guard (λ s. isAllowed (bodyAt s (rows (r .op)))) 8 byte) (r .status)
-  pub body : Valid (bodyOf flag (allowed (bodyAt (r .status) (rows (r .op))))) (payload (r .entry) (r .value) (r .text))
+  pub body : Valid (fieldsOf (formOf flag (allowed (bodyAt (r .status) (rows (r .op)))))) (r .payload)
 
 magic-good : Valid (guard (λ m. eqb m 0xa1) 1 byte) 0xa1
 unfolding guard byte

@@ -10,15 +10,16 @@ use lib.Dec.{eqb, lit≤}
 use Rattle.wire.specs.Codec.{Valid, refuse}
 use Rattle.wire.proofs.Laws.{never, guard-valid}
 use Rattle.message.specs.declared.Operation.{Operation}
+use Rattle.message.specs.declared.Asked.{Asked}
 use Rattle.message.specs.Operation.{findCode}
 use Rattle.message.specs.Request.{valueLimit}
-use Rattle.message.specs.Reply.{textLimit, Asked, Body, nothing, old, oldNone, value, versioned, text, errors, errorCode, bodyAt, isAllowed, allowed, Reply, noBody, valueBody, versionedBody, textBody, bodyOf, fields, message, isAwaited, rowsOf, replyTo, reply, errorReply}
+use Rattle.message.specs.Reply.{textLimit, Body, nothing, old, oldNone, value, versioned, text, errors, errorCode, bodyAt, isAllowed, allowed, Reply, noBody, valueBody, versionedBody, textBody, fieldsOf, formOf, fields, message, isAwaited, rowsOf, replyTo, reply, errorReply}
 use Rattle.message.proofs.RequestLaws.{pick}
 use Rattle.message.proofs.Most.{Most, most-less, seq-most, guard-most, type-most, empty-most, byte-most, big-most, vLong-most, limited-most, text-most}
 
 -- header and body
 module _ (comes : ℕ → Bool) (rows : ℕ → List (ℕ × Body)) (flag : Bool) (n : ℕ)
-    (body : (op status : ℕ) → isAllowed (bodyAt status (rows op)) ≡ true → Most (bodyOf flag (allowed (bodyAt status (rows op)))) n) where
+    (body : (op status : ℕ) → isAllowed (bodyAt status (rows op)) ≡ true → Most (fieldsOf (formOf flag (allowed (bodyAt status (rows op))))) n) where
   fields-most : Most (fields comes rows flag) (1 + (9 + (1 + (1 + (1 + n)))))
   unfolding fields
   fields-most =
@@ -44,8 +45,8 @@ textBody-most : Most textBody 65
 unfolding textBody
 textBody-most = type-most _ _ _ (text-most textLimit 0 (lit≤ tt))
 
-body-most : (flag : Bool) (b : Body) → Most (bodyOf flag b) 266
-unfolding bodyOf valueBody versionedBody
+body-most : (flag : Bool) (b : Body) → Most (fieldsOf (formOf flag b)) 266
+unfolding fieldsOf valueBody versionedBody
 body-most flag nothing = most-less (lit≤ tt) noBody-most
 body-most true old = most-less (lit≤ tt) valueBody-most
 body-most false old = most-less (lit≤ tt) noBody-most
@@ -61,7 +62,7 @@ refuse-most = record { most = λ r v. never (cc) }
 
 reply-to-most : (o : Option Operation) (flag : Bool) → Most (replyTo o flag) 279
 reply-to-most none flag = refuse-most
-reply-to-most (some o) flag = message-most (isAwaited o) (rowsOf o) flag 266 (λ op s e. body-most flag _)
+reply-to-most (some o) flag = message-most (isAwaited o) (rowsOf o) flag 266 (λ op s e. body-most flag (allowed (bodyAt s (rowsOf o op))))
 
 -- "No reply is longer than 279 bytes."
 pub reply-most : (a : Asked) (r : Reply) → Valid (reply a) r → length (reply a .enc r) ≤ 279
@@ -84,5 +85,5 @@ pub error-text : (s : ℕ) → isAllowed (bodyAt s errors) ≡ true → allowed 
 error-text s = told s .is
 
 pub error-most : (r : Reply) → Valid errorReply r → length (errorReply .enc r) ≤ 78
-unfolding errorReply bodyOf
+unfolding errorReply fieldsOf
 error-most = message-most (λ op. eqb op errorCode) (λ op. errors) false 65 (λ op s e. rw (error-text s e) textBody-most) .most

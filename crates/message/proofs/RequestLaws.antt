@@ -18,7 +18,7 @@ use Rattle.message.specs.declared.Operation.{Operation}
 use Rattle.message.specs.declared.Operation.the-variants.{Put, Get, PutIfAbsent, Replace, ReplaceIfUnmodified, Remove, RemoveIfUnmodified, ContainsKey, GetWithVersion, Clear, Ping}
 use Rattle.message.specs.Operation.{codeOf, findCode, isKnown, known}
 use Rattle.message.specs.Edition.{Edition}
-use Rattle.message.specs.Request.{nameLimit, keyLimit, valueLimit, Shape, keyed, writes, writesIf, keyedIf, bare, shapeOf, Args, args, isEmpty, noTimes, noEntry, noValue, argsOf, opFits, operation, transaction, Fields, isVersion, ed, fields, toRequest, fromRequest, request}
+use Rattle.message.specs.Request.{nameLimit, keyLimit, valueLimit, Shape, keyed, writes, writesIf, keyedIf, bare, shapeOf, Args, args, isEmpty, noTimes, noEntry, noValue, argsOf, opFits, operation, transaction, Fields, isVersion, editionAt, fields, toRequest, fromRequest, request}
 
 -- an operation and its code
 pub code-found : (o : Operation) → findCode (codeOf o) ≡ some o
@@ -83,10 +83,10 @@ is-zero n e = sym (eqb-true n 0 e)
 
 -- arguments of which no times and no value are sent
 module _ (a : Args) where
-  same-args : {k v : List ℕ} {l m e : ℕ} → k ≡ a .key → l ≡ a .lifespan → m ≡ a .maxIdle → e ≡ a .entry → v ≡ a .value → args k l m e v ≡ a
+  same-args : {k v : List ℕ} {l m e : ℕ} → k ≡ a .key → l ≡ a .lifespan → m ≡ a .maxIdle → e ≡ a .entryVersion → v ≡ a .value → args k l m e v ≡ a
   same-args p q r s t = rw (p, q, r, s, t)
 
-  timeless : {k : List ℕ} {e : ℕ} → k ≡ a .key → noTimes a ≡ true → e ≡ a .entry → noValue a ≡ true → args k 0 0 e [] ≡ a
+  timeless : {k : List ℕ} {e : ℕ} → k ≡ a .key → noTimes a ≡ true → e ≡ a .entryVersion → noValue a ≡ true → args k 0 0 e [] ≡ a
   timeless p t q e =
       let x = both (eqb (a .lifespan) 0) (eqb (a .maxIdle) 0) t in
       same-args p (is-zero _ (x .0)) (is-zero _ (x .1)) q (is-empty _ e)
@@ -97,7 +97,7 @@ module _ (a : Args) where
       let y = both (noEntry a) (noValue a) (x .1) in
       timeless p (x .0) (is-zero _ (y .0)) (y .1)
 
-  key-entry : (noTimes a && noValue a) ≡ true → args (a .key) 0 0 (a .entry) [] ≡ a
+  key-entry : (noTimes a && noValue a) ≡ true → args (a .key) 0 0 (a .entryVersion) [] ≡ a
   key-entry t = let x = both (noTimes a) (noValue a) t in timeless refl (x .0) refl (x .1)
 
   none : (isEmpty (a .key) && (noTimes a && (noEntry a && noValue a))) ≡ true → args [] 0 0 0 [] ≡ a
@@ -107,7 +107,7 @@ module _ (a : Args) where
   unfolding argsOf
   keyed-is v = key-only refl (type-valid _ _ _ _ a v .0)
 
-  pub keyedIf-is : Valid (argsOf keyedIf) a → args (a .key) 0 0 (a .entry) [] ≡ a
+  pub keyedIf-is : Valid (argsOf keyedIf) a → args (a .key) 0 0 (a .entryVersion) [] ≡ a
   unfolding argsOf
   keyedIf-is v = key-entry (type-valid _ _ _ _ a v .0)
 
@@ -127,12 +127,12 @@ args-laws writes =
     (λ a t. same-args a refl refl refl (is-zero _ t) refl) (λ p v. (refl, refl))
 args-laws writesIf =
     type-laws all (λ p. args (p .0) (p .1 .0) (p .1 .1 .0) (p .1 .1 .1 .0) (p .1 .1 .1 .1))
-    (λ a. (a .key, (a .lifespan, (a .maxIdle, (a .entry, a .value)))))
+    (λ a. (a .key, (a .lifespan, (a .maxIdle, (a .entryVersion, a .value)))))
     (seq (limited keyLimit) λ _. seq vInt λ _. seq vInt λ _. seq entryVersion λ _. limited valueLimit)
     (seq-laws _ _ (limited-laws keyLimit) λ _. seq-laws _ _ vInt-laws λ _. seq-laws _ _ vInt-laws λ _. seq-laws _ _ (big-laws 8) λ _. limited-laws valueLimit)
     (λ a t. refl) (λ p v. (refl, refl))
 args-laws keyedIf =
-    type-laws (λ a. noTimes a && noValue a) (λ p. args (p .0) 0 0 (p .1) []) (λ a. (a .key, a .entry)) (seq (limited keyLimit) λ _. entryVersion)
+    type-laws (λ a. noTimes a && noValue a) (λ p. args (p .0) 0 0 (p .1) []) (λ a. (a .key, a .entryVersion)) (seq (limited keyLimit) λ _. entryVersion)
     (seq-laws _ _ (limited-laws keyLimit) λ _. big-laws 8)
     (λ a t. key-entry a t) (λ p v. (refl, refl))
 args-laws bare =
@@ -145,12 +145,12 @@ fields-laws =
     seq-laws _ _ (guard-laws (λ m. eqb m 0xa0) 1 byte byte-laws) λ _.
     seq-laws _ _ vLong-laws λ _.
     seq-laws _ _ (guard-laws isVersion 3 byte byte-laws) λ version.
-    seq-laws _ _ (operation-laws (ed version)) λ op.
+    seq-laws _ _ (operation-laws (editionAt version)) λ op.
     seq-laws _ _ (text-laws nameLimit) λ _.
-    seq-laws _ _ (guard-laws (λ f. leb f (ed version .flags)) 8 vInt vInt-laws) λ _.
+    seq-laws _ _ (guard-laws (λ f. leb f (editionAt version .flags)) 8 vInt vInt-laws) λ _.
     seq-laws _ _ (guard-laws (λ i. leb 1 i && leb i 3) 8 byte byte-laws) λ _.
     seq-laws _ _ vInt-laws λ _.
-    seq-laws _ _ (transaction-laws (ed version .transaction)) λ _. args-laws (shapeOf op)
+    seq-laws _ _ (transaction-laws (editionAt version .transaction)) λ _. args-laws (shapeOf op)
 
 fields-magic : (p : ℕ × Fields) → Valid fields p → 0xa0 ≡ p .0
 unfolding fields

@@ -6,14 +6,14 @@ use Rattle.wire.specs.Codec.{Valid, empty, byte, guard, as-type, all}
 use Rattle.wire.specs.Number.{vInt, vLong}
 use Rattle.wire.proofs.Laws.{seq-valid, seq-good, type-valid, type-good}
 use Rattle.field.specs.Answer.{limitedText}
-use Rattle.message.specs.Request.{nameLimit, shapeOf, argsOf, operation, transaction, isVersion, ed, fields, toRequest, fromRequest, Request, request}
+use Rattle.message.specs.Request.{nameLimit, shapeOf, argsOf, operation, transaction, isVersion, editionAt, fields, toRequest, fromRequest, Request, request}
 
 pub record Parts (r : Request) : Type 0 where
   pub id : Valid vLong (r .id)
   pub version : Valid (guard isVersion 3 byte) (r .version)
-  pub op : Valid (operation (ed (r .version))) (r .op)
+  pub op : Valid (operation (editionAt (r .version))) (r .op)
   pub name : Valid (limitedText nameLimit) (r .name)
-  pub flags : Valid (guard (λ f. leb f (ed (r .version) .flags)) 8 vInt) (r .flags)
+  pub flags : Valid (guard (λ f. leb f (editionAt (r .version) .flags)) 8 vInt) (r .flags)
   pub intelligence : Valid (guard (λ i. leb 1 i && leb i 3) 8 byte) (r .intelligence)
   pub topology : Valid vInt (r .topology)
   pub args : Valid (argsOf (shapeOf (r .op))) (r .args)
@@ -48,4 +48,4 @@ module _ (r : Request) where
       type-good all toRequest fromRequest fields refl
       (seq-good _ _ magic-good (seq-good _ _ (p .id) (seq-good _ _ (p .version) (seq-good _ _ (p .op) (seq-good _ _ (p .name)
       (seq-good _ _ (p .flags) (seq-good _ _ (p .intelligence) (seq-good _ _ (p .topology)
-      (seq-good _ _ (transaction-good (ed (r .version) .transaction)) (p .args))))))))))
+      (seq-good _ _ (transaction-good (editionAt (r .version) .transaction)) (p .args))))))))))

@@ -17,7 +17,7 @@ use Rattle.wire.proofs.FieldLaws.{limited-valid}
 use Rattle.text.specs.Text.{isText}
 use Rattle.field.specs.Answer.{limitedText}
 use Rattle.message.specs.Edition.{Edition, editionOf, served}
-use Rattle.message.specs.Request.{nameLimit, keyLimit, valueLimit, Shape, keyed, writes, writesIf, keyedIf, bare, shapeOf, Args, args, argsOf, operation, transaction, ed, fields, Request, request}
+use Rattle.message.specs.Request.{nameLimit, keyLimit, valueLimit, Shape, keyed, writes, writesIf, keyedIf, bare, shapeOf, Args, args, argsOf, operation, transaction, editionAt, fields, Request, request}
 use Rattle.message.proofs.RequestLaws.{pick, keyed-is, keyedIf-is, bare-is}
 use Rattle.message.proofs.RequestParts.{parts}
 use Rattle.message.proofs.Most.{Most, most-less, seq-most, guard-most, type-most, empty-most, byte-most, big-most, vInt-most, vLong-most, few-most, limited-most, text-most}
@@ -63,9 +63,9 @@ unfolding argsOf
 args-small keyed a v = subst Small (keyed-is a v) (blank (a .key) 0 (limited-valid keyLimit (a .key) (type-valid _ _ _ _ a v .1)))
 args-small writes a v = timed (limited valueLimit) a (a .value) (type-valid _ _ _ _ a v .1) (λ w. w)
 args-small writesIf a v =
-    timed (seq entryVersion λ _. limited valueLimit) a (a .entry, a .value) (type-valid _ _ _ _ a v .1) (λ w. seq-valid _ _ _ w .1)
+    timed (seq entryVersion λ _. limited valueLimit) a (a .entryVersion, a .value) (type-valid _ _ _ _ a v .1) (λ w. seq-valid _ _ _ w .1)
 args-small keyedIf a v =
-    subst Small (keyedIf-is a v) (blank (a .key) (a .entry) (limited-valid keyLimit (a .key) (seq-valid _ _ _ (type-valid _ _ _ _ a v .1) .0)))
+    subst Small (keyedIf-is a v) (blank (a .key) (a .entryVersion) (limited-valid keyLimit (a .key) (seq-valid _ _ _ (type-valid _ _ _ _ a v .1) .0)))
 args-small bare a v = subst Small (bare-is a v) (blank [] 0 (nil-fits keyLimit))
 
 -- no edition has flags above 7
@@ -77,9 +77,9 @@ or t e h g = pick Seven t (λ p. record { is = h }) g
 
 sevens : (v : ℕ) → Seven (editionOf v)
 unfolding editionOf
-sevens v = or (eqb v 10) (ed 10) (lit≤ tt) (or (eqb v 11) (ed 11) (lit≤ tt) (or (eqb v 12) (ed 12) (lit≤ tt) (record { is = zero-le })))
+sevens v = or (eqb v 10) (editionAt 10) (lit≤ tt) (or (eqb v 11) (editionAt 11) (lit≤ tt) (or (eqb v 12) (editionAt 12) (lit≤ tt) (record { is = zero-le })))
 
-flags-most : (v : ℕ) → ed v .flags ≤ 7
+flags-most : (v : ℕ) → editionAt v .flags ≤ 7
 flags-most v = sevens v .is
 
 pub record RequestSmall (r : Request) : Type 0 where
@@ -108,7 +108,7 @@ request-small r v =
       id = id-small (r .id) (p .id);
       name = n .0;
       nameBytes = n .1;
-      flags = omega (arith, flags-most (r .version), leb-true (r .flags) (ed (r .version) .flags) (guard-valid _ 8 vInt (r .flags) (p .flags) .0));
+      flags = omega (arith, flags-most (r .version), leb-true (r .flags) (editionAt (r .version) .flags) (guard-valid _ 8 vInt (r .flags) (p .flags) .0));
       intelligence = leb-true (r .intelligence) 3 (both (leb 1 (r .intelligence)) (leb (r .intelligence) 3) i .1);
       topology = vInt-small (r .topology) (p .topology);
       args = args-small (shapeOf (r .op)) (r .args) (p .args);
@@ -146,12 +146,12 @@ fields-most =
     seq-most (guard-most _ _ byte-most) λ _ _.
     seq-most vLong-most λ _ _.
     seq-most (guard-most _ _ byte-most) λ version _.
-    seq-most (operation-most (ed version)) λ op _.
+    seq-most (operation-most (editionAt version)) λ op _.
     seq-most (text-most nameLimit 0 (lit≤ tt)) λ _ _.
-    seq-most (few-most _ _ 0 λ f e. omega (arith, flags-most version, leb-true f (ed version .flags) e)) λ _ _.
+    seq-most (few-most _ _ 0 λ f e. omega (arith, flags-most version, leb-true f (editionAt version .flags) e)) λ _ _.
     seq-most (guard-most _ _ byte-most) λ _ _.
     seq-most vInt-most λ _ _.
-    seq-most (transaction-most (ed version .transaction)) λ _ _. args-most (shapeOf op)
+    seq-most (transaction-most (editionAt version .transaction)) λ _ _. args-most (shapeOf op)
 
 pub request-most : (r : Request) → Valid request r → length (request .enc r) ≤ 394
 unfolding request

@@ -3,7 +3,7 @@ use mathlib.Core.List.{List, [], _∷_}
 use mathlib.Core.Bool.{cond}
 use Prim.Native.Nat.{ℕ}
 use lib.Dec.{eqb}
-use Rattle.message.specs.Reply.{Reply, errorCode}
+use Rattle.message.specs.Reply.{Reply, payload, errorCode}
 
 pub record Row : Type 0 where
   pub number : ℕ
@@ -45,4 +45,4 @@ rowOf k [] = row k 0 []
 rowOf k (r ∷ rs) = cond (eqb k (r .number)) r (rowOf k rs)
 
 unfoldable pub refusal : ℕ → ℕ → Reply
-refusal k id = record { id = id; op = errorCode; status = rowOf k rows .status; entry = 0; value = []; text = rowOf k rows .text }
+refusal k id = record { id = id; op = errorCode; status = rowOf k rows .status; payload = payload 0 [] (rowOf k rows .text) }

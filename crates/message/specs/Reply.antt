@@ -10,7 +10,10 @@ use Rattle.wire.specs.Field.{entryVersion, limited}
 use Rattle.field.specs.Answer.{partOf, limitedText}
 use Rattle.message.specs.declared.Operation.{Operation}
 use Rattle.message.specs.declared.Operation.the-variants.{Put, Get, PutIfAbsent, Replace, ReplaceIfUnmodified, Remove, RemoveIfUnmodified, ContainsKey, GetWithVersion, Clear, Ping}
-use Rattle.message.specs.declared.Answer as code
+use Rattle.message.specs.declared.Form.{Form}
+use Rattle.message.specs.declared.Form.the-variants as form
+use Rattle.message.specs.declared.Asked.{Asked}
+use Rattle.message.specs.declared.ReplyHead.{ReplyHead}
 use Rattle.message.specs.declared.Reply as code-reply
 use Rattle.message.specs.Operation.{codeOf, findCode}
 use Rattle.message.specs.Request.{valueLimit, isEmpty}
@@ -19,9 +22,8 @@ abbrev pub textLimit : ℕ
 textLimit = 64
 
 -- what was asked: the operation's code, and whether flag 0x0001 was set
-pub record Asked : Type 0 where
-  pub op : ℕ
-  pub flag : Bool
+abbrev pub asked : ℕ → Bool → Asked
+asked op flag = record { op = op; flag = flag }
 
 -- what a reply carries behind its marker
 pub data Body : Type 0 where
@@ -73,25 +75,24 @@ abbrev pub allowed : Option Body → Body
 allowed none = nothing
 allowed (some b) = b
 
--- a reply; what is not sent is 0 or empty
+-- what a reply carries behind its header; what is not sent is 0 or empty
+pub record Payload : Type 0 where
+  pub entryVersion : ℕ
+  pub value : List ℕ
+  pub text : List ℕ
+
+-- a reply: a header and a payload
 pub record Reply : Type 0 where
   pub id : ℕ
   pub op : ℕ
   pub status : ℕ
-  pub entry : ℕ
-  pub value : List ℕ
-  pub text : List ℕ
-
-pub record Payload : Type 0 where
-  pub entry : ℕ
-  pub value : List ℕ
-  pub text : List ℕ
+  pub payload : Payload
 
 abbrev pub payload : ℕ → List ℕ → List ℕ → Payload
-payload e v t = record { entry = e; value = v; text = t }
+payload e v t = record { entryVersion = e; value = v; text = t }
 
 abbrev pub noEntry : Payload → Bool
-noEntry p = eqb (p .entry) 0
+noEntry p = eqb (p .entryVersion) 0
 
 abbrev pub noValue : Payload → Bool
 noValue p = isEmpty (p .value)
@@ -107,20 +108,29 @@ valueBody lim = as-type (λ p. noEntry p && noText p) (λ v. payload 0 v []) (λ
 
 unfoldable pub versionedBody : Codec Payload
 versionedBody =
-    as-type noText (λ p. payload (p .0) (p .1) []) (λ p. (p .entry, p .value)) (seq entryVersion λ _. limited valueLimit)
+    as-type noText (λ p. payload (p .0) (p .1) []) (λ p. (p .entryVersion, p .value)) (seq entryVersion λ _. limited valueLimit)
 
 unfoldable pub textBody : Codec Payload
 textBody = as-type (λ p. noEntry p && noValue p) (λ t. payload 0 [] t) (λ p. p .text) (limitedText textLimit)
 
-unfoldable pub bodyOf : Bool → Body → Codec Payload
-bodyOf flag nothing = noBody
-bodyOf true old = valueBody valueLimit
-bodyOf false old = noBody
-bodyOf true oldNone = valueBody 0
-bodyOf false oldNone = noBody
-bodyOf flag value = valueBody valueLimit
-bodyOf flag versioned = versionedBody
-bodyOf flag text = textBody
+unfoldable pub fieldsOf : Form → Codec Payload
+fieldsOf form.Nothing = noBody
+fieldsOf (form.Value lim) = valueBody lim
+fieldsOf form.Versioned = versionedBody
+fieldsOf form.Text = textBody
+
+-- "Old value is sent only if flag 0x0001 was set"
+abbrev pub oldForm : Bool → ℕ → Form
+oldForm flag lim = cond flag (form.Value lim) form.Nothing
+
+-- which fields a body has
+abbrev pub formOf : Bool → Body → Form
+formOf flag nothing = form.Nothing
+formOf flag old = oldForm flag valueLimit
+formOf flag oldNone = oldForm flag 0
+formOf flag value = form.Value valueLimit
+formOf flag versioned = form.Versioned
+formOf flag text = form.Text
 
 abbrev pub Fields : Type 0
 Fields = ℕ × (ℕ × (ℕ × (ℕ × Payload)))
@@ -132,16 +142,13 @@ fields comes rows flag =
     seq vLong λ _.
     seq (guard comes 4 byte) λ op.
     seq (guard (λ s. isAllowed (bodyAt s (rows op))) 8 byte) λ status.
-    seq (guard (λ m. eqb m 0) 8 byte) λ _. bodyOf flag (allowed (bodyAt status (rows op)))
+    seq (guard (λ m. eqb m 0) 8 byte) λ _. fieldsOf (formOf flag (allowed (bodyAt status (rows op))))
 
 abbrev pub toReply : ℕ × Fields → Reply
-toReply p =
-    let f = p .1 in
-    let b = f .1 .1 .1 .1 in
-    record { id = f .0; op = f .1 .0; status = f .1 .1 .0; entry = b .entry; value = b .value; text = b .text }
+toReply p = let f = p .1 in record { id = f .0; op = f .1 .0; status = f .1 .1 .0; payload = f .1 .1 .1 .1 }
 
 abbrev pub fromReply : Reply → ℕ × Fields
-fromReply r = (0xa1, (r .id, (r .op, (r .status, (0, payload (r .entry) (r .value) (r .text))))))
+fromReply r = (0xa1, (r .id, (r .op, (r .status, (0, r .payload)))))
 
 unfoldable pub message : (ℕ → Bool) → (ℕ → List (ℕ × Body)) → Bool → Codec Reply
 message comes rows flag = as-type all toReply fromReply (fields comes rows flag)
@@ -165,9 +172,9 @@ reply a = replyTo (findCode (a .op)) (a .flag)
 unfoldable pub errorReply : Codec Reply
 errorReply = message (λ op. eqb op errorCode) (λ op. errors) false
 
--- the reply of an answer, a value and a text
-abbrev pub replyOf : code.Answer → List ℕ → List ℕ → Reply
-replyOf a v t = record { id = a .id; op = a .op; status = a .status; entry = a .entry .0; value = v; text = t }
+-- the reply of a head, a value and a text
+abbrev pub replyOf : ReplyHead → List ℕ → List ℕ → Reply
+replyOf a v t = record { id = a .id; op = a .op; status = a .status; payload = payload (a .entry .0) v t }
 
 abbrev pub replyIn : List ℕ → code-reply.Reply → Reply
-replyIn s r = replyOf (r .answer) (partOf s (r .value)) (partOf s (r .text))
+replyIn s r = replyOf (r .head) (partOf s (r .value)) (partOf s (r .text))

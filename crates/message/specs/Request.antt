@@ -46,7 +46,7 @@ pub record Args : Type 0 where
   pub key : List ℕ
   pub lifespan : ℕ
   pub maxIdle : ℕ
-  pub entry : ℕ
+  pub entryVersion : ℕ
   pub value : List ℕ
 
 pub record Request : Type 0 where
@@ -60,7 +60,7 @@ pub record Request : Type 0 where
   pub args : Args
 
 abbrev pub args : List ℕ → ℕ → ℕ → ℕ → List ℕ → Args
-args k l m e v = record { key = k; lifespan = l; maxIdle = m; entry = e; value = v }
+args k l m e v = record { key = k; lifespan = l; maxIdle = m; entryVersion = e; value = v }
 
 abbrev pub isEmpty : List ℕ → Bool
 isEmpty [] = true
@@ -71,7 +71,7 @@ abbrev pub noTimes : Args → Bool
 noTimes a = eqb (a .lifespan) 0 && eqb (a .maxIdle) 0
 
 abbrev pub noEntry : Args → Bool
-noEntry a = eqb (a .entry) 0
+noEntry a = eqb (a .entryVersion) 0
 
 abbrev pub noValue : Args → Bool
 noValue a = isEmpty (a .value)
@@ -84,10 +84,10 @@ argsOf writes =
     (seq (limited keyLimit) λ _. seq vInt λ _. seq vInt λ _. limited valueLimit)
 argsOf writesIf =
     as-type all (λ p. args (p .0) (p .1 .0) (p .1 .1 .0) (p .1 .1 .1 .0) (p .1 .1 .1 .1))
-    (λ a. (a .key, (a .lifespan, (a .maxIdle, (a .entry, a .value)))))
+    (λ a. (a .key, (a .lifespan, (a .maxIdle, (a .entryVersion, a .value)))))
     (seq (limited keyLimit) λ _. seq vInt λ _. seq vInt λ _. seq entryVersion λ _. limited valueLimit)
 argsOf keyedIf =
-    as-type (λ a. noTimes a && noValue a) (λ p. args (p .0) 0 0 (p .1) []) (λ a. (a .key, a .entry))
+    as-type (λ a. noTimes a && noValue a) (λ p. args (p .0) 0 0 (p .1) []) (λ a. (a .key, a .entryVersion))
     (seq (limited keyLimit) λ _. entryVersion)
 argsOf bare = as-type (λ a. isEmpty (a .key) && (noTimes a && (noEntry a && noValue a))) (λ u. args [] 0 0 0 []) (λ a. tt) empty
 
@@ -110,20 +110,20 @@ Fields = ℕ × (ℕ × (Operation × (List ℕ × (ℕ × (ℕ × (ℕ × (Unit
 abbrev pub isVersion : ℕ → Bool
 isVersion v = isServed (editionOf v)
 
-abbrev pub ed : ℕ → Edition
-ed v = served (editionOf v)
+abbrev pub editionAt : ℕ → Edition
+editionAt v = served (editionOf v)
 
 unfoldable pub fields : Codec (ℕ × Fields)
 fields =
     seq (guard (λ m. eqb m 0xa0) 1 byte) λ _.
     seq vLong λ _.
     seq (guard isVersion 3 byte) λ version.
-    seq (operation (ed version)) λ op.
+    seq (operation (editionAt version)) λ op.
     seq (limitedText nameLimit) λ _.
-    seq (guard (λ f. leb f (ed version .flags)) 8 vInt) λ _.
+    seq (guard (λ f. leb f (editionAt version .flags)) 8 vInt) λ _.
     seq (guard (λ i. leb 1 i && leb i 3) 8 byte) λ _.
     seq vInt λ _.
-    seq (transaction (ed version .transaction)) λ _. argsOf (shapeOf op)
+    seq (transaction (editionAt version .transaction)) λ _. argsOf (shapeOf op)
 
 abbrev pub toRequest : ℕ × Fields → Request
 toRequest p =

@@ -42,8 +42,14 @@ pub struct Request {
     pub value: Span,
 }
 
+// What was asked: the operation's code, and whether flag 0x0001 was set.
+pub struct Asked {
+    pub op: u8,
+    pub flag: bool,
+}
+
 // The numbers of a reply. A number that the operation and status do not send is 0.
-pub struct Answer {
+pub struct ReplyHead {
     pub id: u64,
     pub op: u8,
     pub status: u8,
@@ -52,9 +58,17 @@ pub struct Answer {
 
 // A reply that was read: its numbers, and where in the bytes its value and its text stand.
 pub struct Reply {
-    pub answer: Answer,
+    pub head: ReplyHead,
     pub value: Span,
     pub text: Span,
+}
+
+// The fields of a reply's body: none; bytes of at most a length; an entry version and a value; a text.
+pub enum Form {
+    Nothing,
+    Value(u64),
+    Versioned,
+    Text,
 }
 
 // The largest sizes of a request's name, key and value.

@@ -12,44 +12,44 @@ use Rattle.wire.proofs.At.{at-seq, at-guard, at-type, at-cond}
 use Rattle.field.specs.Answer.{limitedText, between, nowhere, spanTo}
 use Rattle.field.proofs.Parts.{at-between, only}
 use Rattle.message.specs.Request.{valueLimit}
-use Rattle.message.specs.Reply.{Payload, textLimit, noBody, valueBody, versionedBody, textBody, isAwaited, rowsOf, bodyAt, isAllowed, allowed, bodyOf, fields, message}
+use Rattle.message.specs.Reply.{Payload, textLimit, noBody, valueBody, versionedBody, textBody, isAwaited, rowsOf, bodyAt, isAllowed, allowed, fieldsOf, formOf, fields, message}
 use Rattle.message.specs.declared.Operation.{Operation}
-use Rattle.message.specs.declared.Answer.{Answer}
+use Rattle.message.specs.declared.ReplyHead.{ReplyHead}
 use Rattle.message.specs.declared.Reply as code
-use Rattle.reply.specs.Answer.{replyAt, replyWith, answerWith, withParts}
+use Rattle.reply.specs.Answer.{replyAt, replyWith, headWith, withParts}
 
 -- an answer whose entry version is 0
-same-answer : (a : Answer) → a .entry .0 ≡ 0 → answerWith a 0 ≡ a
-same-answer a z = ap (answerWith a) (sym z)
+same-head : (a : ReplyHead) → a .entry .0 ≡ 0 → headWith a 0 ≡ a
+same-head a z = ap (headWith a) (sym z)
 
 -- the bodies, behind a header whose entry version is not read yet
-module _ (s : List ℕ) (at : ℕ) (a : Answer) where
+module _ (s : List ℕ) (at : ℕ) (a : ReplyHead) where
   abbrev With : Codec Payload → Read code.Reply
   With c = mapped replyAt (after (readAt c s at) (λ p j. whole (replyWith a p) j))
 
   pub with-version : With versionedBody
-      ≡ after (readAt entryVersion s at) (λ e j. after (mapped spanTo (readAt (limited valueLimit) s j)) (λ p l. whole (withParts (answerWith a e) p nowhere) l))
+      ≡ after (readAt entryVersion s at) (λ e j. after (mapped spanTo (readAt (limited valueLimit) s j)) (λ p l. whole (withParts (headWith a e) p nowhere) l))
   unfolding versionedBody mapped replyAt spanTo
   with-version = simp (at-type, at-seq, after-after)
 
   module _ (z : a .entry .0 ≡ 0) where
     pub with-none : With noBody ≡ whole (withParts a nowhere nowhere) at
     unfolding noBody readAt as-type empty mapped replyAt spanTo
-    with-none = rw (add-zero, same-answer a z)
+    with-none = rw (add-zero, same-head a z)
 
     pub with-value : (lim : ℕ) → With (valueBody lim) ≡ after (mapped spanTo (readAt (limited lim) s at)) (λ p j. whole (withParts a p nowhere) j)
     unfolding valueBody mapped replyAt spanTo
-    with-value lim = simp (at-type, after-after) (after-same (readAt (limited lim) s at) (λ v j. rw (same-answer a z)))
+    with-value lim = simp (at-type, after-after) (after-same (readAt (limited lim) s at) (λ v j. rw (same-head a z)))
 
     pub with-text : With textBody ≡ after (mapped spanTo (readAt (limitedText textLimit) s at)) (λ p j. whole (withParts a nowhere p) j)
     unfolding textBody mapped replyAt spanTo
-    with-text = simp (at-type, after-after) (after-same (readAt (limitedText textLimit) s at) (λ t j. rw (same-answer a z)))
+    with-text = simp (at-type, after-after) (after-same (readAt (limitedText textLimit) s at) (λ t j. rw (same-head a z)))
 
 module _ (o : Operation) (flag : Bool) (s : List ℕ) where
   unfoldable pub rest5 : (id op status : ℕ) → ℕ → Read code.Reply
   rest5 i o' t j =
-      mapped replyAt (after (readAt (bodyOf flag (allowed (bodyAt t (rowsOf o o')))) s j)
-      (λ p l. whole (record { id = i; op = o'; status = t; entry = p .entry; value = p .value; text = p .text }) l))
+      mapped replyAt (after (readAt (fieldsOf (formOf flag (allowed (bodyAt t (rowsOf o o'))))) s j)
+      (λ p l. whole (record { id = i; op = o'; status = t; payload = p }) l))
 
   unfoldable pub rest4 : (id op status : ℕ) → ℕ → Read code.Reply
   rest4 i o' t j =

@@ -2,7 +2,7 @@
 use mathlib.Core.Path.{_≡_, sym, subst, _∙_}
 use mathlib.Core.List.{List}
 use mathlib.Core.Option.{Option, none, some}
-use mathlib.Core.Bool.{Bool, true, false}
+use mathlib.Core.Bool.{Bool}
 use Prim.Native.Nat.{ℕ}
 use Rattle.wire.specs.Codec.{whole, after, mapped, refuse, readAt}
 use Rattle.wire.proofs.Laws.{never, mapped-back}
@@ -10,9 +10,12 @@ use Rattle.wire.proofs.At.{at-front, typed, halves}
 use Rattle.field.specs.Answer.{partOf, spanTo}
 use Rattle.field.proofs.Parts.{part-read, text-read, no-part}
 use Rattle.message.specs.declared.Operation.{Operation}
+use Rattle.message.specs.declared.Asked.{Asked}
+use Rattle.message.specs.declared.Form.{Form}
+use Rattle.message.specs.declared.Form.the-variants as form
 use Rattle.message.specs.Operation.{findCode}
 use Rattle.message.specs.Request.{valueLimit}
-use Rattle.message.specs.Reply.{textLimit, Asked, Body, nothing, old, oldNone, value, versioned, text, Reply, Payload, noBody, valueBody, versionedBody, textBody, bodyOf, fields, message, isAwaited, rowsOf, replyTo, reply, replyIn}
+use Rattle.message.specs.Reply.{textLimit, Reply, Payload, noBody, valueBody, versionedBody, textBody, fieldsOf, fields, message, isAwaited, rowsOf, replyTo, reply, replyIn}
 use Rattle.reply.specs.Answer.{asReply, replyAt}
 use Rattle.reply.specs.declared.ReplyRead.{ReplyRead}
 
@@ -45,16 +48,12 @@ module _ (s : List ℕ) where
         let x = typed _ _ _ _ s at p n e in
         subst (λ (q : Payload). Stand q n) (x .same) (record { value = no-part s n; text = text-read s at textLimit _ n (x .read) })
 
-    body-stands : (flag : Bool) (b : Body) → readAt (bodyOf flag b) s at ≡ whole p n → Stand p n
-    unfolding bodyOf
-    body-stands flag nothing e = none-stands e
-    body-stands true old e = value-stands valueLimit e
-    body-stands false old e = none-stands e
-    body-stands true oldNone e = value-stands 0 e
-    body-stands false oldNone e = none-stands e
-    body-stands flag value e = value-stands valueLimit e
-    body-stands flag versioned e = versioned-stands e
-    body-stands flag text e = text-stands e
+    body-stands : (f : Form) → readAt (fieldsOf f) s at ≡ whole p n → Stand p n
+    unfolding fieldsOf
+    body-stands form.Nothing e = none-stands e
+    body-stands (form.Value lim) e = value-stands lim e
+    body-stands form.Versioned e = versioned-stands e
+    body-stands form.Text e = text-stands e
 
   message-shown : (o : Operation) (flag : Bool) (m : Reply) (n : ℕ) → readAt (message (isAwaited o) (rowsOf o) flag) s 0 ≡ whole m n → replyIn s (replyAt m n) ≡ m
   unfolding message fields replyAt
@@ -65,7 +64,7 @@ module _ (s : List ℕ) where
       let c = halves _ _ s _ _ n (i .second) in
       let t = halves _ _ s _ _ n (c .second) in
       let k = halves _ _ s _ _ n (t .second) in
-      let b = body-stands (k .mid) _ n flag _ (k .second) in
+      let b = body-stands (k .mid) _ n _ (k .second) in
       subst (λ (q : Reply). replyIn s (replyAt q n) ≡ q) (x .same) (rw (b .value, b .text))
 
   shown : (o : Option Operation) (flag : Bool) (m : Reply) (n : ℕ) → replyTo o flag .dec s ≡ whole m n → replyIn s (replyAt m n) ≡ m

@@ -4,7 +4,7 @@ use Rattle.wire.specs.Codec.{Read, whole, more, refused}
 use Rattle.field.specs.Answer.{spanTo}
 use Rattle.field.specs.declared.Span.{Span}
 use Rattle.message.specs.Reply.{Reply, Payload}
-use Rattle.message.specs.declared.Answer.{Answer}
+use Rattle.message.specs.declared.ReplyHead.{ReplyHead}
 use Rattle.message.specs.declared.Reply as code
 use Rattle.reply.specs.declared.ReplyRead.{ReplyRead}
 use Rattle.reply.specs.declared.ReplyRead.the-variants as r
@@ -14,21 +14,21 @@ asReply (r.Whole x n) = whole x n
 asReply r.More = more
 asReply (r.Refused k) = refused k
 
-abbrev pub answerWith : Answer → (entry : ℕ) → Answer
-answerWith a e = record { id = a .id; op = a .op; status = a .status; entry = record { 0 = e } }
+abbrev pub headWith : ReplyHead → (entry : ℕ) → ReplyHead
+headWith a e = record { id = a .id; op = a .op; status = a .status; entry = record { 0 = e } }
 
 -- the answer of a reply of n bytes: a value or a text that is sent ends it
 unfoldable pub replyAt : Reply → ℕ → code.Reply
 replyAt m n =
     record {
-      answer = record { id = m .id; op = m .op; status = m .status; entry = record { 0 = m .entry } };
-      value = spanTo (m .value) n;
-      text = spanTo (m .text) n;
+      head = record { id = m .id; op = m .op; status = m .status; entry = record { 0 = m .payload .entryVersion } };
+      value = spanTo (m .payload .value) n;
+      text = spanTo (m .payload .text) n;
     }
 
 -- the reply of a header and a body; and the answer of a header and two parts
-abbrev pub replyWith : Answer → Payload → Reply
-replyWith a p = record { id = a .id; op = a .op; status = a .status; entry = p .entry; value = p .value; text = p .text }
+abbrev pub replyWith : ReplyHead → Payload → Reply
+replyWith a p = record { id = a .id; op = a .op; status = a .status; payload = p }
 
-abbrev pub withParts : Answer → Span → Span → code.Reply
-withParts a value text = record { answer = a; value = value; text = text }
+abbrev pub withParts : ReplyHead → Span → Span → code.Reply
+withParts a value text = record { head = a; value = value; text = text }

@@ -1,12 +1,12 @@
-// The reader of a reply, for any bytes, operation and flag.
+// The reader of a reply, for any bytes and whatever was asked.
 mod read;
 
+use message::Asked;
 use message::Found;
 use message::Reply;
 ghost use mathlib.Core.Path.{_≡_};
 ghost use Rattle.wire.specs.Codec.{mapped};
 ghost use Rattle.message.specs.Reply.{reply};
-ghost use Rattle.rules.specs.Asked.{asked};
 ghost use Rattle.reply.specs.Answer.{asReply, replyAt};
 
 // What reading a reply finds: the reply with the count of its bytes, more needed, or a refusal by its number.
@@ -16,13 +16,13 @@ pub enum ReplyRead {
     Refused(u8),
 }
 
-// The reply to an operation, which was asked with flag 0x0001 or without.
-pub fn read_reply(s: &[u8], op: u8, flag: bool) -> ReplyRead
-    ensures { λ r. ⌜ asReply r ≡ mapped replyAt (reply (asked op flag) .dec (now (s .entry))) ⌝ }
+// The reply to what was asked.
+pub fn read_reply(s: &[u8], asked: Asked) -> ReplyRead
+    ensures { λ r. ⌜ asReply r ≡ mapped replyAt (reply asked .dec (now (s .entry))) ⌝ }
 {
-    let found = message::find(op);
+    let found = message::find(asked.op);
     let Found::Known(o) = found else {
         return ReplyRead::Refused(4);
     };
-    read::read_message(s, o, flag)
+    read::read_message(s, o, asked.flag)
 }

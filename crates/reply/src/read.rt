@@ -8,16 +8,16 @@ use field::NumberRead;
 use field::Span;
 use field::SpanRead;
 use field::VersionRead;
-use message::Answer;
+use message::Form;
 use message::Operation;
 use message::Reply;
-use rules::Form;
+use message::ReplyHead;
 ghost use mathlib.Core.Path.{_≡_};
 ghost use Rattle.wire.specs.Codec.{readAt, after, mapped, whole};
 ghost use Rattle.wire.specs.Field.{limited};
 ghost use Rattle.field.specs.Answer.{asNumber, nowhere, spanTo, stopped, limitedText};
 ghost use Rattle.message.specs.Reply.{message, isAwaited, rowsOf, versionedBody, textLimit};
-ghost use Rattle.rules.specs.Body.{fieldsOf};
+ghost use Rattle.message.specs.Reply.{fieldsOf};
 ghost use Rattle.reply.specs.Answer.{asReply, replyAt, replyWith, withParts};
 
 // What a field that is not whole makes of the reply.
@@ -32,7 +32,7 @@ fn stop(r: NumberRead) -> ReplyRead
 }
 
 // A body that is a value of at most a length; an entry version and a value; a text.
-fn read_value(s: &[u8], c: Cursor, a: Answer, lim: u64) -> ReplyRead
+fn read_value(s: &[u8], c: Cursor, a: ReplyHead, lim: u64) -> ReplyRead
     ensures { λ r. ⌜ asReply r ≡ after (mapped spanTo (readAt (limited lim) (now (s .entry)) (c .at))) (λ p j. whole (withParts a p nowhere) j) ⌝ }
 {
     let r = field::read_limited(s, c, lim);
@@ -42,7 +42,7 @@ fn read_value(s: &[u8], c: Cursor, a: Answer, lim: u64) -> ReplyRead
     let no_text = Span { start: 0, len: 0 };
     ReplyRead::Whole(
         Reply {
-            answer: a,
+            head: a,
             value: value,
             text: no_text,
         },
@@ -50,14 +50,14 @@ fn read_value(s: &[u8], c: Cursor, a: Answer, lim: u64) -> ReplyRead
     )
 }
 
-fn read_versioned(s: &[u8], c: Cursor, a: Answer) -> ReplyRead
+fn read_versioned(s: &[u8], c: Cursor, a: ReplyHead) -> ReplyRead
     ensures { λ r. ⌜ asReply r ≡ mapped replyAt (after (readAt versionedBody (now (s .entry)) (c .at)) (λ p j. whole (replyWith a p) j)) ⌝ }
 {
     let r = field::read_version(s, c);
     let VersionRead::Whole(entry, next) = r else {
         return ReplyRead::More;
     };
-    let b = Answer {
+    let b = ReplyHead {
         id: a.id,
         op: a.op,
         status: a.status,
@@ -66,7 +66,7 @@ fn read_versioned(s: &[u8], c: Cursor, a: Answer) -> ReplyRead
     read_value(s, next, b, Reply::VALUE)
 }
 
-fn read_text(s: &[u8], c: Cursor, a: Answer) -> ReplyRead
+fn read_text(s: &[u8], c: Cursor, a: ReplyHead) -> ReplyRead
     ensures { λ r. ⌜ asReply r ≡ after (mapped spanTo (readAt (limitedText textLimit) (now (s .entry)) (c .at))) (λ p j. whole (withParts a nowhere p) j) ⌝ }
 {
     let r = field::read_text(s, c, Reply::TEXT);
@@ -76,7 +76,7 @@ fn read_text(s: &[u8], c: Cursor, a: Answer) -> ReplyRead
     let no_value = Span { start: 0, len: 0 };
     ReplyRead::Whole(
         Reply {
-            answer: a,
+            head: a,
             value: no_value,
             text: text,
         },
@@ -85,7 +85,7 @@ fn read_text(s: &[u8], c: Cursor, a: Answer) -> ReplyRead
 }
 
 // The body behind a header, whose entry version is not read yet.
-fn read_body(s: &[u8], c: Cursor, a: Answer, f: Form) -> ReplyRead
+fn read_body(s: &[u8], c: Cursor, a: ReplyHead, f: Form) -> ReplyRead
     requires { ⌜ a .entry .0 ≡ 0 ⌝ }
     ensures { λ r. ⌜ asReply r ≡ mapped replyAt (after (readAt (fieldsOf f) (now (s .entry)) (c .at)) (λ p j. whole (replyWith a p) j)) ⌝ }
 {
@@ -94,7 +94,7 @@ fn read_body(s: &[u8], c: Cursor, a: Answer, f: Form) -> ReplyRead
             let none = Span { start: 0, len: 0 };
             ReplyRead::Whole(
                 Reply {
-                    answer: a,
+                    head: a,
                     value: none,
                     text: none,
                 },
@@ -138,7 +138,7 @@ pub(crate) fn read_message(s: &[u8], o: Operation, flag: bool) -> ReplyRead
     let NumberRead::Whole(_, c5) = r5 else {
         return stop(r5);
     };
-    let a = Answer {
+    let a = ReplyHead {
         id: id,
         op: op,
         status: status,

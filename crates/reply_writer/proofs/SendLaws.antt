@@ -18,7 +18,7 @@ use Rattle.wire.proofs.WriteLaws.{send-broken, put-wrote, wrote-seq, wrote-guar
 use Rattle.text.specs.Text.{isText}
 use Rattle.field.specs.Answer.{limitedText}
 use Rattle.message.specs.Request.{isEmpty, valueLimit}
-use Rattle.message.specs.Reply.{Reply, Body, Payload, payload, noEntry, noValue, noText, textLimit, noBody, valueBody, versionedBody, textBody, bodyAt, isAllowed, allowed, bodyOf, toReply, fromReply, fields, message}
+use Rattle.message.specs.Reply.{Reply, Body, Payload, noEntry, noValue, noText, textLimit, noBody, valueBody, versionedBody, textBody, bodyAt, isAllowed, allowed, fieldsOf, formOf, toReply, fromReply, fields, message}
 use Rattle.reply_writer.specs.Frame.{framed}
 
 pub is-empty : (s : List ℕ) → eqb (length s) 0 ≡ isEmpty s
@@ -58,16 +58,13 @@ module _ (comes : ℕ → Bool) (rows : ℕ → List (ℕ × Body)) (flag : Bool
       send-broken (message comes rows flag) r old (rw (e, and-false (comes (r .op) && ltb (r .op) 256), and-false (vLong .ok (r .id))))
 
   pub send-framed : comes (r .op) ≡ true → isAllowed (bodyAt (r .status) (rows (r .op))) ≡ true
-      → send (framed (bodyOf flag (allowed (bodyAt (r .status) (rows (r .op)))))) r old ≡ send (message comes rows flag) r old
+      → send (framed (fieldsOf (formOf flag (allowed (bodyAt (r .status) (rows (r .op))))))) r old ≡ send (message comes rows flag) r old
   unfolding message fields framed as-type seq guard send
   send-framed p q = rw (p, q)
 
 -- the rules and the length, behind the operation and the status
-abbrev bodyIn : Reply → Payload
-bodyIn r = payload (r .entry) (r .value) (r .text)
-
 module _ (c : Codec Payload) (r : Reply) where
-  pub framed-ok : r .op < 256 → r .status < 256 → (vLong .ok (r .id) && c .ok (bodyIn r)) ≡ framed c .ok r
+  pub framed-ok : r .op < 256 → r .status < 256 → (vLong .ok (r .id) && c .ok (r .payload)) ≡ framed c .ok r
   unfolding framed as-type seq guard byte
   framed-ok h k = rw (lt-ltb (r .op) 256 h, lt-ltb (r .status) 256 k)
 
@@ -75,24 +72,24 @@ module _ (c : Codec Payload) (r : Reply) where
     pub id : Valid vLong (r .id)
     pub op : Valid byte (r .op)
     pub status : Valid byte (r .status)
-    pub body : Valid c (bodyIn r)
+    pub body : Valid c (r .payload)
 
   pub rules : Valid (framed c) r → Rules
   unfolding framed as-type seq guard byte
   rules v =
-      let a = both (vLong .ok (r .id)) (ltb (r .op) 256 && (ltb (r .status) 256 && c .ok (bodyIn r))) v in
-      let b = both (ltb (r .op) 256) (ltb (r .status) 256 && c .ok (bodyIn r)) (a .1) in
-      let d = both (ltb (r .status) 256) (c .ok (bodyIn r)) (b .1) in
+      let a = both (vLong .ok (r .id)) (ltb (r .op) 256 && (ltb (r .status) 256 && c .ok (r .payload))) v in
+      let b = both (ltb (r .op) 256) (ltb (r .status) 256 && c .ok (r .payload)) (a .1) in
+      let d = both (ltb (r .status) 256) (c .ok (r .payload)) (b .1) in
       record { id = a .0; op = b .0; status = d .0; body = d .1 }
 
-  pub framed-length : length (framed c .enc r) ≡ 4 + length (vLong .enc (r .id)) + length (c .enc (bodyIn r))
+  pub framed-length : length (framed c .enc r) ≡ 4 + length (vLong .enc (r .id)) + length (c .enc (r .payload))
   unfolding framed as-type seq guard byte
   framed-length = simp length-append (omega arith)
 
   -- the header is written: there is room for the body, and with it the reply is written
   pub record Headed (old new : List ℕ) (at : ℕ) : Type 0 where
-    pub room : Room c (bodyIn r) at new
-    pub done : (last : List ℕ) (e : ℕ) → Wrote c (bodyIn r) new last at e → Wrote (framed c) r old last 0 e
+    pub room : Room c (r .payload) at new
+    pub done : (last : List ℕ) (e : ℕ) → Wrote c (r .payload) new last at e → Wrote (framed c) r old last 0 e
 
   pub headed : (old : List ℕ) {o₁ o₂ o₃ o₄ o₅ : List ℕ} {r₁ r₂ r₃ r₄ r₅ : ℕ} → Valid (framed c) r → Room (framed c) r 0 old
       → (r₁, o₁) ≡ putAt byte 0xa1 0 old → (r₂, o₂) ≡ putAt vLong (r .id) r₁ o₁ → (r₃, o₃) ≡ putAt byte (r .op) r₂ o₂
@@ -100,7 +97,7 @@ module _ (c : Codec Payload) (r : Reply) where
   unfolding byte framed
   headed old v h e₁ e₂ e₃ e₄ e₅ =
       let g = rules v in
-      let l : 4 + length (vLong .enc (r .id)) + length (c .enc (bodyIn r)) ≤ length old = omega (arith, framed-length) in
+      let l : 4 + length (vLong .enc (r .id)) + length (c .enc (r .payload)) ≤ length old = omega (arith, framed-length) in
       let x₁ = put-wrote byte 0xa1 0 old refl (omega arith) _ _ e₁ in
       let x₂ = put-wrote vLong (r .id) _ _ (g .id) (omega arith) _ _ e₂ in
       let x₃ = put-wrote byte (r .op) _ _ (g .op) (omega arith) _ _ e₃ in
@@ -142,24 +139,24 @@ module _ (p : Payload) where
     put-value v h e =
         let w = put-wrote (limited lim) (p .value) _ _ (value-valid v) h _ _ e in record { next = w .next; list = w .list; long = w .long }
 
-  pub versioned-valid : Valid versionedBody p → Valid entryVersion (p .entry) × Valid (limited valueLimit) (p .value)
+  pub versioned-valid : Valid versionedBody p → Valid entryVersion (p .entryVersion) × Valid (limited valueLimit) (p .value)
   unfolding versionedBody as-type seq
-  versioned-valid v = both (entryVersion .ok (p .entry)) (limited valueLimit .ok (p .value)) (both (noText p) (entryVersion .ok (p .entry) && limited valueLimit .ok (p .value)) v .1)
+  versioned-valid v = both (entryVersion .ok (p .entryVersion)) (limited valueLimit .ok (p .value)) (both (noText p) (entryVersion .ok (p .entryVersion) && limited valueLimit .ok (p .value)) v .1)
 
   pub versioned-size : Valid versionedBody p → length (versionedBody .enc p) ≡ 8 + (length (vLong .enc (length (p .value))) + length (p .value))
   unfolding versionedBody as-type seq
   versioned-size v =
-      length-append (entryVersion .enc (p .entry)) (limited valueLimit .enc (p .value))
-      ∙ rw (big-length 8 (p .entry), size valueLimit (p .value) (versioned-valid v .1))
+      length-append (entryVersion .enc (p .entryVersion)) (limited valueLimit .enc (p .value))
+      ∙ rw (big-length 8 (p .entryVersion), size valueLimit (p .value) (versioned-valid v .1))
 
-  pub put-versioned : {old o₁ o₂ : List ℕ} {at r₁ r₂ : ℕ} → Valid versionedBody p → Room versionedBody p at old → (r₁, o₁) ≡ putAt entryVersion (p .entry) at old
+  pub put-versioned : {old o₁ o₂ : List ℕ} {at r₁ r₂ : ℕ} → Valid versionedBody p → Room versionedBody p at old → (r₁, o₁) ≡ putAt entryVersion (p .entryVersion) at old
       → (r₂, o₂) ≡ putAt (limited valueLimit) (p .value) r₁ o₁ → Wrote versionedBody p old o₂ at r₂
   unfolding versionedBody
   put-versioned v h e f =
       let g = versioned-valid v in
       let l = versioned-size v in
-      let n = big-length 8 (p .entry) in
-      let x = put-wrote entryVersion (p .entry) _ _ (g .0) (omega arith) _ _ e in
+      let n = big-length 8 (p .entryVersion) in
+      let x = put-wrote entryVersion (p .entryVersion) _ _ (g .0) (omega arith) _ _ e in
       let m = size valueLimit (p .value) (g .1) in
       let y = put-wrote (limited valueLimit) (p .value) _ _ (g .1) (omega arith) _ _ f in
       wrote-type _ _ _ (seq entryVersion λ _. limited valueLimit) (wrote-seq entryVersion (λ _. limited valueLimit) x y)

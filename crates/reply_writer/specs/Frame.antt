@@ -5,10 +5,10 @@ use lib.Dec.{eqb}
 use Rattle.wire.specs.Codec.{Codec, byte, guard, seq, as-type, all}
 use Rattle.wire.specs.Number.{vLong}
 use Rattle.message.specs.Reply.{Reply, Payload, payload, toReply, fromReply, errorCode}
-use Rattle.message.specs.declared.Answer.{Answer}
+use Rattle.message.specs.declared.ReplyHead.{ReplyHead}
 
 -- the body of an answer, a value and a text
-abbrev pub payloadOf : Answer → List ℕ → List ℕ → Payload
+abbrev pub payloadOf : ReplyHead → List ℕ → List ℕ → Payload
 payloadOf a v t = payload (a .entry .0) v t
 
 -- a reply whose operation and status were judged
@@ -23,4 +23,4 @@ framed c =
 
 -- an error reply of a status and a text
 abbrev pub errorOf : ℕ → ℕ → List ℕ → Reply
-errorOf id status text = record { id = id; op = errorCode; status = status; entry = 0; value = []; text = text }
+errorOf id status text = record { id = id; op = errorCode; status = status; payload = payload 0 [] text }

@@ -1,36 +1,36 @@
-// The writers of a reply, for any operation and flag.
+// The writers of a reply, whatever was asked.
 mod write;
 
 use field::EntryVersion;
-use message::Answer;
+use message::Asked;
+use message::Form;
 use message::Found;
+use message::ReplyHead;
 use message::Sent;
-use rules::Form;
 ghost use mathlib.Core.Path.{_≡_};
 ghost use Prim.Native.Nat.{_≤_};
 ghost use Rattle.wire.specs.Write.{send};
 ghost use Rattle.message.specs.Answer.{asSent};
 ghost use Rattle.message.specs.Reply.{reply, replyOf, errorReply};
 ghost use Rattle.message.specs.Refusal.{refusal};
-ghost use Rattle.rules.specs.Asked.{asked};
 ghost use Rattle.reply_writer.specs.Frame.{errorOf};
 
-// The reply to an operation, which was asked with flag 0x0001 or without: its numbers, value and text. What is not sent is 0 or empty.
-pub fn write_reply(out: &mut [u8], op: u8, flag: bool, a: Answer, value: &[u8], text: &[u8]) -> Sent
-    ensures { λ r. ⌜ (asSent r, now (out .exit)) ≡ send (reply (asked op flag)) (replyOf a (now (value .entry)) (now (text .entry))) (now (out .entry)) ⌝ }
+// The reply to what was asked: its numbers, value and text. What is not sent is 0 or empty.
+pub fn write_reply(out: &mut [u8], asked: Asked, head: ReplyHead, value: &[u8], text: &[u8]) -> Sent
+    ensures { λ r. ⌜ (asSent r, now (out .exit)) ≡ send (reply asked) (replyOf head (now (value .entry)) (now (text .entry))) (now (out .entry)) ⌝ }
 {
-    let found = message::find(op);
+    let found = message::find(asked.op);
     let Found::Known(o) = found else {
         return Sent::Refused(16);
     };
-    if !rules::is_awaited(o, a.op) {
+    if !rules::is_awaited(o, head.op) {
         return Sent::Refused(16);
     }
-    let b = rules::body_at(o, a.op, a.status);
+    let b = rules::body_at(o, head.op, head.status);
     if !rules::is_allowed(b) {
         return Sent::Refused(16);
     }
-    write::write_message(out, a, rules::form_of(flag, b), value, text)
+    write::write_message(out, head, rules::form_of(asked.flag, b), value, text)
 }
 
 // The error reply of a refusal, whatever was asked.
@@ -59,7 +59,7 @@ fn write_text(out: &mut [u8], id: u64, status: u8, text: &[u8]) -> Sent
     requires { ⌜ status ≤ 0x86 ⌝ }
     ensures { λ r. ⌜ (asSent r, now (out .exit)) ≡ send errorReply (errorOf id status (now (text .entry))) (now (out .entry)) ⌝ }
 {
-    let a = Answer {
+    let a = ReplyHead {
         id: id,
         op: 0x50,
         status: status,

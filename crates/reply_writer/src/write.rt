@@ -1,10 +1,10 @@
 // The writer of a reply whose operation and status were judged: it judges the rest, then measures, and then writes.
 use field::Kind;
 use field::put;
-use message::Answer;
+use message::Form;
 use message::Reply;
+use message::ReplyHead;
 use message::Sent;
-use rules::Form;
 ghost use mathlib.Core.Path.{_≡_};
 ghost use mathlib.Core.Bool.{_&&_};
 ghost use Prim.Native.Nat.{_+_, _≤_};
@@ -17,7 +17,7 @@ ghost use Rattle.field.specs.Answer.{limitedText};
 ghost use Rattle.message.specs.Answer.{asSent};
 ghost use Rattle.message.specs.Request.{isEmpty};
 ghost use Rattle.message.specs.Reply.{replyOf};
-ghost use Rattle.rules.specs.Body.{fieldsOf};
+ghost use Rattle.message.specs.Reply.{fieldsOf};
 ghost use Rattle.reply_writer.specs.Frame.{framed, payloadOf};
 
 // Is a number 0, and are there no bytes?
@@ -48,7 +48,7 @@ fn is_limited_text(s: &[u8], lim: u64) -> bool
 }
 
 // Does a body have its fields, and no other?
-fn keeps_body(a: Answer, f: Form, value: &[u8], text: &[u8]) -> bool
+fn keeps_body(a: ReplyHead, f: Form, value: &[u8], text: &[u8]) -> bool
     ensures { λ r. ⌜ r ≡ fieldsOf f .ok (payloadOf a (now (value .entry)) (now (text .entry))) ⌝ }
 {
     let e = a.entry;
@@ -61,7 +61,7 @@ fn keeps_body(a: Answer, f: Form, value: &[u8], text: &[u8]) -> bool
     }
 }
 
-fn keeps_rules(a: Answer, f: Form, value: &[u8], text: &[u8]) -> bool
+fn keeps_rules(a: ReplyHead, f: Form, value: &[u8], text: &[u8]) -> bool
     ensures { λ r. ⌜ r ≡ framed (fieldsOf f) .ok (replyOf a (now (value .entry)) (now (text .entry))) ⌝ }
 {
     if 0x7fff_ffff_ffff_ffff < a.id {
@@ -71,7 +71,7 @@ fn keeps_rules(a: Answer, f: Form, value: &[u8], text: &[u8]) -> bool
 }
 
 // Where the body ends that begins at `at`, behind a header.
-fn body_end(at: usize, a: Answer, f: Form, value: &[u8], text: &[u8]) -> usize
+fn body_end(at: usize, a: ReplyHead, f: Form, value: &[u8], text: &[u8]) -> usize
     requires { ⌜ at ≤ 13 ⌝ }
     requires { ⌜ Valid (fieldsOf f) (payloadOf a (now value) (now text)) ⌝ }
     ensures { λ r. ⌜ r ≡ at + length (fieldsOf f .enc (payloadOf a (now (value .entry)) (now (text .entry)))) ⌝ }
@@ -85,7 +85,7 @@ fn body_end(at: usize, a: Answer, f: Form, value: &[u8], text: &[u8]) -> usize
 }
 
 // How many bytes a reply takes: magic, operation, status and marker are one each.
-fn length_of(a: Answer, f: Form, value: &[u8], text: &[u8]) -> usize
+fn length_of(a: ReplyHead, f: Form, value: &[u8], text: &[u8]) -> usize
     requires { ⌜ Valid (framed (fieldsOf f)) (replyOf a (now value) (now text)) ⌝ }
     ensures { λ r. ⌜ r ≡ length (framed (fieldsOf f) .enc (replyOf a (now (value .entry)) (now (text .entry)))) ⌝ }
 {
@@ -93,7 +93,7 @@ fn length_of(a: Answer, f: Form, value: &[u8], text: &[u8]) -> usize
     body_end(4 + put::number_len(id), a, f, value, text)
 }
 
-fn put_body(out: &mut [u8], at: usize, a: Answer, f: Form, value: &[u8], text: &[u8]) -> usize
+fn put_body(out: &mut [u8], at: usize, a: ReplyHead, f: Form, value: &[u8], text: &[u8]) -> usize
     requires { ⌜ Valid (fieldsOf f) (payloadOf a (now value) (now text)) ⌝ }
     requires { ⌜ Room (fieldsOf f) (payloadOf a (now value) (now text)) at (now out) ⌝ }
     ensures { λ r. ⌜ Wrote (fieldsOf f) (payloadOf a (now (value .entry)) (now (text .entry))) (now (out .entry)) (now (out .exit)) at r ⌝ }
@@ -109,7 +109,7 @@ fn put_body(out: &mut [u8], at: usize, a: Answer, f: Form, value: &[u8], text: &
     }
 }
 
-fn put_message(out: &mut [u8], a: Answer, f: Form, value: &[u8], text: &[u8]) -> usize
+fn put_message(out: &mut [u8], a: ReplyHead, f: Form, value: &[u8], text: &[u8]) -> usize
     requires { ⌜ Valid (framed (fieldsOf f)) (replyOf a (now value) (now text)) ⌝ }
     requires { ⌜ Room (framed (fieldsOf f)) (replyOf a (now value) (now text)) 0 (now out) ⌝ }
     ensures { λ r. ⌜ Wrote (framed (fieldsOf f)) (replyOf a (now (value .entry)) (now (text .entry))) (now (out .entry)) (now (out .exit)) 0 r ⌝ }
@@ -125,7 +125,13 @@ fn put_message(out: &mut [u8], a: Answer, f: Form, value: &[u8], text: &[u8]) ->
     put_body(out, c5, a, f, value, text)
 }
 
-pub(crate) fn write_message(out: &mut [u8], a: Answer, f: Form, value: &[u8], text: &[u8]) -> Sent
+pub(crate) fn write_message(
+    out: &mut [u8],
+    a: ReplyHead,
+    f: Form,
+    value: &[u8],
+    text: &[u8],
+) -> Sent
     ensures { λ r. ⌜ (asSent r, now (out .exit)) ≡ send (framed (fieldsOf f)) (replyOf a (now (value .entry)) (now (text .entry))) (now (out .entry)) ⌝ }
 {
     if !keeps_rules(a, f, value, text) {

@@ -23,7 +23,7 @@ use Rattle.field.specs.declared.NumberRead.the-variants as n
 use Rattle.field.proofs.NumberRead as number-read
 use Rattle.field.proofs.Parts.{only, at-between, not-whole, not-refused}
 use Rattle.message.specs.Operation.{findCode, isKnown, known}
-use Rattle.message.specs.Request.{bare, shapeOf, argsOf, operation, transaction, isVersion, ed, fields, toRequest, request, nameLimit, keyLimit, valueLimit}
+use Rattle.message.specs.Request.{bare, shapeOf, argsOf, operation, transaction, isVersion, editionAt, fields, toRequest, request, nameLimit, keyLimit, valueLimit}
 use Rattle.message.proofs.RequestLaws.{text-laws, operation-laws, transaction-laws}
 use Rattle.message.specs.Start.{start, idFound}
 use Rattle.request.specs.Answer.{requestAt, front, options}
@@ -56,17 +56,17 @@ unfolding front
 front-laws =
     type-laws all _ _ _
     (seq-laws _ _ start-laws
-    λ _. seq-laws _ _ (guard-laws isVersion 3 byte byte-laws) λ v. operation-laws (ed v))
+    λ _. seq-laws _ _ (guard-laws isVersion 3 byte byte-laws) λ v. operation-laws (editionAt v))
     (λ f t. refl) (λ p v. (refl, refl))
 
 pub options-laws : (v : ℕ) → Laws (options v)
 unfolding options
 options-laws v =
     seq-laws _ _ (text-laws nameLimit) λ _. seq-laws _ _ (guard-laws _ 8 vInt vInt-laws) λ _. seq-laws _ _ (guard-laws _ 8 byte byte-laws) λ _.
-    seq-laws _ _ vInt-laws λ _. transaction-laws (ed v .transaction)
+    seq-laws _ _ vInt-laws λ _. transaction-laws (editionAt v .transaction)
 
 module _ (s : List ℕ) where
-  at-transaction : (v at : ℕ) → readAt (transaction (ed v .transaction)) s at ≡ after (readAt (between 0 0 8) s at) (λ b j. whole tt j)
+  at-transaction : (v at : ℕ) → readAt (transaction (editionAt v .transaction)) s at ≡ after (readAt (between 0 0 8) s at) (λ b j. whole tt j)
   unfolding transaction
   at-transaction v at = rw (has-transaction v) (simp (at-type, at-guard, at-between, after-after, at-cond, only))
 
@@ -107,7 +107,7 @@ module _ (s : List ℕ) where
     pub at-options : (v at : ℕ) → mapped (optionsAt at) (readAt (options v) s at)
         ≡ after (mapped spanTo (readAt (limitedText nameLimit) s at)) (λ name i.
         after (readAt vInt s i) (λ f i.
-        cond (leb f (ed v .flags))
+        cond (leb f (editionAt v .flags))
         (after (readAt (between 1 3 8) s i) (λ x i.
         after (readAt vInt s i) (λ t i.
         after (readAt (between 0 0 8) s i) (λ _ j. whole (record { name = name; flags = f; intelligence = x; topology = t }) j))))

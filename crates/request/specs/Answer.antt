@@ -10,7 +10,7 @@ use Rattle.wire.specs.Field.{limited}
 use Rattle.field.specs.Answer.{limitedText, spanTo}
 use Rattle.message.specs.declared.Head.{Head}
 use Rattle.message.specs.declared.Request as code
-use Rattle.message.specs.Request.{Request, nameLimit, keyLimit, operation, transaction, isVersion, ed}
+use Rattle.message.specs.Request.{Request, nameLimit, keyLimit, operation, transaction, isVersion, editionAt}
 use Rattle.message.specs.Start.{start}
 use Rattle.request.specs.declared.Front.{Front}
 use Rattle.request.specs.declared.RequestRead.{RequestRead}
@@ -25,7 +25,7 @@ asRequest (r.Refused k) = refused k
 unfoldable pub front : Codec Front
 front =
     as-type all (λ p. record { id = p .0; version = p .1 .0; op = p .1 .1 }) (λ f. (f .id, (f .version, f .op)))
-    (seq start λ _. seq (guard isVersion 3 byte) λ version. operation (ed version))
+    (seq start λ _. seq (guard isVersion 3 byte) λ version. operation (editionAt version))
 
 -- .. and from the name on
 abbrev pub Options : Type 0
@@ -34,9 +34,9 @@ Options = List ℕ × (ℕ × (ℕ × (ℕ × Unit {0})))
 unfoldable pub options : ℕ → Codec Options
 options version =
     seq (limitedText nameLimit) λ _.
-    seq (guard (λ f. leb f (ed version .flags)) 8 vInt) λ _.
+    seq (guard (λ f. leb f (editionAt version .flags)) 8 vInt) λ _.
     seq (guard (λ i. leb 1 i && leb i 3) 8 byte) λ _.
-    seq vInt λ _. transaction (ed version .transaction)
+    seq vInt λ _. transaction (editionAt version .transaction)
 
 abbrev pub frontOf : Request → Front
 frontOf m = record { id = m .id; version = m .version; op = m .op }
@@ -63,7 +63,7 @@ headOf m =
       topology = m .topology;
       lifespan = m .args .lifespan;
       idle = m .args .maxIdle;
-      entry = record { 0 = m .args .entry };
+      entry = record { 0 = m .args .entryVersion };
     }
 
 -- the answer of a request of n bytes: a value that is sent ends it

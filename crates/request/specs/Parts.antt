@@ -49,7 +49,7 @@ argsWith key l i e value = record { key = key; lifespan = l; idle = i; entry = r
 
 unfoldable pub argsAt : ℕ → Args → ℕ → code-args.Args
 argsAt at x n =
-    argsWith (spanTo (x .key) (at + length (limited keyLimit .enc (x .key)))) (x .lifespan) (x .maxIdle) (x .entry) (spanTo (x .value) n)
+    argsWith (spanTo (x .key) (at + length (limited keyLimit .enc (x .key)))) (x .lifespan) (x .maxIdle) (x .entryVersion) (spanTo (x .value) n)
 
 abbrev pub togetherOf : Front → Options → code-args.Args → Request
 togetherOf f o a =

@@ -16,7 +16,7 @@ use Rattle.wire.proofs.WriteLaws.{wrote-seq, wrote-guard, wrote-type, put-wrote
 use Rattle.field.specs.Answer.{limitedText}
 use Rattle.message.specs.declared.Operation.{Operation}
 use Rattle.message.specs.Operation.{codeOf}
-use Rattle.message.specs.Request.{keyed, writes, writesIf, keyedIf, bare, shapeOf, Args, argsOf, opFits, operation, transaction, isVersion, ed, fields, Request, request, nameLimit, keyLimit, valueLimit}
+use Rattle.message.specs.Request.{keyed, writes, writesIf, keyedIf, bare, shapeOf, Args, argsOf, opFits, operation, transaction, isVersion, editionAt, fields, Request, request, nameLimit, keyLimit, valueLimit}
 use Rattle.message.proofs.Editions.{has-transaction}
 use Rattle.request_writer.specs.Parts.{Ready}
 
@@ -53,7 +53,7 @@ module _ (a : Args) {at : ℕ} {o₀ : List ℕ} where
   put-keyed x e = wrote-type _ _ _ _ (put (limited keyLimit) (ready-type _ _ _ _ x) e)
 
   pub put-keyed-if : {r₁ r₂ : ℕ} {o₁ o₂ : List ℕ} → Ready (argsOf keyedIf) a at o₀ → (r₁, o₁) ≡ putAt (limited keyLimit) (a .key) at o₀
-      → (r₂, o₂) ≡ putAt entryVersion (a .entry) r₁ o₁ → Wrote (argsOf keyedIf) a o₀ o₂ at r₂
+      → (r₂, o₂) ≡ putAt entryVersion (a .entryVersion) r₁ o₁ → Wrote (argsOf keyedIf) a o₀ o₂ at r₂
   unfolding argsOf
   put-keyed-if x e₁ e₂ =
       let y = ready-type _ _ _ _ x in
@@ -74,7 +74,7 @@ module _ (a : Args) {at : ℕ} {o₀ : List ℕ} where
       wrote-type _ _ _ _ (wrote-seq _ _ w₁ (wrote-seq _ _ w₂ (wrote-seq _ _ w₃ (put (limited valueLimit) (second _ _ y₃ w₃) e₄))))
 
   pub put-writes-if : {r₁ r₂ r₃ r₄ r₅ : ℕ} {o₁ o₂ o₃ o₄ o₅ : List ℕ} → Ready (argsOf writesIf) a at o₀ → (r₁, o₁) ≡ putAt (limited keyLimit) (a .key) at o₀
-      → (r₂, o₂) ≡ putAt vInt (a .lifespan) r₁ o₁ → (r₃, o₃) ≡ putAt vInt (a .maxIdle) r₂ o₂ → (r₄, o₄) ≡ putAt entryVersion (a .entry) r₃ o₃
+      → (r₂, o₂) ≡ putAt vInt (a .lifespan) r₁ o₁ → (r₃, o₃) ≡ putAt vInt (a .maxIdle) r₂ o₂ → (r₄, o₄) ≡ putAt entryVersion (a .entryVersion) r₃ o₃
       → (r₅, o₅) ≡ putAt (limited valueLimit) (a .value) r₄ o₄ → Wrote (argsOf writesIf) a o₀ o₅ at r₅
   unfolding argsOf
   put-writes-if x e₁ e₂ e₃ e₄ e₅ =
@@ -93,10 +93,10 @@ module _ (a : Args) {at : ℕ} {o₀ : List ℕ} where
   put-bare x = record { next = sym (add-zero at); list = refl; long = refl }
 
 -- the fields that are made of a byte
-put-operation : (v : ℕ) {o : Operation} {at r : ℕ} {old new : List ℕ} → Ready (operation (ed v)) o at old → (b : ℕ) → b ≡ codeOf o → (r, new) ≡ putAt byte b at old
-    → Wrote (operation (ed v)) o old new at r
+put-operation : (v : ℕ) {o : Operation} {at r : ℕ} {old new : List ℕ} → Ready (operation (editionAt v)) o at old → (b : ℕ) → b ≡ codeOf o → (r, new) ≡ putAt byte b at old
+    → Wrote (operation (editionAt v)) o old new at r
 unfolding operation
-put-operation v x b e f = wrote-type _ _ _ _ (put-guard (opFits (ed v)) 4 byte (ready-type _ _ _ _ x) (rw e at f))
+put-operation v x b e f = wrote-type _ _ _ _ (put-guard (opFits (editionAt v)) 4 byte (ready-type _ _ _ _ x) (rw e at f))
 
 put-type : (t : Bool) → t ≡ true → {at r : ℕ} {old new : List ℕ} → Ready (transaction t) tt at old → (r, new) ≡ putAt byte 0 at old → Wrote (transaction t) tt old new at r
 unfolding transaction
@@ -134,13 +134,13 @@ put-header q x e₁ e₂ e₃ b p e₄ e₅ e₆ e₇ e₈ e₉ =
     let x₅ = second _ _ x₄ w₄ in
     let w₅ = put (limitedText nameLimit) (first _ _ x₅) e₅ in
     let x₆ = second _ _ x₅ w₅ in
-    let w₆ = put-guard (λ f. leb f (ed v .flags)) 8 vInt (first _ _ x₆) e₆ in
+    let w₆ = put-guard (λ f. leb f (editionAt v .flags)) 8 vInt (first _ _ x₆) e₆ in
     let x₇ = second _ _ x₆ w₆ in
     let w₇ = put-guard (λ i. leb 1 i && leb i 3) 8 byte (first _ _ x₇) e₇ in
     let x₈ = second _ _ x₇ w₇ in
     let w₈ = put vInt (first _ _ x₈) e₈ in
     let x₉ = second _ _ x₈ w₈ in
-    let w₉ = put-type (ed v .transaction) (has-transaction v) (first _ _ x₉) e₉ in
+    let w₉ = put-type (editionAt v .transaction) (has-transaction v) (first _ _ x₉) e₉ in
     record {
       ready = second _ _ x₉ w₉;
       wrote = λ o r w.

@@ -17,7 +17,7 @@ use Rattle.wire.proofs.FieldLaws.{big-good, limited-valid, limited-good}
 use Rattle.text.specs.Text.{isText}
 use Rattle.field.specs.Answer.{limitedText}
 use Rattle.message.specs.Operation.{codeOf}
-use Rattle.message.specs.Request.{Shape, keyed, writes, writesIf, keyedIf, bare, shapeOf, Args, argsOf, isEmpty, noTimes, noEntry, noValue, opFits, operation, transaction, isVersion, ed, fields, fromRequest, Request, request, nameLimit, keyLimit, valueLimit}
+use Rattle.message.specs.Request.{Shape, keyed, writes, writesIf, keyedIf, bare, shapeOf, Args, argsOf, isEmpty, noTimes, noEntry, noValue, opFits, operation, transaction, isVersion, editionAt, fields, fromRequest, Request, request, nameLimit, keyLimit, valueLimit}
 use Rattle.message.proofs.RequestLaws.{code-found}
 use Rattle.message.proofs.Editions.{has-transaction, op-known, flags-small, version-small, code-small}
 use Rattle.request_writer.specs.Parts.{Limits, limitsOf}
@@ -58,7 +58,7 @@ pub record Within (l : Limits) (a : Args) : Type 0 where
   pub key : length (a .key) ≤ l .key
   pub lifespan : a .lifespan ≤ l .time
   pub idle : a .maxIdle ≤ l .time
-  pub entry : a .entry ≤ l .entry
+  pub entry : a .entryVersion ≤ l .entry
   pub value : length (a .value) ≤ l .value
 
 module _ (a : Args) where
@@ -68,7 +68,7 @@ module _ (a : Args) where
   no-times : a .lifespan ≤ 0 → a .maxIdle ≤ 0 → noTimes a ≡ true
   no-times l m = and (is-zero (a .lifespan) l) (is-zero (a .maxIdle) m)
 
-  pub within : (shape : Shape) → a .entry < 256 ^ 8 → Valid (argsOf shape) a → Within (limitsOf shape) a
+  pub within : (shape : Shape) → a .entryVersion < 256 ^ 8 → Valid (argsOf shape) a → Within (limitsOf shape) a
   unfolding argsOf
   within keyed h v =
       let w = type-valid _ _ _ _ a v in
@@ -78,7 +78,7 @@ module _ (a : Args) where
         key = limited-valid keyLimit (a .key) (w .1) .0;
         lifespan = times (b .0) .0;
         idle = times (b .0) .1;
-        entry = no-number (a .entry) (d .0);
+        entry = no-number (a .entryVersion) (d .0);
         value = no-bytes (a .value) (d .1);
       }
   within writes h v =
@@ -90,7 +90,7 @@ module _ (a : Args) where
         key = limited-valid keyLimit (a .key) (k .0) .0;
         lifespan = int-least (a .lifespan) (l .0);
         idle = int-least (a .maxIdle) (m .0);
-        entry = no-number (a .entry) (w .0);
+        entry = no-number (a .entryVersion) (w .0);
         value = limited-valid valueLimit (a .value) (m .1) .0;
       }
   within writesIf h v =
@@ -126,17 +126,17 @@ module _ (a : Args) where
         key = no-bytes (a .key) (b .0);
         lifespan = times (d .0) .0;
         idle = times (d .0) .1;
-        entry = no-number (a .entry) (e .0);
+        entry = no-number (a .entryVersion) (e .0);
         value = no-bytes (a .value) (e .1);
       }
 
   pub within-good : (shape : Shape) → Bytes (a .key) → Bytes (a .value) → Within (limitsOf shape) a → Valid (argsOf shape) a
   unfolding argsOf empty
   within-good keyed bk bv w =
-      type-good _ _ _ _ (and (no-times (w .lifespan) (w .idle)) (and (is-zero (a .entry) (w .entry)) (is-empty (a .value) (w .value))))
+      type-good _ _ _ _ (and (no-times (w .lifespan) (w .idle)) (and (is-zero (a .entryVersion) (w .entry)) (is-empty (a .value) (w .value))))
       (limited-good keyLimit (a .key) (omega arith) (w .key) bk)
   within-good writes bk bv w =
-      type-good _ _ _ _ (is-zero (a .entry) (w .entry))
+      type-good _ _ _ _ (is-zero (a .entryVersion) (w .entry))
       (seq-good _ _ (limited-good keyLimit (a .key) (omega arith) (w .key) bk)
       (seq-good _ _ (int-good (a .lifespan) (w .lifespan))
       (seq-good _ _ (int-good (a .maxIdle) (w .idle)) (limited-good valueLimit (a .value) (omega arith) (w .value) bv))))
@@ -145,18 +145,18 @@ module _ (a : Args) where
       (seq-good _ _ (limited-good keyLimit (a .key) (omega arith) (w .key) bk)
       (seq-good _ _ (int-good (a .lifespan) (w .lifespan))
       (seq-good _ _ (int-good (a .maxIdle) (w .idle))
-      (seq-good _ _ (big-good 8 (a .entry) (omega (arith, w .entry))) (limited-good valueLimit (a .value) (omega arith) (w .value) bv)))))
+      (seq-good _ _ (big-good 8 (a .entryVersion) (omega (arith, w .entry))) (limited-good valueLimit (a .value) (omega arith) (w .value) bv)))))
   within-good keyedIf bk bv w =
       type-good _ _ _ _ (and (no-times (w .lifespan) (w .idle)) (is-empty (a .value) (w .value)))
-      (seq-good _ _ (limited-good keyLimit (a .key) (omega arith) (w .key) bk) (big-good 8 (a .entry) (omega (arith, w .entry))))
+      (seq-good _ _ (limited-good keyLimit (a .key) (omega arith) (w .key) bk) (big-good 8 (a .entryVersion) (omega (arith, w .entry))))
   within-good bare bk bv w =
       type-good _ _ _ _
-      (and (is-empty (a .key) (w .key)) (and (no-times (w .lifespan) (w .idle)) (and (is-zero (a .entry) (w .entry)) (is-empty (a .value) (w .value)))))
+      (and (is-empty (a .key) (w .key)) (and (no-times (w .lifespan) (w .idle)) (and (is-zero (a .entryVersion) (w .entry)) (is-empty (a .value) (w .value)))))
       refl
 
 -- the test of the arguments, by limits that are those of the shape
 module _ (shape : Shape) (a : Args) (l : Limits) (e : l ≡ limitsOf shape) where
-  pub broken-args : a .entry < 256 ^ 8 → (Within l a → ⊥) → false ≡ argsOf shape .ok a
+  pub broken-args : a .entryVersion < 256 ^ 8 → (Within l a → ⊥) → false ≡ argsOf shape .ok a
   broken-args h n = broken-by (argsOf shape) a (λ v. n (rw e (within a shape h v)))
 
   pub good-args : Bytes (a .key) → Bytes (a .value) → Within l a → true ≡ argsOf shape .ok a
@@ -168,7 +168,7 @@ pub record Rules (q : Request) : Type 0 where
   pub version : isVersion (q .version) ≡ true
   pub text : isText (q .name) ≡ true
   pub name : length (q .name) ≤ nameLimit
-  pub flags : q .flags ≤ ed (q .version) .flags
+  pub flags : q .flags ≤ editionAt (q .version) .flags
   pub low : 1 ≤ q .intelligence
   pub high : q .intelligence ≤ 3
   pub topology : q .topology ≤ 0xffff_ffff
@@ -201,13 +201,13 @@ rules q v =
     }
 
 -- the fields that every request can be sent
-operation-good : (q : Request) → Valid (operation (ed (q .version))) (q .op)
+operation-good : (q : Request) → Valid (operation (editionAt (q .version))) (q .op)
 unfolding operation byte
 operation-good q =
     type-good _ _ _ _ refl
-    (guard-good (opFits (ed (q .version))) 4 byte (rw (op-known (q .version), code-found (q .op))) (lt-ltb (codeOf (q .op)) 256 (omega (arith, code-small (q .op)))))
+    (guard-good (opFits (editionAt (q .version))) 4 byte (rw (op-known (q .version), code-found (q .op))) (lt-ltb (codeOf (q .op)) 256 (omega (arith, code-small (q .op)))))
 
-transaction-good : (v : ℕ) → Valid (transaction (ed v .transaction)) tt
+transaction-good : (v : ℕ) → Valid (transaction (editionAt v .transaction)) tt
 unfolding transaction byte
 transaction-good v = rw (has-transaction v) (type-good _ _ _ _ refl (guard-good (λ n. eqb n 0) 8 byte refl refl))
 

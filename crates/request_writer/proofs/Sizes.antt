@@ -8,7 +8,7 @@ use Rattle.wire.specs.Number.{vInt, vLong}
 use Rattle.wire.proofs.NumberWrite.{int-long}
 use Rattle.wire.proofs.FieldLaws.{big-length, limited-length}
 use Rattle.field.specs.Answer.{limitedText}
-use Rattle.message.specs.Request.{Shape, keyed, writes, writesIf, keyedIf, bare, shapeOf, Args, argsOf, operation, transaction, ed, fields, Request, request, nameLimit, keyLimit, valueLimit}
+use Rattle.message.specs.Request.{Shape, keyed, writes, writesIf, keyedIf, bare, shapeOf, Args, argsOf, operation, transaction, editionAt, fields, Request, request, nameLimit, keyLimit, valueLimit}
 use Rattle.message.proofs.Editions.{has-transaction, flags-small}
 use Rattle.request_writer.specs.Parts.{limitsOf, sizeOf, argsSize}
 use Rattle.request_writer.proofs.Rules.{Within, within, Rules}
@@ -27,8 +27,8 @@ module _ (a : Args) where
   args-size writesIf w =
       simp length-append
       (omega
-      (arith, limited-length keyLimit (a .key) (omega (arith, w .key)), int-size (a .lifespan) (w .lifespan), int-size (a .maxIdle) (w .idle), big-length 8 (a .entry), limited-length valueLimit (a .value) (omega (arith, w .value))))
-  args-size keyedIf w = simp length-append (omega (arith, limited-length keyLimit (a .key) (omega (arith, w .key)), big-length 8 (a .entry)))
+      (arith, limited-length keyLimit (a .key) (omega (arith, w .key)), int-size (a .lifespan) (w .lifespan), int-size (a .maxIdle) (w .idle), big-length 8 (a .entryVersion), limited-length valueLimit (a .value) (omega (arith, w .value))))
+  args-size keyedIf w = simp length-append (omega (arith, limited-length keyLimit (a .key) (omega (arith, w .key)), big-length 8 (a .entryVersion)))
   args-size bare w = refl
 
   -- no shape sends more than the greatest key and value
@@ -39,11 +39,11 @@ module _ (a : Args) where
   args-small keyedIf w = (omega (arith, w .key), omega (arith, w .value))
   args-small bare w = (omega (arith, w .key), omega (arith, w .value))
 
-transaction-size : (v : ℕ) → length (transaction (ed v .transaction) .enc tt) ≡ 1
+transaction-size : (v : ℕ) → length (transaction (editionAt v .transaction) .enc tt) ≡ 1
 unfolding transaction as-type guard byte
 transaction-size v = rw (has-transaction v)
 
-pub request-size : (q : Request) → q .args .entry < 256 ^ 8 → Rules q → length (request .enc q)
+pub request-size : (q : Request) → q .args .entryVersion < 256 ^ 8 → Rules q → length (request .enc q)
     ≡ 5 + length (vLong .enc (q .id)) + sizeOf (q .name) + length (vLong .enc (q .flags)) + length (vLong .enc (q .topology)) + argsSize (shapeOf (q .op)) (q .args)
 unfolding request fields operation limitedText as-type seq guard byte
 request-size q h r =

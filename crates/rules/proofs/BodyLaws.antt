@@ -1,4 +1,4 @@
--- The rows of the reply table by status, and the fields of a body. Assumes nothing.
+-- The rows of the reply table by status. Assumes nothing.
 use mathlib.Core.Path.{_≡_, refl, sym}
 use mathlib.Core.List.{[], _∷_}
 use mathlib.Core.Option.{Option, none, some}
@@ -10,8 +10,8 @@ use types.Run.{OneOf, miss}
 use denote.Enum.Declared.{tagOf}
 use borrow.Author.Tests.{eqb-true, eqb-false, ne-eqb}
 use Rattle.message.specs.Reply as m
-use Rattle.message.specs.Reply.{isAllowed, errors, bodyAt, bodyOf}
-use Rattle.rules.specs.Body.{asBody, formOf, fieldsOf}
+use Rattle.message.specs.Reply.{isAllowed, errors, bodyAt}
+use Rattle.rules.specs.Body.{asBody}
 use Rattle.rules.specs.declared.Body.{Body}
 use Rattle.rules.specs.declared.Body.the-variants as b
 use Rattle.rules.proofs.Body as body
@@ -74,14 +74,3 @@ is-listed b.Value k = refl
 is-listed b.Versioned k = refl
 is-listed b.Text k = refl
 is-listed b.NotAllowed k = absurd (miss (0 ∷ 1 ∷ 2 ∷ 3 ∷ 4 ∷ 5 ∷ []) 6 tt k)
-
-pub fields-form : (flag : Bool) (x : m.Body) → bodyOf flag x ≡ fieldsOf (formOf flag x)
-unfolding bodyOf fieldsOf
-fields-form flag m.nothing = refl
-fields-form true m.old = refl
-fields-form false m.old = refl
-fields-form true m.oldNone = refl
-fields-form false m.oldNone = refl
-fields-form flag m.value = refl
-fields-form flag m.versioned = refl
-fields-form flag m.text = refl

@@ -1,13 +1,14 @@
 // The tables of the protocol: the served versions and their flags, the arguments of each operation, and the reply table with the fields of each body.
+use message::Form;
 use message::Operation;
 use message::Reply;
 ghost use mathlib.Core.Path.{_≡_};
 ghost use mathlib.Core.Bool.{cond};
 ghost use mathlib.Core.Option.{none};
 ghost use lib.Dec.{eqb};
-ghost use Rattle.message.specs.Request.{shapeOf, isVersion, ed};
-ghost use Rattle.message.specs.Reply.{bodyAt, table, errors, rowsOf, isAwaited, isAllowed, allowed};
-ghost use Rattle.rules.specs.Body.{asBody, formOf, oldForm};
+ghost use Rattle.message.specs.Request.{shapeOf, isVersion, editionAt};
+ghost use Rattle.message.specs.Reply.{bodyAt, table, errors, rowsOf, isAwaited, isAllowed, allowed, formOf, oldForm};
+ghost use Rattle.rules.specs.Body.{asBody};
 ghost use Rattle.rules.specs.Shape.{asShape};
 
 // Which arguments an operation is sent.
@@ -50,7 +51,7 @@ pub fn is_served(version: u8) -> bool
 
 // The greatest flags of a version.
 pub fn greatest_flags(version: u8) -> u64
-    ensures { λ r. ⌜ r ≡ ed version .flags ⌝ }
+    ensures { λ r. ⌜ r ≡ editionAt version .flags ⌝ }
 {
     match version {
         10 => 1,
@@ -69,14 +70,6 @@ pub enum Body {
     Versioned,
     Text,
     NotAllowed,
-}
-
-// The fields of a body: none; bytes of at most a length; an entry version and a value; a text.
-pub enum Form {
-    Nothing,
-    Value(u64),
-    Versioned,
-    Text,
 }
 
 // "The reply's code is the request's plus 1; 0x50 is the error reply."

@@ -1,7 +1,7 @@
 -- Replies that fit are written, and the reply to a request is the one that the map gives. Assumes nothing.
 use mathlib.Core.Path.{_≡_, refl, sym, ap, _∙_}
 use mathlib.Core.List.{List, [], _∷_, _++_, append-nil}
-use mathlib.Core.Bool.{Bool, true, false}
+use mathlib.Core.Bool.{Bool, true, false, cond}
 use mathlib.Core.Option.{Option, none, some}
 use Prim.Native.Nat.{ℕ, _+_, _≤_, _<_}
 use native.Mathlib.Nat.{zero-add}
@@ -22,24 +22,21 @@ use Rattle.wire.proofs.WriteLaws.{send-room}
 use Rattle.message.specs.declared.Operation.{Operation}
 use Rattle.message.specs.Operation.{codeOf}
 use Rattle.message.specs.Request.{Request, request}
-use Rattle.message.specs.Reply as m
-use Rattle.message.specs.Reply.{table, bodyAt, allowed, rowsOf, reply, errorReply}
+use Rattle.message.specs.Reply.{asked, Reply, payload, formOf, table, bodyAt, allowed, rowsOf, reply, errorReply}
 use Rattle.message.specs.Refusal.{refusal}
 use Rattle.message.proofs.ErrorLaws.{refusal-good}
 use Rattle.message.proofs.ReplySize.{error-most}
 use Rattle.map.specs.State.{Entry}
-use Rattle.map.specs.Step.{mostKeys, shows, wantsOld, held, answer}
+use Rattle.map.specs.Step.{mostKeys, noValue, value, shows, wantsOld, held, answer}
 use Rattle.map.specs.Reply.{Piece, flat, pieces, entryOf, valueOf, replyTo, askedBy}
 use Rattle.map.proofs.Format.{pieces-reply, reply-valid, answer-most}
 use Rattle.table.specs.Memory as memory
 use Rattle.table.specs.Memory.{stateOf, Sound}
 use Rattle.table.specs.Found.{entryAt}
 use Rattle.message.specs.Start.{start, idFound, idIn}
-use Rattle.rules.specs.Asked.{asked}
-use Rattle.rules.specs.Body.{formOf}
-use Rattle.rules.specs.declared.Form.{Form}
-use Rattle.rules.specs.declared.Form.the-variants as f
-use Rattle.rules.proofs.Form as form-code
+use Rattle.message.specs.declared.Form.{Form}
+use Rattle.message.specs.declared.Form.the-variants as f
+use Rattle.message.proofs.Form as form-code
 use Rattle.message.proofs.Editions.{code-small}
 use Rattle.service.specs.Serve as stream
 use Rattle.service.specs.Serve.{room, errorPieces}
@@ -84,25 +81,20 @@ no-version f.Versioned k (some e) = absurd (miss (0 ∷ 1 ∷ 3 ∷ []) 2 tt k)
 no-version f.Text k (some e) = refl
 
 -- what a form shows is what the map shows
-shown-same : (t : Bool) (b : m.Body) (o : Option Entry)
-    → (entryShown (formOf t b) o ≡ entryOf (shows t b o)) × (valueShown (formOf t b) o ≡ valueOf (shows t b o))
+shown-same : (g : Form) (o : Option Entry) → (entryShown g o ≡ entryOf (shows g o)) × (valueShown g o ≡ valueOf (shows g o))
 unfolding shows
-shown-same t m.nothing none = (refl, refl)
-shown-same t m.nothing (some e) = (refl, refl)
-shown-same true m.old none = (refl, refl)
-shown-same true m.old (some e) = (refl, refl)
-shown-same false m.old none = (refl, refl)
-shown-same false m.old (some e) = (refl, refl)
-shown-same true m.oldNone none = (refl, refl)
-shown-same true m.oldNone (some e) = (refl, refl)
-shown-same false m.oldNone none = (refl, refl)
-shown-same false m.oldNone (some e) = (refl, refl)
-shown-same t m.value none = (refl, refl)
-shown-same t m.value (some e) = (refl, refl)
-shown-same t m.versioned none = (refl, refl)
-shown-same t m.versioned (some e) = (refl, refl)
-shown-same t m.text none = (refl, refl)
-shown-same t m.text (some e) = (refl, refl)
+shown-same f.Nothing none = (refl, refl)
+shown-same f.Nothing (some e) = (refl, refl)
+shown-same (f.Value lim) none = (refl, refl)
+shown-same (f.Value lim) (some e) = go (eqb lim 0)
+  where
+    go : (t : Bool) → (0 ≡ entryOf (cond t noValue (value e))) × (cond t [] (e .value) ≡ valueOf (cond t noValue (value e)))
+    go true = (refl, refl)
+    go false = (refl, refl)
+shown-same f.Versioned none = (refl, refl)
+shown-same f.Versioned (some e) = (refl, refl)
+shown-same f.Text none = (refl, refl)
+shown-same f.Text (some e) = (refl, refl)
 
 -- the rows of a reply to an operation are the operation's
 rows-are : (o : Operation) → rowsOf o (codeOf o + 1) ≡ table o
@@ -114,14 +106,14 @@ form q s = formOf (wantsOld q) (allowed (bodyAt s (rowsOf (q .op) (codeOf (q .op
 
 module _ {t : List ℕ} {q : Request} {y : Held} {s : ℕ} (g : Planned t q y s) where
   -- the reply to a request, of an operation's code, a version and a value
-  abbrev made : ℕ → ℕ → List ℕ → m.Reply
-  made code e v = record { id = q .id; op = code + 1; status = s; entry = e; value = v; text = [] }
+  abbrev made : ℕ → ℕ → List ℕ → Reply
+  made code e v = record { id = q .id; op = code + 1; status = s; payload = payload e v [] }
 
   made-is : {code e : ℕ} {v : List ℕ} → code ≡ codeOf (q .op) → e ≡ entryShown (form q s) (heldAt t (q .args .key)) → v ≡ valueShown (form q s) (heldAt t (q .args .key))
       → made code e v ≡ replyTo q (answer q (stateOf t))
   unfolding answer held
   made-is o e w =
-      let f = shown-same (wantsOld q) (allowed (bodyAt s (table (q .op)))) (heldAt t (q .args .key)) in
+      let f = shown-same (formOf (wantsOld q) (allowed (bodyAt s (table (q .op))))) (heldAt t (q .args .key)) in
       rw (g .status, o, e, w, rows-are (q .op), f .0, f .1)
 
   pub reply-sent : {code e : ℕ} {v : List ℕ} {x : wire.Sent} {old new : List ℕ} {n : ℕ} {d : stream.Verdict} {r : Answer}

@@ -12,8 +12,8 @@ use Rattle.map.specs.State.{Entry, State, withEntries, without, hasKey}
 use Rattle.map.specs.Step as map
 use Rattle.map.specs.Step.{Context}
 use Rattle.map.specs.Reply.{pieces}
-use Rattle.rules.specs.declared.Form.{Form}
-use Rattle.rules.specs.declared.Form.the-variants as f
+use Rattle.message.specs.declared.Form.{Form}
+use Rattle.message.specs.declared.Form.the-variants as f
 use Rattle.table.specs.Memory.{stateOf, Sound}
 use Rattle.service.specs.Serve.{room, served, onStep}
 use Rattle.service.specs.Stream.{Done, Does}

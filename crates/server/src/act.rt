@@ -3,14 +3,16 @@ use crate::Answer;
 use crate::Verdict;
 use field::EntryVersion;
 use field::Second;
+use message::Asked;
+use message::Form;
 use message::Head;
+use message::ReplyHead;
 use message::Request;
 use message::Sent;
 use plan::Change;
 use plan::Held;
 use plan::Judged;
 use request::RequestRead;
-use rules::Form;
 use table::Table;
 ghost use mathlib.Core.Path.{_≡_};
 ghost use mathlib.Core.List.{List};
@@ -107,14 +109,23 @@ fn respond(out: &mut [u8], t: &[u8], h: Head, status: u8, held: Held, taken: usi
     let flag = h.flags % 2 == 1;
     let awaited = code + 1;
     let f = rules::form_of(flag, rules::body_at(op, awaited, status));
-    let a = message::Answer {
+    let a = ReplyHead {
         id: h.id,
         op: awaited,
         status: status,
         entry: shown_version(f, held),
     };
     let value = table::value_at(t, shown_row(f, held));
-    let w = reply_writer::write_reply(out, code, flag, a, value, b"");
+    let w = reply_writer::write_reply(
+        out,
+        Asked {
+            op: code,
+            flag: flag,
+        },
+        a,
+        value,
+        b"",
+    );
     ended(w, taken, Verdict::Served)
 }
 

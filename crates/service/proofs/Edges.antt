@@ -10,7 +10,7 @@ use Rattle.hex.specs.Number.{second}
 use Rattle.message.specs.Edition.{editionOf}
 use Rattle.message.specs.Operation.{findCode}
 use Rattle.message.specs.Refusal.{rows, rowOf, refusal}
-use Rattle.message.specs.Reply.{bodyAt, textBody, bodyOf, fields, message, errorReply}
+use Rattle.message.specs.Reply.{bodyAt, textBody, fieldsOf, fields, message, errorReply}
 use Rattle.message.specs.Request.{shapeOf, argsOf, operation, transaction, fields as request-fields, request}
 use Rattle.message.specs.Start.{start, idIn}
 use Rattle.map.specs.Reply.{flat, shownPieces, pieces}
@@ -21,6 +21,6 @@ use Rattle.service.specs.Edges.{All, cases}
 use Rattle.map.specs.State.{fresh, sameList, find, without}
 
 pub edges : All cases fresh
-unfolding cases limitedText empty byte raw guard seq as-type bigEndian limited numberDec numberEnc number vInt vLong textAfter isText digitOf isDigit digitValue toHex fromHex second editionOf findCode rows rowOf refusal bodyAt textBody bodyOf fields message errorReply shapeOf argsOf operation transaction request-fields request start idIn flat shownPieces pieces sameList find without plans plan shows entry stored held full planned answer act step onStep onRead asks onFrame lineStep
+unfolding cases limitedText empty byte raw guard seq as-type bigEndian limited numberDec numberEnc number vInt vLong textAfter isText digitOf isDigit digitValue toHex fromHex second editionOf findCode rows rowOf refusal bodyAt textBody fieldsOf fields message errorReply shapeOf argsOf operation transaction request-fields request start idIn flat shownPieces pieces sameList find without plans plan shows entry stored held full planned answer act step onStep onRead asks onFrame lineStep
 edges =
     ((refl, refl), ((refl, refl), ((refl, refl), ((refl, refl), ((refl, refl), ((refl, refl), ((refl, tt), ((refl, tt), ((refl, tt), ((refl, refl), (refl, (refl, (refl, (refl, (refl, tt)))))))))))))))

@@ -4,17 +4,17 @@ use native.Mathlib.Omega.{arith}
 use borrow.Author.Tests.{not-true, not-false}
 use Rattle.exports.specs.Codes.{coded}
 use Rattle.exports.specs.Messages.{sendReply}
-use Rattle.exports.proofs.CodeLaws.{answer-fits, sent-fits}
+use Rattle.exports.proofs.CodeLaws.{reply-head-fits, sent-fits}
 use borrow.Author.Needs.{needs}
 use Rattle.exports.proofs.fq_write_reply.Statement.{statement}
 use Rattle.exports.proofs.fq_write_reply.Tie as tie
 
 returns : tie.Need-returns
 unfolding sendReply
-returns c = rw (sym (c .before .is-answer .ensures) ∙ not-true _ (c .if1 .taken))
+returns c = rw (sym (c .before .is-reply-head .ensures) ∙ not-true _ (c .if1 .taken))
 
-answer-requires : tie.Need-answer-requires
-answer-requires c κs = answer-fits _ (sym (c .before .is-answer .ensures) ∙ not-false _ (c .if1 .left))
+reply-head-requires : tie.Need-reply-head-requires
+reply-head-requires c κs = reply-head-fits _ (sym (c .before .is-reply-head .ensures) ∙ not-false _ (c .if1 .left))
 
 sent-requires : tie.Need-sent-requires
 sent-requires c κs =
@@ -26,10 +26,10 @@ unfolding sendReply
 returns-2 c =
     let w = c .before .before .before in
     let a = w .before .before in
-    rw (sym (a .before .before .is-answer .ensures) ∙ not-false _ (a .before .if1 .left), c .sent .ensures)
-    (rw (a .answer .ensures) at (ap coded (w .write-reply .ensures)))
+    rw (sym (a .before .before .is-reply-head .ensures) ∙ not-false _ (a .before .if1 .left), c .sent .ensures)
+    (rw (a .reply-head .ensures) at (ap coded (w .write-reply .ensures)))
 
 pub fq-write-reply-spec : {M : Type 1} → statement M
 fq-write-reply-spec =
     tie.close
-    (tie.spec (λ c κs. search needs) returns answer-requires (λ c κs. search needs) sent-requires (λ c. search needs) returns-2)
+    (tie.spec (λ c κs. search needs) returns reply-head-requires (λ c κs. search needs) sent-requires (λ c. search needs) returns-2)

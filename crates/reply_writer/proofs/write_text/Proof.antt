@@ -2,8 +2,7 @@
 use mathlib.Core.Path.{refl, sym, ap, _∙_}
 use mathlib.Core.Bool.{false}
 use lib.Dec.{eqb}
-use Rattle.message.specs.Reply.{errorCode, errors, bodyOf, isAllowed, errorReply}
-use Rattle.rules.specs.Body.{fieldsOf}
+use Rattle.message.specs.Reply.{errorCode, errors, fieldsOf, isAllowed, errorReply}
 use Rattle.rules.proofs.BodyLaws.{error-text}
 use Rattle.reply_writer.specs.Frame.{errorOf}
 use Rattle.reply_writer.proofs.SendLaws.{send-framed}
@@ -12,7 +11,7 @@ use Rattle.reply_writer.proofs.write_text.Statement.{statement}
 use Rattle.reply_writer.proofs.write_text.Tie as tie
 
 returns : tie.Need-returns
-unfolding errorReply bodyOf fieldsOf
+unfolding errorReply fieldsOf
 returns c = let w = c .before .before in
     let s = w .before .before .before .before .before in
     let a = s .args in

@@ -1,6 +1,6 @@
 -- `reply::read::read_body` meets its contract. Assumes nothing.
 use mathlib.Core.Path.{sym, _∙_}
-use Rattle.rules.specs.Body.{fieldsOf}
+use Rattle.message.specs.Reply.{fieldsOf}
 use Rattle.reply.proofs.ReadLaws.{with-none, with-value, with-text}
 use borrow.Author.Needs.{needs}
 use Rattle.reply.proofs.read.read_body.Statement.{statement}

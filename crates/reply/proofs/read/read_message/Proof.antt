@@ -7,7 +7,6 @@ use Rattle.wire.specs.Number.{vLong}
 use Rattle.field.proofs.Parts.{number-stops}
 use Rattle.message.specs.Reply.{isAwaited, rowsOf, bodyAt, isAllowed, message}
 use Rattle.message.specs.declared.Reply.{Reply}
-use Rattle.rules.proofs.BodyLaws.{fields-form}
 use Rattle.reply.specs.Answer.{replyAt}
 use Rattle.reply.proofs.ReadLaws.{rest1, rest2, rest3, rest4, rest5, at-message}
 use borrow.Author.Needs.{needs}
@@ -90,7 +89,7 @@ returns-8 : tie.Need-returns-8
 unfolding rest5
 returns-8 c = let r = c .before .before .before in
     c .read-body .ensures
-    ∙ sym (at5 r ∙ rw (← (r .before .before .before .before .before .body-at .ensures), fields-form, ← (c .before .form-of .ensures)))
+    ∙ sym (at5 r ∙ rw (← (r .before .before .before .before .before .body-at .ensures), ← (c .before .form-of .ensures)))
 
 pub read-message-spec : {M : Type 1} → statement M
 read-message-spec =

@@ -5,7 +5,7 @@ use borrow.Author.Tests.{eq-eqb, ne-eqb}
 use Rattle.wire.specs.Codec.{seq, as-type}
 use Rattle.wire.proofs.FieldLaws.{big-good}
 use Rattle.message.specs.Reply.{valueBody, versionedBody, textBody}
-use Rattle.rules.specs.Body.{fieldsOf}
+use Rattle.message.specs.Reply.{fieldsOf}
 use Rattle.reply_writer.proofs.SendLaws.{is-empty, none-ok}
 use borrow.Author.Needs.{needs}
 use Rattle.reply_writer.proofs.write.keeps_body.Statement.{statement}

@@ -1,8 +1,8 @@
--- `exports::given::is_answer` meets its contract, test by test. Assumes nothing.
+-- `exports::given::is_reply_head` meets its contract, test by test. Assumes nothing.
 use borrow.Author.Tests.{le-leb, lt-leb}
 use borrow.Author.Needs.{needs}
-use Rattle.exports.proofs.given.is_answer.Statement.{statement}
-use Rattle.exports.proofs.given.is_answer.Tie as tie
+use Rattle.exports.proofs.given.is_reply_head.Statement.{statement}
+use Rattle.exports.proofs.given.is_reply_head.Tie as tie
 
 returns : tie.Need-returns
 returns c = rw (lt-leb _ _ (c .if1 .taken))
@@ -15,5 +15,5 @@ returns-3 c =
     let e = c .before in
     rw (le-leb _ _ (e .before .before .if1 .left), le-leb _ _ (e .if2 .left))
 
-pub is-answer-spec : {M : Type 1} → statement M
-is-answer-spec = tie.close (tie.spec returns (λ c. search needs) returns-2 (λ c. search needs) returns-3)
+pub is-reply-head-spec : {M : Type 1} → statement M
+is-reply-head-spec = tie.close (tie.spec returns (λ c. search needs) returns-2 (λ c. search needs) returns-3)

@@ -148,6 +148,36 @@ def judge(bench, case, table, good):
     return refused
 
 
+def first_bad_line(folder, table):
+    """The number of the first line that is not good, by the second program: the lines before it, each with its line end, store a table."""
+    lines = table.split(b'\n')[:-1]
+    path, requests = os.path.join(folder, 'front'), os.path.join(folder, 'none')
+    write_file(requests, b'')
+    low, high = 0, len(lines)
+    while low < high:
+        middle = (low + high + 1) // 2
+        write_file(path, b''.join(line + b'\n' for line in lines[:middle]))
+        low, high = (low, middle - 1) if start(REFERENCE, ['serve', requests, path]).refused_17() else (middle, high)
+    return low + 1
+
+
+def line_numbers(bench):
+    """`refused 17` tells the number of the first line that is not good."""
+    if STAND_IN:
+        return 0
+    folder = os.path.join(bench.top, 'lines')
+    os.mkdir(folder)
+    table, cases = os.path.join(folder, 'table'), 0
+    for case, broken in broken_tables():
+        if len(broken) < 100_000:
+            write_file(table, broken)
+            said = start(BOARD, ['serve', '/dev/null', table]).err
+            number = first_bad_line(folder, broken)
+            demand(f'that is not good has the number {number}.'.encode() in said, f'the line of a broken table: {case}', f'said {said!r}, wanted {number}')
+            cases += 1
+    return cases
+
+
 def other_places(bench):
     """A TABLE that is a folder, whose folder is not there, or whose folder is a file."""
     folder = os.path.join(bench.top, 'board')
@@ -214,8 +244,8 @@ def part():
         for case, table in [*small_changes(), *random_changes(5000 if LONG else 300)]:
             counts[judge(bench, case, table, None)] += 1
         bench.same('TABLE is not there', ASK, ABSENT)
-        places = other_places(bench) + links(bench)
-        return f'{counts[False]} tables taken, {counts[True]} refused 17, {places + 1} other places for TABLE'
+        places, lines = other_places(bench) + links(bench), line_numbers(bench)
+        return f'{counts[False]} tables taken, {counts[True]} refused 17, {places + 1} other places for TABLE, {lines} numbers of a bad line'
 
 
 if __name__ == '__main__':

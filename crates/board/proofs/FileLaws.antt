@@ -1,7 +1,6 @@
 -- What a read leaves of a buffer is a piece of the file behind the bytes held. Assumes nothing.
 use mathlib.Core.Path.{_≡_, refl, sym, ap, _∙_}
 use mathlib.Core.Bool.{true}
-use mathlib.Core.Logic.{inr}
 use mathlib.Core.List.{List, [], _∷_, _++_}
 use Prim.Native.Nat.{ℕ, _+_, _-_, _≤_}
 use native.Mathlib.Omega.{arith}
@@ -11,7 +10,7 @@ use Rattle.table.proofs.Parts.{lent-put, length-put}
 use Rattle.files.specs.declared.Window.{Window}
 use Rattle.files.specs.Window.{greatest, begin, arrived, Arrives}
 use Rattle.files.specs.Serving.{Ready, Runs, Ahead}
-use Rattle.files.specs.Loading.{refused, LoadAhead}
+use Rattle.files.specs.Loading.{broken, LoadAhead}
 use Rattle.files.proofs.RunLaws.{whole-served}
 use Rattle.files.proofs.LoadLaws.{whole-loaded}
 use Rattle.files.proofs.WindowLaws.{brings-some}
@@ -20,7 +19,6 @@ use Rattle.board.specs.declared.file.Turned.the-variants as turned
 use Rattle.board.proofs.file.Turned as turned-code
 use Rattle.board.specs.Turn.{Piece, FileServed, LoadReady, Loads, Builds, Stores}
 use Rattle.table.specs.Memory.{Sound}
-use Rattle.stream.proofs.Sounds.{sound-is}
 use Rattle.files.specs.declared.NextStore.{NextStore}
 use Rattle.files.specs.declared.NextStore.the-variants as store
 use Rattle.files.specs.Storing.{StoreReady, StoresNext}
@@ -55,8 +53,8 @@ pub built : {buf t buf′ t′ : List ℕ} {s : Window} (buf″ t″ : List ℕ)
     → Loads buf′ t′ s r buf″ t″ → Builds t r t″
 built buf″ t″ (turned.On s) k a x = absurd (miss (1 ∷ 2 ∷ 3 ∷ []) 0 tt k)
 built buf″ t″ turned.Done k a x = let y = whole-loaded (a .on x) .0 refl in record { pieces = _; stores = y .1; sound = y .0 }
-built {s = s} buf″ t″ turned.Broken k a x =
-    record { pieces = a .pieces; ended = s .ended; none = λ l more f st q. whole-loaded (a .on (refused (inr x) f)) .1 l refl st q }
+built {s = s} buf″ t″ (turned.Broken n) k a x =
+    record { pieces = a .pieces; ended = s .ended; none = λ l more f st q. whole-loaded (a .on (broken x f)) .1 l refl st q }
 built buf″ t″ turned.Failed k a x = tt
 
 -- a buffer of the program is long enough
@@ -64,7 +62,7 @@ pub load-begin : (buf : List ℕ) → length buf ≡ 65536 → LoadReady buf beg
 load-begin buf h = record { lies = record { order = omega arith; within = omega arith }; long = omega arith }
 
 pub serve-begin : (buf t out : List ℕ) → length buf ≡ 65536 → length out ≡ 65536 → Sound t → Ready buf t out begin
-serve-begin buf t out h o s = record { lies = record { order = omega arith; within = omega arith }; long = omega arith; room = omega arith; sound = sound-is t s }
+serve-begin buf t out h o s = record { lies = record { order = omega arith; within = omega arith }; long = omega arith; room = omega arith; sound = s }
 
 pub storing : {t out : List ℕ} (out′ : List ℕ) (i : ℕ) (r : NextStore) → StoreReady t out → StoresNext t out i r out′ → Stores r
 storing out′ i (store.Write n j) r x = tt

@@ -4,7 +4,7 @@ use mathlib.Core.Bool.{Bool, true}
 use mathlib.Core.List.{List, [], _++_}
 use Prim.Native.Nat.{ℕ, _<_}
 use lib.ListN.{length}
-use Rattle.line.specs.Feed.{joined}
+use Rattle.service.specs.Feed.{joined}
 use Rattle.table.specs.Memory.{size, stateOf, Sound}
 use Rattle.stored.specs.File as file
 use Rattle.stored.specs.File.{form1}
@@ -34,7 +34,7 @@ ReadsOn buf s got.Failed buf′ = Unit {0}
 abbrev pub Serves : List ℕ → List ℕ → Window → Turned → List ℕ → List ℕ → List ℕ → Type 0
 Serves buf t s (turned.On s′) buf′ t′ out′ = Ahead buf t s buf′ t′ s′ × Ready buf′ t′ out′ s′
 Serves buf t s turned.Done buf′ t′ out′ = Runs buf t s [] [] t′
-Serves buf t s turned.Broken buf′ t′ out′ = ⊥
+Serves buf t s (turned.Broken n) buf′ t′ out′ = ⊥
 Serves buf t s turned.Failed buf′ t′ out′ = Unit {0}
 
 -- what loading asks for
@@ -46,7 +46,7 @@ pub record LoadReady (buf : List ℕ) (s : Window) : Type 0 where
 abbrev pub Loads : List ℕ → List ℕ → Window → Turned → List ℕ → List ℕ → Type 0
 Loads buf t s (turned.On s′) buf′ t′ = LoadAhead buf t s buf′ t′ s′ × LoadReady buf′ s′
 Loads buf t s turned.Done buf′ t′ = Loadings buf t s [] true t′
-Loads buf t s turned.Broken buf′ t′ = LoadsNone buf t s 17 buf′ t′
+Loads buf t s (turned.Broken n) buf′ t′ = LoadsNone buf t s n buf′ t′
 Loads buf t s turned.Failed buf′ t′ = Unit {0}
 
 -- A file was served to its end, through pieces that reads brought: the table at the end is the one that its lines leave, and sound.
@@ -78,5 +78,5 @@ pub record FileBroken (t : List ℕ) : Type 0 where
 abbrev pub Builds : List ℕ → Turned → List ℕ → Type 0
 Builds t (turned.On s) t′ = ⊥
 Builds t turned.Done t′ = FileLoaded t′
-Builds t turned.Broken t′ = FileBroken t
+Builds t (turned.Broken n) t′ = FileBroken t
 Builds t turned.Failed t′ = Unit {0}

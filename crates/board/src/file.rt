@@ -15,7 +15,7 @@ pub(crate) enum Got {
 pub(crate) enum Turned {
     On(Window),
     Done,
-    Broken,
+    Broken(usize),
     Failed,
 }
 

@@ -30,8 +30,9 @@ fn turn(fd: i32, name: &[u8], input: &mut [u8], t: &mut [u8], s: Window) -> Turn
             Turned::On(next)
         }
         NextLoad::Done => Turned::Done,
-        NextLoad::Refused(_) => Turned::Broken,
-        NextLoad::Astray => Turned::Broken,
+        NextLoad::Broken(line) => Turned::Broken(line),
+        NextLoad::Refused(_) => Turned::Broken(0),
+        NextLoad::Astray => Turned::Broken(0),
     }
 }
 
@@ -41,8 +42,8 @@ fn is_loaded(r: Turned, name: &[u8]) -> bool
 {
     match r {
         Turned::Done => true,
-        Turned::Broken => {
-            say::broken(name);
+        Turned::Broken(line) => {
+            say::broken(name, line);
             false
         }
         _ => false,

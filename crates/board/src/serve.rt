@@ -35,8 +35,8 @@ fn turn(fd: i32, name: &[u8], input: &mut [u8], t: &mut [u8], out: &mut [u8], s:
             Turned::On(next)
         }
         NextServe::Done => Turned::Done,
-        NextServe::Refused(_) => Turned::Broken,
-        NextServe::Astray => Turned::Broken,
+        NextServe::Refused(_) => Turned::Broken(0),
+        NextServe::Astray => Turned::Broken(0),
     }
 }
 

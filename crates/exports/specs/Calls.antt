@@ -7,9 +7,9 @@ use Rattle.wire.specs.Write.{Sent}
 use Rattle.map.specs.Step.{Context}
 use Rattle.table.specs.declared.Outcome.{Outcome}
 use Rattle.table.specs.declared.Outcome.the-variants as o
-use Rattle.stream.specs.Serve.{Verdict, served, more, refused}
-use Rattle.stream.specs.Stream.{Call, Done, Serves}
-use Rattle.stream.specs.Many.{Total, Streams}
+use Rattle.service.specs.Serve.{Verdict, served, more, refused}
+use Rattle.service.specs.Stream.{Call, Done, Serves}
+use Rattle.service.specs.Many.{Total, Streams}
 use Rattle.server.specs.declared.Served.{Served}
 use Rattle.server.specs.declared.Served.the-variants as s
 use Rattle.server.specs.Lines.{ServesLines}

@@ -1,7 +1,7 @@
 -- What `serve_next` ensures can be done, whatever it is given: so runs exist. Assumes nothing.
 use mathlib.Core.Path.{_≡_, refl}
 use mathlib.Core.Logic.{_⊎_, inl, inr, ⊎-elim}
-use mathlib.Core.Bool.{Bool, true, false, cond, _&&_}
+use mathlib.Core.Bool.{Bool, true, false, cond, _&&_, not}
 use mathlib.Core.List.{List, [], _∷_}
 use mathlib.Core.Option.{Option, none, some}
 use Prim.Native.Nat.{ℕ, zero, suc, _+_, _-_, _≤_, _<_}
@@ -17,12 +17,8 @@ use Rattle.hex.specs.Hex.{toHex, fromHex}
 use Rattle.hex.specs.Number.{bigBehind, secondOf, second}
 use Rattle.hex.proofs.HexLaws.{hex-length, to-from}
 use Rattle.message.specs.Request.{Request, request}
-use Rattle.message.specs.Reply.{errorReply}
-use Rattle.message.specs.Refusal.{refusal}
 use Rattle.message.proofs.RequestLaws.{request-laws}
 use Rattle.message.proofs.Refusals.{refusals}
-use Rattle.message.proofs.ReplySize.{error-most}
-use Rattle.message.proofs.ErrorLaws.{refusal-good}
 use Rattle.message.proofs.Sizes.{request-small}
 use Rattle.message.specs.Start.{idIn}
 use Rattle.map.specs.State.{State}
@@ -33,19 +29,20 @@ use Rattle.map.specs.Reply.{flat, pieces}
 use Rattle.map.proofs.Keeps.{keeps}
 use Rattle.map.proofs.Answered.{did}
 use Rattle.map.proofs.Format.{answer-most}
-use Rattle.line.specs.Line.{longest, asksOf, asks, Given, given, stateLeft, refused15, onOutcome, onFrame, onAsked, lineStep}
-use Rattle.line.specs.Feed.{lineEnd, Turn, turn, ended, turnOf}
-use Rattle.line.specs.Turns.{lineRoom, both, Turns, full, done, then}
-use Rattle.line.proofs.Pieces.{left-later}
+use Rattle.service.specs.Line.{longest, asksOf, asks, Given, given, stateLeft, refused15, inDigits, onFrame, onAsked, lineStep}
+use Rattle.service.specs.Feed.{lineEnd, Turn, turn, ended, turnOf}
+use Rattle.service.specs.Turns.{lineRoom, both, Turns, full, done, then}
+use Rattle.service.proofs.Pieces.{left-later}
+use Rattle.service.proofs.Bounds.{Late, late, error-size}
 use Rattle.table.proofs.Lists.{lt-or-ge}
 use Rattle.table.specs.Bytes.{part}
 use Rattle.table.specs.Write.{put}
 use Rattle.table.specs.Memory.{stateOf, Sound}
 use Rattle.table.specs.Form.{form}
 use Rattle.table.proofs.HasForm.{has-form}
-use Rattle.stream.specs.Sound.{isSound}
-use Rattle.stream.specs.Stream.{Left}
-use Rattle.stream.proofs.Sounds.{is-sound, sound-is}
+use Rattle.service.specs.Serve.{errorPieces, onStep, onRead}
+use Rattle.service.specs.Stream.{Left}
+use Rattle.service.proofs.Decides.{decSound}
 use Rattle.server.specs.declared.Fed.{Fed}
 use Rattle.server.specs.declared.Served.the-variants as served
 use Rattle.server.specs.Lines.{fedOf, TurnsDone}
@@ -57,7 +54,6 @@ use Rattle.files.proofs.NextLaws.{writes, ends, reads}
 use Rattle.files.proofs.Progress.{serves-file}
 use Rattle.server.proofs.TurnLaws.{tame}
 use Rattle.server.proofs.SendLaws.{id-small}
-use Rattle.server.proofs.LineLaws.{Fair, step-fair}
 
 -- a state that a table can hold, in its order
 record Fit (st : State) : Type 0 where
@@ -69,27 +65,27 @@ record Fits (st : State) (g : Given) : Type 0 where
   fit : Fit (stateLeft st (g .next))
   short : length (g .text) ≤ 558
 
-error-fits : (k id : ℕ) (st : State) → Fit st → 1 ≤ k → k ≤ 11 → id < 0x8000_0000_0000_0000 → Fits st (given (toHex (errorReply .enc (refusal k id))) none)
+error-fits : (k id : ℕ) (st : State) → Fit st → 1 ≤ k → k ≤ 11 → id < 0x8000_0000_0000_0000 → Fits st (given (toHex (flat (errorPieces k id))) none)
 error-fits k id st f l u i =
-    record { fit = f; short = omega (arith, hex-length (errorReply .enc (refusal k id)), error-most (refusal k id) (refusal-good k id l u i)) }
+    record { fit = f; short = omega (arith, hex-length (flat (errorPieces k id)), error-size k id l u i) }
 
 module _ (c : Context) (h : c .second < 0x1_0000_0000) (st : State) (f : Fit st) where
-  outcome-fits : (r : Request) → Valid request r → (o : Outcome) → step c r st ≡ o → Fair c r st o → Fits st (onOutcome r o)
-  unfolding onOutcome
-  outcome-fits r v (map.refused k) e g = error-fits k (r .id) st f (g .0) (g .1) (request-small r v .id)
-  outcome-fits r v (answered a t) e g =
+  outcome-fits : (r : Request) (n : ℕ) → Valid request r → (o : Outcome) → step c r st ≡ o → Late o → Fits st (inDigits (onStep r n o))
+  unfolding onStep
+  outcome-fits r n v (map.refused k) e g = error-fits k (r .id) st f (omega (arith, g .0)) (g .1) (request-small r v .id)
+  outcome-fits r n v (answered a t) e g =
       let k = keeps c r st (f .table) a t e v h (f .order) in
       let m : length (flat (pieces r a)) ≤ 279 = rw (did c r st a t e .same) (answer-most r st v (f .table)) in
       record { fit = record { table = k .0; order = k .1 }; short = omega (arith, hex-length (flat (pieces r a))) }
 
   frame-fits : (bs : List ℕ) → Bytes bs → (x : Read Request) → request .dec bs ≡ x → Fits st (onFrame (record { context = c; frame = bs }) st x)
-  unfolding onFrame
+  unfolding onFrame onRead
   frame-fits bs b (wire.refused k) e = let n = refusals bs k e in error-fits k (idIn bs) st f (n .0) (omega (arith, n .1)) (id-small bs b)
   frame-fits bs b wire.more e = record { fit = f; short = omega arith }
   frame-fits bs b (wire.whole r n) e = go (eqb n (length bs))
     where
-      go : (x : Bool) → Fits st (cond x (onOutcome r (step c r st)) (given refused15 none))
-      go true = outcome-fits r (request-laws .exact bs r n b e .good) (step c r st) refl (step-fair c r st)
+      go : (x : Bool) → Fits st (cond (not x) (given refused15 none) (inDigits (onStep r n (step c r st))))
+      go true = outcome-fits r n (request-laws .exact bs r n b e .good) (step c r st) refl (late c r st)
       go false = record { fit = f; short = omega arith }
 
 -- four bytes are a second
@@ -185,7 +181,7 @@ turns-exist (suc n) last p s st room f h = turns-from last p s st room f (λ p u
 -- a table that is left
 leaves : (t : List ℕ) (o : Option State) → Fit (stateLeft (stateOf t) o) → (t′ : List ℕ) × Left t o t′
 leaves t none f = (t, refl)
-leaves t (some st) f = let m = has-form st (f .table) (f .order) in (form st, (m .state, sound-is (form st) (m .sound)))
+leaves t (some st) f = let m = has-form st (f .table) (f .order) in (form st, (m .state, m .sound))
 
 -- what can be done, for each case of what is given
 module _ (buf t out : List ℕ) (s : Window) where
@@ -212,7 +208,7 @@ module _ (buf t out : List ℕ) (s : Window) where
 
   serve : Ready buf t out s → Answers buf t out s
   serve r =
-      let d = is-sound t (r .sound) in
+      let d = r .sound in
       let e = turns-exist (suc (length (inside buf s))) (s .ended) (s .carried) (inside buf s) (stateOf t) (length out) (record { table = d .table; order = d .form .order }) (omega arith) in
       let x : Turn = e .turn in
       let m = leaves t (x .next) (e .fits .fit) in
@@ -226,13 +222,13 @@ module _ (buf t out : List ℕ) (s : Window) where
   with-lies : Lies buf s → Answers buf t out s
   with-lies i =
       ⊎-elim
-      (λ l. ⊎-elim (λ h. refused 12 (record { why = inl (refl, inr h); lies = i; same = same })) (λ h. test l h (isSound t) refl) (lt-or-ge (length out) lineRoom))
+      (λ l. ⊎-elim (λ h. refused 12 (record { why = inl (refl, inr h); lies = i; same = same })) (λ h. test l h (decSound t)) (lt-or-ge (length out) lineRoom))
       (λ l. refused 12 (record { why = inl (refl, inl l); lies = i; same = same }))
       (lt-or-ge longest (length buf))
     where
-      test : longest < length buf → lineRoom ≤ length out → (b : Bool) → isSound t ≡ b → Answers buf t out s
-      test l h true e = serve (record { lies = i; long = l; room = h; sound = e })
-      test l h false e = refused 13 (record { why = inr (refl, l, h, e); lies = i; same = same })
+      test : longest < length buf → lineRoom ≤ length out → Dec (Sound t) → Answers buf t out s
+      test l h (yes e) = serve (record { lies = i; long = l; room = h; sound = e })
+      test l h (no e) = refused 13 (record { why = inr (refl, l, h, e); lies = i; same = same })
 
   pub answers : Answers buf t out s
   answers =

@@ -1,6 +1,5 @@
 -- A whole run of loading: it ends with 'done' exactly where the file stores a table, and then that table is loaded. Assumes nothing.
 use mathlib.Core.Path.{_≡_, refl, sym, ap, _∙_, subst}
-use mathlib.Core.Logic.{inl, inr}
 use mathlib.Core.Bool.{Bool, true, false}
 use mathlib.Core.List.{List, [], _∷_, _++_, append-assoc, append-nil}
 use Prim.Native.Nat.{ℕ, suc, _+_, _-_, _≤_, _<_}
@@ -13,7 +12,7 @@ use Rattle.wire.specs.Codec.{Valid}
 use Rattle.wire.proofs.Laws.{never}
 use Rattle.map.specs.State.{Entry, State}
 use Rattle.map.specs.Table.{Each}
-use Rattle.line.specs.Feed.{joined}
+use Rattle.service.specs.Feed.{joined}
 use Rattle.hex.specs.Hex.{toHex}
 use Rattle.hex.proofs.HexLaws.{hex-length}
 use Rattle.table.specs.Bytes.{part}
@@ -28,7 +27,7 @@ use Rattle.files.specs.declared.Window.{Window}
 use Rattle.files.specs.declared.NextLoad.the-variants as load
 use Rattle.stored.specs.declared.Loading.{Loading}
 use Rattle.files.specs.Window.{begin, inside, arrived, Brings}
-use Rattle.files.specs.Loading.{longestStored, Loads, LoadsOn, LoadsAll, Wrong, bad, cut-off, too-long, LoadsNone, LoadsNext, Loadings, read, done, refused}
+use Rattle.files.specs.Loading.{longestStored, Loads, LoadsOn, LoadsAll, Wrong, bad, cut-off, too-long, LoadsNone, LoadsNext, Loadings, read, done, broken}
 use Rattle.files.proofs.TurnsLaws.{joined-more, no-pieces}
 use Rattle.files.proofs.WindowLaws.{inside-more, carried-more}
 
@@ -48,7 +47,7 @@ all-lines : {buf t t′ : List ℕ} {s : Window} {ps : List (List ℕ)} {r : Boo
     → LoadsWhole form1 (s .carried) (inside buf s ++ joined ps) t true t′
 all-lines (read {p = p} {ps = ps} x b l) e = rw (joined-more p ps) (all-on (joined ps) x b (all-lines l e))
 all-lines (done x) e = all-done x
-all-lines (refused x f) e = never (cc)
+all-lines (broken x f) e = never (cc)
 
 -- 17: lines are loaded up to one that can't be
 data Stuck (c : Bool) (y u : List ℕ) : Type 0 where
@@ -93,7 +92,7 @@ stuck-here {buf} {s = s} {p} ps l f (cut-off g e n) =
     (line-open (rw g at (l .lines .ends)) (λ b z. n b (omega (arith, l .lines .within, ap length z, length-drop (p .taken) (inside buf s)))))
 stuck-here {buf} {s = s} {p} ps l f (too-long g h) = line-long (drop (p .taken) (inside buf s)) (joined ps) refl (rw g at (l .lines .ends)) h
 
-stopped-here : {buf t buf′ t′ : List ℕ} {s : Window} {ps : List (List ℕ)} → LoadsNone buf t s 17 buf′ t′ → (s .ended ≡ true → ps ≡ [])
+stopped-here : {buf t buf′ t′ : List ℕ} {s : Window} {n : ℕ} {ps : List (List ℕ)} → LoadsNone buf t s n buf′ t′ → (s .ended ≡ true → ps ≡ [])
     → Stopped (s .carried) (inside buf s ++ joined ps) t
 stopped-here {buf = buf} {t′ = t′} {s = s} {ps = ps} x f =
     let n = x .piece .taken in
@@ -107,19 +106,10 @@ stopped-here {buf = buf} {t′ = t′} {s = s} {ps = ps} x f =
       stuck = stuck-here ps (x .loads) f (x .wrong);
     }
 
-none-loaded : {buf t buf′ t′ : List ℕ} {s : Window} → LoadsNext buf t s (load.Refused 17) buf′ t′ → LoadsNone buf t s 17 buf′ t′
-none-loaded (inl x) = absurd (omega (arith, x .number))
-none-loaded (inr x) = x
-
--- in a buffer that is long enough, only a file that stores no table is refused
-pub only-17 : {buf t buf′ t′ : List ℕ} {s : Window} {k : ℕ} → longestStored < length buf → LoadsNext buf t s (load.Refused k) buf′ t′ → LoadsNone buf t s 17 buf′ t′
-only-17 l (inl x) = absurd (omega (arith, x .short))
-only-17 l (inr x) = rw (x .number) at x
-
 stops : {buf t t′ : List ℕ} {s : Window} {ps : List (List ℕ)} {r : Bool} → Loadings buf t s ps r t′ → r ≡ false → Stopped (s .carried) (inside buf s ++ joined ps) t
 stops (read {p = p} {ps = ps} x b l) e = rw (joined-more p ps) (stopped-on (joined ps) x b (stops l e))
 stops (done x) e = never (cc)
-stops (refused x f) e = stopped-here (none-loaded x) f
+stops (broken x f) e = stopped-here x f
 
 -- what comes behind lines that are loaded, in a file that stores a table: nothing, or a line that is not too long
 data Behind (y : List ℕ) : Type 0 where

@@ -7,11 +7,12 @@ use native.Mathlib.Omega.{arith}
 use lib.ListN.{length, drop, length-drop}
 use Rattle.wire.proofs.Laws.{never}
 use Rattle.table.specs.Bytes.{part}
+use Rattle.table.specs.Memory.{stateOf}
 use Rattle.table.specs.Write.{put}
 use Rattle.stored.specs.declared.Loading.{Loading}
 use Rattle.files.specs.declared.Window.{Window}
 use Rattle.files.specs.Window.{at, inside}
-use Rattle.files.specs.Loading.{longestStored, Loads, LoadsOn, LoadsAll, Wrong, bad, cut-off, too-long, LoadsNone}
+use Rattle.files.specs.Loading.{longestStored, Loads, LoadsOn, LoadsAll, Wrong, bad, cut-off, too-long, lineBehind, LoadsNone}
 use Rattle.files.proofs.WindowLaws.{inside-long, inside-behind}
 
 module _ {buf t t′ : List ℕ} {s : Window} {p : Loading} (l : Loads buf t s p t′) where
@@ -21,20 +22,23 @@ module _ {buf t t′ : List ℕ} {s : Window} {p : Loading} (l : Loads buf t s p
   left-is : length (drop (p .taken) (inside buf s)) ≡ s .held - (s .from + p .taken)
   left-is = omega (arith, length-drop (p .taken) (inside buf s), inside-long (l .lies))
 
-  none : Wrong buf s p → LoadsNone buf t s 17 buf t′
-  none w = record { number = refl; piece = p; loads = l; wrong = w; buffer = refl }
+  abbrev behind : ℕ
+  behind = lineBehind (p .begun) (stateOf t′)
 
-  pub is-bad : p .good ≡ false → LoadsNone buf t s 17 buf t′
+  none : Wrong buf s p → LoadsNone buf t s behind buf t′
+  none w = record { piece = p; line = refl; loads = l; wrong = w; buffer = refl }
+
+  pub is-bad : p .good ≡ false → LoadsNone buf t s behind buf t′
   is-bad g = none (bad g)
 
   module _ (g : p .good ≡ true) where
-    pub no-head : s .ended ≡ true → p .begun ≡ false → LoadsNone buf t s 17 buf t′
+    pub no-head : s .ended ≡ true → p .begun ≡ false → LoadsNone buf t s behind buf t′
     no-head e n = none (cut-off g e (λ b _. never (cc)))
 
-    pub no-end : s .ended ≡ true → (s .from + p .taken ≡ s .held → ⊥) → LoadsNone buf t s 17 buf t′
+    pub no-end : s .ended ≡ true → (s .from + p .taken ≡ s .held → ⊥) → LoadsNone buf t s behind buf t′
     no-end e n = none (cut-off g e (λ _ a. n (omega (arith, inside-long (l .lies), l .lies .order))))
 
-    pub no-line : longestStored < s .held - (s .from + p .taken) → LoadsNone buf t s 17 buf t′
+    pub no-line : longestStored < s .held - (s .from + p .taken) → LoadsNone buf t s behind buf t′
     no-line h = none (too-long g (omega (arith, left-is)))
 
     pub all : s .ended ≡ true → p .begun ≡ true → s .from + p .taken ≡ s .held → LoadsAll buf t s buf t′

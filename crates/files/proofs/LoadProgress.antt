@@ -1,6 +1,5 @@
 -- Whoever calls and reads as the answers say comes to 'done' or to 17, however reading cuts the file. Assumes nothing.
 use mathlib.Core.Path.{_≡_, sym, _∙_}
-use mathlib.Core.Logic.{inr}
 use mathlib.Core.Bool.{true, false}
 use mathlib.Core.List.{List, [], _∷_, append-nil}
 use Prim.Native.Nat.{ℕ, zero, suc, _<_}
@@ -8,17 +7,17 @@ use native.Mathlib.Omega.{arith}
 use lib.ListN.{length}
 use Rattle.wire.proofs.Laws.{never}
 use Rattle.map.specs.State.{State}
-use Rattle.line.specs.Feed.{joined}
+use Rattle.service.specs.Feed.{joined}
 use Rattle.table.specs.Memory.{size, stateOf, Sound}
 use Rattle.stored.specs.File.{form1, Stores}
 use Rattle.files.specs.declared.Window.{Window}
 use Rattle.files.specs.declared.NextLoad.{NextLoad}
 use Rattle.files.specs.declared.NextLoad.the-variants as load
 use Rattle.files.specs.Window.{begin, Lies, arrived, Cuts}
-use Rattle.files.specs.Loading.{longestStored, LoadsOn, LoadsNext, read, done, refused, LoadAnswers, LoadRan}
+use Rattle.files.specs.Loading.{longestStored, LoadsOn, LoadsNext, read, done, broken, LoadAnswers, LoadRan}
 use Rattle.files.proofs.TurnsLaws.{joined-more, no-pieces}
 use Rattle.files.proofs.Progress.{togo, Cut, cut}
-use Rattle.files.proofs.LoadLaws.{only-17, whole-loaded}
+use Rattle.files.proofs.LoadLaws.{whole-loaded}
 
 -- what is left of a file, as one piece
 rest : List ℕ → List (List ℕ)
@@ -53,8 +52,9 @@ module _ (c : Cuts) {n : ℕ}
       let z = cut c file (x .moves) in
       ran-read x z (on (z .rest) (z .new) t′ (arrived s′ (length (z .piece))) (z .lies) (omega (arith, z .long)) (z .none) (omega (arith, z .less)))
   after-answer buf′ t′ load.Done x = record { pieces = []; all = no-pieces ∙ sym (f (x .ended)); good = true; table = t′; runs = done x }
-  after-answer buf′ t′ (load.Refused k) x =
-      record { pieces = rest file; all = rest-all file; good = false; table = t′; runs = refused (inr (only-17 w x)) (λ e. rest-none file (f e)) }
+  after-answer buf′ t′ (load.Broken m) x =
+      record { pieces = rest file; all = rest-all file; good = false; table = t′; runs = broken x (λ e. rest-none file (f e)) }
+  after-answer buf′ t′ (load.Refused k) x = absurd (omega (arith, x .short))
   after-answer buf′ t′ load.Astray x = absurd (x .outside l)
 
 -- any function that does what `load_next` ensures, called again and again

@@ -9,16 +9,17 @@ use lib.ListN.{length, drop, length-drop}
 use lib.Dec.{ltb}
 use borrow.Author.Tests.{ltb-true, ltb-false}
 use Rattle.wire.proofs.Laws.{never}
-use Rattle.line.specs.Line.{longest, stateLeft}
-use Rattle.line.specs.Turns.{lineRoom}
-use Rattle.server.specs.Lines.{Checked, IfSound, Unserved, fedOf, TurnsDone, ServesLines}
+use Rattle.service.specs.Line.{longest, stateLeft}
+use Rattle.service.specs.Turns.{lineRoom}
+use Rattle.server.specs.Lines.{Checked, Unserved, fedOf, TurnsDone, ServesLines}
 use Rattle.server.specs.declared.Fed.{Fed}
 use Rattle.server.specs.declared.Served.{Served}
 use Rattle.server.specs.declared.Served.the-variants as served
 use Rattle.table.specs.Bytes.{part}
-use Rattle.table.specs.Memory.{stateOf}
+use Rattle.table.specs.Memory.{stateOf, Sound}
+use Rattle.table.specs.Found.{Tells}
+use Rattle.table.proofs.Lists.{refuted}
 use Rattle.table.specs.Write.{put}
-use Rattle.stream.specs.Sound.{isSound}
 use Rattle.files.specs.declared.Window.{Window}
 use Rattle.files.specs.Window.{at, inside, Lies}
 use Rattle.files.specs.Serving.{Ready, Serves, Writes, Reads, Ends, Refuses}
@@ -39,17 +40,16 @@ module _ {buf t out out′ t′ : List ℕ} {s : Window} {r : Served} (g : Calle
   -- the cases of its answer
   cases : {A : Type 0} (still : (k : ℕ) → Unserved (served.Refused k) r out t out′ t′ → Refuses buf t out s k buf t′ out′ → A)
       → (Ready buf t out s → TurnsDone (s .ended) (s .carried) (inside buf s) t out r out′ t′ → A) → A
-  unfolding IfSound
-  cases {A} still ready = go (ltb (length out) lineRoom) (isSound t) refl refl (g .lines)
+  cases {A} still ready = go (ltb (length out) lineRoom) (g .lines .ok) refl (g .lines .tells) (g .lines .checked)
     where
-      go : (x y : Bool) → ltb (length out) lineRoom ≡ x → isSound t ≡ y
+      go : (x y : Bool) → ltb (length out) lineRoom ≡ x → Tells y (Sound t)
           → Checked x y (λ k. Unserved (served.Refused k) r out t out′ t′) (TurnsDone (s .ended) (s .carried) (inside buf s) t out r out′ t′) → A
       go true y e q u =
           still 12 u (record { why = inl (refl, inr (ltb-true (length out) lineRoom e)); lies = g .lies; same = record { buffer = refl; table = u .table; list = u .list } })
       go false false e q u =
           still 13 u
-          (record { why = inr (refl, g .long, ltb-false (length out) lineRoom e, q); lies = g .lies; same = record { buffer = refl; table = u .table; list = u .list } })
-      go false true e q u = ready (record { lies = g .lies; long = g .long; room = ltb-false (length out) lineRoom e; sound = q }) u
+          (record { why = inr (refl, g .long, ltb-false (length out) lineRoom e, refuted q refl); lies = g .lies; same = record { buffer = refl; table = u .table; list = u .list } })
+      go false true e q u = ready (record { lies = g .lies; long = g .long; room = ltb-false (length out) lineRoom e; sound = q .0 refl }) u
 
   pub refuses : (k : ℕ) → r ≡ served.Refused k → Refuses buf t out s k buf t′ out′
   refuses k e =

@@ -10,13 +10,11 @@ use lib.Seq.{length-sets, length-take-le, take-at}
 use lib.Dec.{eqb}
 use borrow.Author.Tests.{eqb-true, ne-eqb}
 use Rattle.wire.proofs.Laws.{never}
-use Rattle.line.specs.Line.{longest}
-use Rattle.line.specs.Turns.{lineRoom}
+use Rattle.service.specs.Line.{longest}
+use Rattle.service.specs.Turns.{lineRoom}
 use Rattle.table.specs.Write.{put}
 use Rattle.table.proofs.Parts.{length-put}
 use Rattle.table.specs.Memory.{Sound}
-use Rattle.stream.specs.Sound.{isSound}
-use Rattle.stream.proofs.Sounds.{sound-is}
 use Rattle.server.proofs.LeftLaws.{left-sound}
 use Rattle.files.specs.declared.Window.{Window}
 use Rattle.files.specs.declared.NextServe.{NextServe}
@@ -90,10 +88,10 @@ cut c file {buf} {buf′} {s} {s′} {n} x =
 pub never-refused : {buf t out buf′ t′ out′ : List ℕ} {s : Window} {k : ℕ} → Ready buf t out s → Refuses buf t out s k buf′ t′ out′ → ⊥
 never-refused {buf} {t} {out} {k = k} r x = go (x .why)
   where
-    go : ((k ≡ 12) × ((length buf ≤ longest) ⊎ (length out < lineRoom))) ⊎ ((k ≡ 13) × (longest < length buf) × (lineRoom ≤ length out) × (isSound t ≡ false)) → ⊥
+    go : ((k ≡ 12) × ((length buf ≤ longest) ⊎ (length out < lineRoom))) ⊎ ((k ≡ 13) × (longest < length buf) × (lineRoom ≤ length out) × (Sound t → ⊥)) → ⊥
     go (inl (_, inl h)) = omega (arith, r .long)
     go (inl (_, inr h)) = omega (arith, r .room)
-    go (inr (_, _, _, e)) = never (cc (r .sound))
+    go (inr (_, _, _, e)) = e (r .sound)
 
 -- behind a call that served, and behind a read, all is ready again
 pub ready-wrote : {buf t out buf′ t′ out′ : List ℕ} {s s′ : Window} {k : ℕ} → Writes buf t out s k s′ buf′ t′ out′ → Ready buf′ t′ out′ s′
@@ -166,7 +164,7 @@ module _ (call : (buf t out : List ℕ) (s : Window) → Answers buf t out s) (c
 
   pub runs-end : (file buf t out : List ℕ) → longest < length buf → lineRoom ≤ length out → Sound t → Ran file buf t begin
   runs-end file buf t out l r d =
-      run-on (suc (togo file buf begin)) file buf t out begin (record { lies = record { order = omega arith; within = omega arith }; long = l; room = r; sound = sound-is t d })
+      run-on (suc (togo file buf begin)) file buf t out begin (record { lies = record { order = omega arith; within = omega arith }; long = l; room = r; sound = d })
       (λ e. never (cc)) (omega arith)
 
   -- a whole file, however reading cuts it

@@ -9,16 +9,14 @@ use native.Mathlib.Omega.{arith}
 use lib.ListN.{length, take}
 use lib.Seq.{sets, sets-eq, take-append-seam}
 use Rattle.wire.proofs.Laws.{never}
-use Rattle.line.specs.Line.{Given, given, later, linesStep}
-use Rattle.line.specs.Feed.{linesOf, joined, Feeds, read as feeds-read, end as feeds-end}
-use Rattle.line.proofs.Pieces.{restStep, pieces}
+use Rattle.service.specs.Line.{Given, given, later, linesStep}
+use Rattle.service.specs.Feed.{linesOf, joined, Feeds, read as feeds-read, end as feeds-end}
+use Rattle.service.proofs.Pieces.{restStep, pieces}
 use Rattle.table.specs.Bytes.{part}
 use Rattle.table.specs.Memory.{stateOf, Sound}
-use Rattle.stream.specs.Sound.{isSound}
-use Rattle.stream.specs.Stream.{Left}
+use Rattle.service.specs.Stream.{Left}
 use Rattle.map.specs.State.{State}
 use Rattle.server.proofs.LeftLaws.{left-state, left-sound, left-both}
-use Rattle.stream.proofs.Sounds.{is-sound}
 use Rattle.files.specs.declared.Window.{Window}
 use Rattle.files.specs.Window.{at, begin, inside, arrived, Brings}
 use Rattle.files.specs.Serving.{Writes, Reads, Ends, Runs, wrote, read, done, FileGives}
@@ -83,7 +81,7 @@ fed (read x b r) = fed-more x b (fed r)
 fed (done x) = fed-done x
 
 -- the table at the end is sound
-ends-sound : {buf t w t′ : List ℕ} {s : Window} {ps : List (List ℕ)} → Runs buf t s ps w t′ → isSound t′ ≡ true
+ends-sound : {buf t w t′ : List ℕ} {s : Window} {ps : List (List ℕ)} → Runs buf t s ps w t′ → Sound t′
 ends-sound (wrote x r) = ends-sound r
 ends-sound (read x b r) = ends-sound r
 ends-sound {t = t} {t′ = t′} (done x) = left-sound t t′ (x .turn .next) (x .serves .ready .sound) (x .serves .table)
@@ -95,7 +93,7 @@ unfolding restStep part
 whole-served {t = t} {w} {t′} {ps} r =
     let f = fed r in
     let e : given w (f .next) ≡ linesStep (linesOf (joined ps)) (stateOf t) = pieces (f .feeds) in
-    (record { text = ap (λ (g : Given). g .text) e; table = rw (ap (λ (g : Given). g .next) e) at (f .table) }, is-sound t′ (ends-sound r))
+    (record { text = ap (λ (g : Given). g .text) e; table = rw (ap (λ (g : Given). g .next) e) at (f .table) }, ends-sound r)
 
 -- what is written, and the state at the end, go by the file and the state before it alone
 pub determined : {buf t w t′ buf₂ t₂ w₂ t₂′ : List ℕ} {ps qs : List (List ℕ)} → Runs buf t begin ps w t′ → Runs buf₂ t₂ begin qs w₂ t₂′ → joined ps ≡ joined qs

@@ -1,11 +1,12 @@
 -- Loading a stored table through a buffer: what one call of `load_next` does, and what a whole run is.
 use mathlib.Core.Path.{_≡_}
-use mathlib.Core.Logic.{_⊎_}
-use mathlib.Core.Bool.{Bool, true, false}
+use mathlib.Core.Bool.{Bool, true, false, cond}
 use mathlib.Core.List.{List, [], _∷_, _++_}
-use Prim.Native.Nat.{ℕ, _≤_, _<_}
+use Prim.Native.Nat.{ℕ, _+_, _≤_, _<_}
 use lib.ListN.{length, drop}
-use Rattle.line.specs.Feed.{joined}
+use Rattle.service.specs.Feed.{joined}
+use Rattle.map.specs.State.{State}
+use Rattle.table.specs.Memory.{stateOf}
 use Rattle.stored.specs.File.{form1}
 use Rattle.stored.specs.Answer.{LoadsLines}
 use Rattle.stored.specs.declared.Loading.{Loading}
@@ -46,9 +47,14 @@ pub data Wrong (buf : List ℕ) (s : Window) (p : Loading) : Type 0 where
   cut-off : p .good ≡ true → s .ended ≡ true → (p .begun ≡ true → p .taken ≡ length (inside buf s) → ⊥) → Wrong buf s p
   too-long : p .good ≡ true → longestStored < length (drop (p .taken) (inside buf s)) → Wrong buf s p
 
-pub record LoadsNone (buf t : List ℕ) (s : Window) (k : ℕ) (buf′ t′ : List ℕ) : Type 0 where
-  pub number : k ≡ 17
+-- Lines are counted from 1. The number of the line behind those loaded: they are the first line, and one for each entry.
+unfoldable pub lineBehind : Bool → State → ℕ
+lineBehind begun st = cond begun (length (st .entries) + 2) 1
+
+-- "17: stored form broken", seen at line n
+pub record LoadsNone (buf t : List ℕ) (s : Window) (n : ℕ) (buf′ t′ : List ℕ) : Type 0 where
   pub piece : Loading
+  pub line : n ≡ lineBehind (piece .begun) (stateOf t′)
   pub loads : Loads buf t s piece t′
   pub wrong : Wrong buf s piece
   pub buffer : buf′ ≡ buf
@@ -70,7 +76,8 @@ pub record LoadStrays (buf t : List ℕ) (s : Window) (buf′ t′ : List ℕ) :
 abbrev pub LoadsNext : List ℕ → List ℕ → Window → NextLoad → List ℕ → List ℕ → Type 0
 LoadsNext buf t s (load.Read s′) buf′ t′ = LoadsOn buf t s s′ buf′ t′
 LoadsNext buf t s load.Done buf′ t′ = LoadsAll buf t s buf′ t′
-LoadsNext buf t s (load.Refused k) buf′ t′ = TooShort buf t s k buf′ t′ ⊎ LoadsNone buf t s k buf′ t′
+LoadsNext buf t s (load.Broken n) buf′ t′ = LoadsNone buf t s n buf′ t′
+LoadsNext buf t s (load.Refused k) buf′ t′ = TooShort buf t s k buf′ t′
 LoadsNext buf t s load.Astray buf′ t′ = LoadStrays buf t s buf′ t′
 
 -- A whole run, from a buffer, a table and a window on: the pieces of the file, whether it ends with 'done', and the memory at the end. Where it ends
@@ -79,7 +86,7 @@ pub data Loadings : List ℕ → List ℕ → Window → List (List ℕ) → Boo
   read : {buf t buf′ t′ p buf″ t″ : List ℕ} {s s′ : Window} {ps : List (List ℕ)} {r : Bool} → LoadsNext buf t s (load.Read s′) buf′ t′
       → Brings buf′ (s′ .held) p buf″ → Loadings buf″ t′ (arrived s′ (length p)) ps r t″ → Loadings buf t s (p ∷ ps) r t″
   done : {buf t buf′ t′ : List ℕ} {s : Window} → LoadsNext buf t s load.Done buf′ t′ → Loadings buf t s [] true t′
-  refused : {buf t buf′ t′ : List ℕ} {s : Window} {ps : List (List ℕ)} → LoadsNext buf t s (load.Refused 17) buf′ t′ → (s .ended ≡ true → ps ≡ [])
+  broken : {buf t buf′ t′ : List ℕ} {s : Window} {n : ℕ} {ps : List (List ℕ)} → LoadsNext buf t s (load.Broken n) buf′ t′ → (s .ended ≡ true → ps ≡ [])
       → Loadings buf t s ps false t′
 
 -- Between two calls of a run: whatever run goes on from here, the pieces read so far come before its own.

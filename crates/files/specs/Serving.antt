@@ -1,17 +1,16 @@
 -- Serving a file through a buffer: what one call of `serve_next` does, and what a whole run is.
 use mathlib.Core.Path.{_≡_}
 use mathlib.Core.Logic.{_⊎_}
-use mathlib.Core.Bool.{true, false}
+use mathlib.Core.Bool.{true}
 use mathlib.Core.List.{List, [], _∷_, _++_}
 use Prim.Native.Nat.{ℕ, _≤_, _<_}
 use lib.ListN.{length, take}
 use lib.Seq.{sets}
-use Rattle.line.specs.Line.{longest, linesStep}
-use Rattle.line.specs.Feed.{Turn, linesOf, joined}
-use Rattle.line.specs.Turns.{lineRoom, Turns}
-use Rattle.table.specs.Memory.{stateOf}
-use Rattle.stream.specs.Sound.{isSound}
-use Rattle.stream.specs.Stream.{Left}
+use Rattle.service.specs.Line.{longest, linesStep}
+use Rattle.service.specs.Feed.{Turn, linesOf, joined}
+use Rattle.service.specs.Turns.{lineRoom, Turns}
+use Rattle.table.specs.Memory.{stateOf, Sound}
+use Rattle.service.specs.Stream.{Left}
 use Rattle.files.specs.declared.Window.{Window}
 use Rattle.files.specs.declared.NextServe.{NextServe}
 use Rattle.files.specs.declared.NextServe.the-variants as next
@@ -22,7 +21,7 @@ pub record Ready (buf t out : List ℕ) (s : Window) : Type 0 where
   pub lies : Lies buf s
   pub long : longest < length buf
   pub room : lineRoom ≤ length out
-  pub sound : isSound t ≡ true
+  pub sound : Sound t
 
 -- the lines in the window are served, as far as there is room for what they give: x is what the turns on them make
 pub record Serves (buf t out : List ℕ) (s : Window) (x : Turn) (t′ : List ℕ) : Type 0 where
@@ -66,7 +65,7 @@ pub record Same (buf t out buf′ t′ out′ : List ℕ) : Type 0 where
 
 -- "12" where a buffer is too short, else "13" where the table is not sound
 pub record Refuses (buf t out : List ℕ) (s : Window) (k : ℕ) (buf′ t′ out′ : List ℕ) : Type 0 where
-  pub why : ((k ≡ 12) × ((length buf ≤ longest) ⊎ (length out < lineRoom))) ⊎ ((k ≡ 13) × (longest < length buf) × (lineRoom ≤ length out) × (isSound t ≡ false))
+  pub why : ((k ≡ 12) × ((length buf ≤ longest) ⊎ (length out < lineRoom))) ⊎ ((k ≡ 13) × (longest < length buf) × (lineRoom ≤ length out) × (Sound t → ⊥))
   pub lies : Lies buf s
   pub same : Same buf t out buf′ t′ out′
 

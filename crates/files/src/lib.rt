@@ -10,7 +10,8 @@ ghost use lib.ListN.{length};
 ghost use Rattle.server.specs.Lines.{TurnsDone};
 ghost use Rattle.files.specs.Window.{begin, inside, Arrives};
 ghost use Rattle.files.specs.Serving.{Ready, ServesNext};
-ghost use Rattle.files.specs.Loading.{LoadsNext};
+ghost use Rattle.table.specs.Memory.{stateOf};
+ghost use Rattle.files.specs.Loading.{lineBehind, LoadsNext};
 ghost use Rattle.files.specs.Storing.{StoresNext};
 
 // Where reading a file through a buffer stands: the bytes of the buffer from `from` up to `held` are read and not yet taken. carried: what the bytes
@@ -34,10 +35,12 @@ pub enum NextServe {
     Astray,
 }
 
-// The same for loading, which writes nothing. Refused: 12 where the buffer is too short, 17 where the file stores no table.
+// The same for loading, which writes nothing. Broken: 17, the file stores no table, with the number of the first line that is not good. Refused: 12
+// where the buffer is too short.
 pub enum NextLoad {
     Read(Window),
     Done,
+    Broken(usize),
     Refused(u8),
     Astray,
 }
@@ -144,6 +147,16 @@ fn go_on(buf: &mut [u8], s: Window, f: Fed) -> NextServe
     })
 }
 
+// The file stores no table: its first line that is not good is the one behind those loaded.
+fn broken(table: &[u8], begun: bool) -> NextLoad
+    ensures { λ r. ⌜ r ≡ NextLoad.Broken (lineBehind begun (stateOf (now (table .entry)))) ⌝ }
+{
+    if begun {
+        return NextLoad::Broken(table::count(table) + 2);
+    }
+    NextLoad::Broken(1)
+}
+
 // Loads the lines in the window into the table, and says what is to be done next. The table is one only after the last answer, Done.
 pub fn load_next(buf: &mut [u8], table: &mut [u8], s: Window) -> NextLoad
     ensures { λ r. ⌜ LoadsNext (now (buf .entry)) (now (table .entry)) s r (now (buf .exit)) (now (table .exit)) ⌝ }
@@ -161,20 +174,20 @@ pub fn load_next(buf: &mut [u8], table: &mut [u8], s: Window) -> NextLoad
     }
     let p = stored::load_lines(&buf[from..held], table, s.carried);
     if !p.good {
-        return NextLoad::Refused(17);
+        return broken(table, p.begun);
     }
     let at = from + p.taken;
     if s.ended {
         if !p.begun {
-            return NextLoad::Refused(17);
+            return broken(table, p.begun);
         }
         if at != held {
-            return NextLoad::Refused(17);
+            return broken(table, p.begun);
         }
         return NextLoad::Done;
     }
     if NextLoad::LONGEST < held - at {
-        return NextLoad::Refused(17);
+        return broken(table, p.begun);
     }
     let n = buffer::move_down(buf, at, held);
     NextLoad::Read(Window {

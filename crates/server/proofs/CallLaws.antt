@@ -6,7 +6,7 @@ use native.Mathlib.Omega.{arith}
 use lib.ListN.{length, take, drop, length-drop, length-append, drop-of-length-le}
 use lib.Seq.{take-all, take-at, drop-at, length-take-le}
 use Rattle.map.specs.Step.{Context}
-use Rattle.stream.specs.Stream.{Serves}
+use Rattle.service.specs.Stream.{Serves}
 use Rattle.server.specs.declared.Answer.{Answer}
 use Rattle.server.specs.Answer.{doneOf, CallsAt}
 

@@ -1,20 +1,18 @@
 -- What a line leaves of a table, and what two lines leave one after the other. Assumes nothing.
 use mathlib.Core.Path.{_≡_, refl}
 use mathlib.Core.List.{List}
-use mathlib.Core.Bool.{true}
 use mathlib.Core.Option.{Option, none, some}
 use Prim.Native.Nat.{ℕ}
 use Rattle.map.specs.State.{State}
-use Rattle.line.specs.Line.{stateLeft, later}
-use Rattle.table.specs.Memory.{stateOf}
-use Rattle.stream.specs.Sound.{isSound}
-use Rattle.stream.specs.Stream.{Left}
+use Rattle.service.specs.Line.{stateLeft, later}
+use Rattle.table.specs.Memory.{stateOf, Sound}
+use Rattle.service.specs.Stream.{Left}
 
 pub left-state : (t left : List ℕ) (o : Option State) → Left t o left → stateOf left ≡ stateLeft (stateOf t) o
 left-state t left none e = rw e
 left-state t left (some st) e = e .0
 
-pub left-sound : (t left : List ℕ) (o : Option State) → isSound t ≡ true → Left t o left → isSound left ≡ true
+pub left-sound : (t left : List ℕ) (o : Option State) → Sound t → Left t o left → Sound left
 left-sound t left none s e = rw e s
 left-sound t left (some st) s e = e .1
 

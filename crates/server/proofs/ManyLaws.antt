@@ -11,14 +11,16 @@ use lib.Seq.{drop-drop, length-take-le, take-append-add, drop-append-add, length
 use Rattle.wire.specs.Codec.{Bytes}
 use Rattle.wire.proofs.Laws.{bytes-drop}
 use Rattle.map.specs.Step.{Context}
-use Rattle.stream.specs.Serve.{room}
+use Rattle.service.specs.Serve.{room}
 use Rattle.map.specs.Reply.{flat}
-use Rattle.stream.specs.Stream.{Done, effectOf, Serves}
-use Rattle.stream.specs.Serve as serving
-use Rattle.stream.specs.Many.{goesOn, Total, only, behind, at, Streams, last, then}
-use Rattle.stream.specs.Sound.{isSound}
-use Rattle.stream.proofs.Sounds.{is-sound}
-use Rattle.stream.proofs.Bounds.{Facts, facts, stays-sound}
+use Rattle.service.specs.Stream.{Done, Serves}
+use Rattle.service.specs.Serve as serving
+use Rattle.service.specs.Many.{goesOn, Total, only, behind, at, Streams, last, then}
+use Rattle.table.specs.Memory.{Sound}
+use Rattle.table.proofs.Lists.{says-no}
+use Rattle.service.proofs.Decides.{isSound}
+use Rattle.service.proofs.Sounds.{tells-sound, effectIn, does-in}
+use Rattle.service.proofs.Bounds.{Facts, facts, stays-sound}
 use Rattle.server.specs.declared.Answer.{Answer}
 use Rattle.server.specs.Answer.{asVerdict, doneOf, CallsAt}
 use Rattle.server.proofs.SendLaws.{id-small}
@@ -27,7 +29,7 @@ module _ (c : Context) (input table lent : List ℕ) where
   -- so many bytes are taken and sent by so many calls, and whatever the calls behind them make, they make it of the whole
   pub record Between (taken size calls : ℕ) (now out : List ℕ) : Type 0 where
     pub whole : (t : Total) → Streams c (drop taken input) now (drop size out) t → Streams c input table lent (behind taken size calls out t)
-    pub sound : isSound now ≡ true
+    pub sound : Sound now
     pub within : taken ≤ length input
     pub sized : size ≤ length out
     pub long : length out ≡ length lent
@@ -41,7 +43,7 @@ module _ (c : Context) (input table lent : List ℕ) where
       let d = zero-add (t .calls) in
       λ i. record { taken = a i; size = b i; calls = d i; verdict = t .verdict; buffer = t .buffer; table = t .table }
 
-  pub begin : isSound table ≡ true → Between 0 0 0 table lent
+  pub begin : Sound table → Between 0 0 0 table lent
   begin s =
       record {
         whole = λ t x. subst (Streams c input table lent) (sym (first t)) x;
@@ -55,20 +57,20 @@ module _ (c : Context) (input table lent : List ℕ) where
 
   module _ (b : Bytes input) (taken size calls : ℕ) (now out : List ℕ) (g : Between taken size calls now out) (d : Done)
       (x : Serves (drop taken input) now (at c (drop size out)) d) (h : room ≤ length (drop size out)) where
-    known : Facts (drop taken input) (effectOf (drop taken input) now (at c (drop size out)))
+    known : Facts (drop taken input) (effectIn (drop taken input) now (at c (drop size out)))
     known = facts (drop taken input) (bytes-drop taken input b) (id-small (drop taken input) (bytes-drop taken input b)) now (at c (drop size out)) d (g .sound) h x
 
     pub takes : taken + d .answer .taken ≤ length input
-    takes = let k = known in omega (arith, g .within, k .within, length-drop taken input, ap (λ (a : serving.Answer). a .taken) (x .answer))
+    takes = let k = known in omega (arith, g .within, k .within, length-drop taken input, ap (λ (a : serving.Answer). a .taken) (does-in x .answer))
 
     pub sends : size + d .size ≤ length out
-    sends = let k = known in omega (arith, g .sized, k .size, x .size, h, length-drop size out)
+    sends = let k = known in omega (arith, g .sized, k .size, does-in x .size, h, length-drop size out)
 
     abbrev filled : List ℕ
     filled = take size out ++ d .buffer
 
     keeps : length (d .buffer) ≡ length (drop size out)
-    keeps = ap length (x .buffer) ∙ length-sets (drop size out) 0 (flat (effectOf (drop taken input) now (at c (drop size out)) .sent))
+    keeps = ap length (does-in x .buffer) ∙ length-sets (drop size out) 0 (flat (effectIn (drop taken input) now (at c (drop size out)) .sent))
 
     pub filled-long : length filled ≡ length lent
     filled-long = omega (arith, length-append (take size out) (d .buffer), length-take-le size out (g .sized), keeps, length-drop size out, g .sized, g .long)
@@ -92,13 +94,13 @@ module _ (c : Context) (input table lent : List ℕ) where
     rest = subst (λ (n : ℕ). drop (n + d .size) filled ≡ drop (d .size) (d .buffer)) front (drop-append-add (take size out) (d .buffer) (d .size))
 
     pub goes : goesOn (d .answer .verdict) ≡ true → 1 ≤ d .answer .taken
-    goes v = let k = known in rw (x .answer) (k .some (sym (ap (λ (a : serving.Answer). goesOn (a .verdict)) (x .answer)) ∙ v))
+    goes v = let k = known in rw (does-in x .answer) (k .some (sym (ap (λ (a : serving.Answer). goesOn (a .verdict)) (does-in x .answer)) ∙ v))
 
-    after-sound : isSound (d .table) ≡ true
+    after-sound : Sound (d .table)
     after-sound = stays-sound (drop taken input) now (at c (drop size out)) d (g .sound) x
 
     pub table-kept : length (d .table) ≡ length table
-    table-kept = is-sound (d .table) after-sound .form .long ∙ (sym (is-sound now (g .sound) .form .long) ∙ g .kept)
+    table-kept = after-sound .form .long ∙ (sym (g .sound .form .long) ∙ g .kept)
 
     -- a call that goes on
     pub on : goesOn (d .answer .verdict) ≡ true → Between (taken + d .answer .taken) (size + d .size) (calls + 1) (d .table) filled
@@ -159,7 +161,8 @@ module _ (c : Context) (input table lent : List ℕ) where
   no-room taken size calls now out g h =
       let s : length (drop size out) < room = simp length-drop (omega arith) in
       let d : Done = record { answer = record { taken = 0; verdict = serving.refused 12 }; size = 0; buffer = drop size out; table = now } in
-      let x : Serves (drop taken input) now (at c (drop size out)) d = rw (lt-ltb (length (drop size out)) room s) (record { answer = refl; size = refl; buffer = refl; table = refl }) in
+      let x : Serves (drop taken input) now (at c (drop size out)) d =
+      record { ok = isSound now; tells = tells-sound now; does = rw (lt-ltb (length (drop size out)) room s) (record { answer = refl; size = refl; buffer = refl; table = refl }) } in
       let y = g .whole (only d) (last x refl) in
       subst (Streams c input table lent) (settled taken size calls now out) y
     where
@@ -177,11 +180,11 @@ module _ (c : Context) (input table lent : List ℕ) where
   unfolding serving.still serving.serve flat
   short h =
       last {input = input} {table = table} {lent = lent} {d = record { answer = record { taken = 0; verdict = serving.refused 12 }; size = 0; buffer = lent; table = table }}
-      (rw (lt-ltb (length lent) room h) (record { answer = refl; size = refl; buffer = refl; table = refl })) refl
+      (record { ok = isSound table; tells = tells-sound table; does = rw (lt-ltb (length lent) room h) (record { answer = refl; size = refl; buffer = refl; table = refl }) }) refl
 
-  pub unsound : room ≤ length lent → isSound table ≡ false
+  pub unsound : room ≤ length lent → (Sound table → ⊥)
       → Streams c input table lent (record { taken = 0; size = 0; calls = 1; verdict = serving.refused 13; buffer = lent; table = table })
   unfolding serving.still serving.serve flat
   unsound h s =
       last {input = input} {table = table} {lent = lent} {d = record { answer = record { taken = 0; verdict = serving.refused 13 }; size = 0; buffer = lent; table = table }}
-      (rw (le-ltb (length lent) room h, s) (record { answer = refl; size = refl; buffer = refl; table = refl })) refl
+      (record { ok = false; tells = says-no s; does = rw (le-ltb (length lent) room h) (record { answer = refl; size = refl; buffer = refl; table = refl }) }) refl

@@ -38,8 +38,8 @@ use Rattle.message.specs.declared.Form.{Form}
 use Rattle.message.specs.declared.Form.the-variants as f
 use Rattle.message.proofs.Form as form-code
 use Rattle.message.proofs.Editions.{code-small}
-use Rattle.stream.specs.Serve as stream
-use Rattle.stream.specs.Serve.{room, errorPieces}
+use Rattle.service.specs.Serve as stream
+use Rattle.service.specs.Serve.{room, errorPieces}
 use Rattle.plan.specs.declared.Held.{Held}
 use Rattle.plan.specs.Plan.{heldAt}
 use Rattle.server.specs.declared.Answer.{Answer}

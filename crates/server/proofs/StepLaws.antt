@@ -21,16 +21,17 @@ use Rattle.map.proofs.Each.{each-without, pairs-without}
 use Rattle.map.proofs.Keeps.{keeps-table}
 use Rattle.table.specs.Memory as memory
 use Rattle.table.specs.Memory.{stateOf, Sound}
-use Rattle.table.specs.Found.{FoundIs, Tells}
+use Rattle.table.specs.Found.{FoundIs}
 use Rattle.table.specs.Change.{Changed, Left, fitsRow, hasRoom, added, removed}
 use Rattle.table.specs.declared.Found.the-variants as f
+use Rattle.table.proofs.Lists.{says-yes, says-no}
 use Rattle.table.proofs.Keys.{found-without, found-less}
-use Rattle.stream.specs.Sound.{isSound}
-use Rattle.stream.specs.Serve as stream
-use Rattle.stream.specs.Serve.{effect, errorPieces, onStep, served}
-use Rattle.stream.specs.Stream as stream-of
-use Rattle.stream.specs.Stream.{Done, Does, Serves}
-use Rattle.stream.proofs.Sounds.{is-sound, sound-is}
+use Rattle.service.specs.Serve as stream
+use Rattle.service.specs.Serve.{effect, errorPieces, onStep, served}
+use Rattle.service.specs.Stream as stream-of
+use Rattle.service.specs.Stream.{Done, Does, Serves}
+use Rattle.service.proofs.Decides.{isSound}
+use Rattle.service.proofs.Sounds.{tells-sound}
 use Rattle.plan.specs.Plan.{isFull, refusalOf}
 use Rattle.server.specs.declared.Answer.{Answer}
 use Rattle.server.specs.Answer.{callOf, doneOf, Says, Sends}
@@ -67,9 +68,9 @@ module _ {t k : List ℕ} (s : Sound t) where
 
 -- a step on a sound table leaves a sound one
 module _ (c : Context) (q : Request) (t : List ℕ) (s : Sound t) (v : Valid request q) (h : c .second < 0x1_0000_0000) where
-  sound-after : {b : map.Answer} {st : State} {t′ : List ℕ} → step c q (stateOf t) ≡ answered b st → Changed t t′ st → (stateOf t′ ≡ st) × (isSound t′ ≡ true)
+  sound-after : {b : map.Answer} {st : State} {t′ : List ℕ} → step c q (stateOf t) ≡ answered b st → Changed t t′ st → (stateOf t′ ≡ st) × Sound t′
   sound-after {b} {st} {t′} e d =
-      (d .state, sound-is t′ (record { form = d .form s; table = rw (d .state) (keeps-table c q (stateOf t) (s .table) b st e v h) }))
+      (d .state, record { form = d .form s; table = rw (d .state) (keeps-table c q (stateOf t) (s .table) b st e v h) })
 
   pub does-answered : {b : map.Answer} {st : State} {n : ℕ} {old new t′ : List ℕ} {a : Answer} → step c q (stateOf t) ≡ answered b st → Sends (pieces q b) n served old new a
       → Changed t t′ st → Does (onStep q n (step c q (stateOf t))) t old (doneOf a new t′)
@@ -188,26 +189,19 @@ module _ (c : Context) (q : Request) (t : List ℕ) (s : Sound t) (v : Valid req
       }
 
 -- a call on a sound table, with room for any reply: what is read says what it does
-pub serves-read : (input t out : List ℕ) (second : ℕ) {d : Done} {x : Read Request} → isSound t ≡ true → stream.room ≤ length out → request .dec input ≡ x
+pub serves-read : (input t out : List ℕ) (second : ℕ) {d : Done} {x : Read Request} → Sound t → stream.room ≤ length out → request .dec input ≡ x
     → Does (stream.onRead input (at second) (stateOf t) x) t out d → Serves input t (callOf second out) d
 unfolding stream.serve
-serves-read input t out second s l e d = rw (le-ltb (length out) stream.room l, s, e) d
+serves-read input t out second s l e d = record { ok = true; tells = says-yes s; does = rw (le-ltb (length out) stream.room l, e) d }
 
 -- and one that is refused before it is read
 pub serves-short : (input t out : List ℕ) (second : ℕ) {a : Answer} → length out < stream.room → Says 0 0 (stream.refused 12) a → Serves input t (callOf second out) (doneOf a out t)
 unfolding stream.serve
-serves-short input t out second l s = rw (lt-ltb (length out) stream.room l) (does-still s)
+serves-short input t out second l s =
+    record { ok = isSound t; tells = tells-sound t; does = rw (lt-ltb (length out) stream.room l) (does-still s) }
 
-pub serves-unsound : (input t out : List ℕ) (second : ℕ) {a : Answer} → stream.room ≤ length out → isSound t ≡ false → Says 0 0 (stream.refused 13) a
+pub serves-unsound : (input t out : List ℕ) (second : ℕ) {a : Answer} → stream.room ≤ length out → (Sound t → ⊥) → Says 0 0 (stream.refused 13) a
     → Serves input t (callOf second out) (doneOf a out t)
 unfolding stream.serve
-serves-unsound input t out second l e s = rw (le-ltb (length out) stream.room l, e) (does-still s)
-
--- a test that tells whether the table is sound
-pub told-sound : (t : List ℕ) (b : Bool) → Tells b (Sound t) → isSound t ≡ b
-told-sound t true h = sound-is t (h .0 refl)
-told-sound t false h = go (isSound t) refl
-  where
-    go : (x : Bool) → isSound t ≡ x → x ≡ false
-    go true e = let z = h .1 (is-sound t e) in never (cc)
-    go false e = refl
+serves-unsound input t out second l e s =
+    record { ok = false; tells = says-no e; does = rw (le-ltb (length out) stream.room l) (does-still s) }

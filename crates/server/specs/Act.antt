@@ -15,8 +15,8 @@ use Rattle.map.specs.Reply.{pieces}
 use Rattle.message.specs.declared.Form.{Form}
 use Rattle.message.specs.declared.Form.the-variants as f
 use Rattle.table.specs.Memory.{stateOf, Sound}
-use Rattle.stream.specs.Serve.{room, served, onStep}
-use Rattle.stream.specs.Stream.{Done, Does}
+use Rattle.service.specs.Serve.{room, served, onStep}
+use Rattle.service.specs.Stream.{Done, Does}
 use Rattle.plan.specs.declared.Held.{Held}
 use Rattle.plan.specs.Plan.{Holds, heldVersion, refusalOf}
 use Rattle.server.specs.declared.Answer.{Answer}

@@ -1,16 +1,15 @@
 -- What the answers of the serving functions say.
 use mathlib.Core.Path.{_≡_}
 use mathlib.Core.List.{List}
-use mathlib.Core.Bool.{true}
 use Prim.Native.Nat.{ℕ, _-_, _≤_}
 use lib.ListN.{length, take, drop}
 use lib.Seq.{sets}
 use Rattle.map.specs.Reply.{Piece, flat}
-use Rattle.stream.specs.Serve as stream
+use Rattle.service.specs.Serve as stream
 use Rattle.map.specs.Step.{Context}
-use Rattle.stream.specs.Sound.{isSound}
-use Rattle.stream.specs.Stream.{Call, Done, Serves}
-use Rattle.stream.specs.Many.{Total}
+use Rattle.table.specs.Memory.{Sound}
+use Rattle.service.specs.Stream.{Call, Done, Serves}
+use Rattle.service.specs.Many.{Total}
 use Rattle.server.specs.declared.Verdict.{Verdict}
 use Rattle.server.specs.declared.Verdict.the-variants as v
 use Rattle.server.specs.declared.Answer.{Answer}
@@ -53,7 +52,7 @@ pub record Sends (ps : List Piece) (n : ℕ) (v : stream.Verdict) (old new : Lis
 
 -- a stream may go on: the table is sound, and there is room behind what is sent
 pub record Ready (input : List ℕ) (taken : ℕ) (table reply : List ℕ) (size : ℕ) : Type 0 where
-  pub sound : isSound table ≡ true
+  pub sound : Sound table
   pub within : taken ≤ length input
   pub sized : size ≤ length reply
   pub room : stream.room ≤ length reply - size

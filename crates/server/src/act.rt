@@ -15,7 +15,6 @@ use plan::Judged;
 use request::RequestRead;
 use table::Table;
 ghost use mathlib.Core.Path.{_≡_};
-ghost use mathlib.Core.Bool.{true};
 ghost use mathlib.Core.List.{List};
 ghost use Prim.Native.Nat.{ℕ, _+_, _≤_, _<_};
 ghost use lib.ListN.{length};
@@ -28,9 +27,8 @@ ghost use Rattle.map.specs.Step as map;
 ghost use Rattle.table.specs.Memory.{stateOf, Sound};
 ghost use Rattle.table.specs.Found.{entryAt};
 ghost use Rattle.table.specs.Change as table;
-ghost use Rattle.stream.specs.Sound.{isSound};
-ghost use Rattle.stream.specs.Serve as stream;
-ghost use Rattle.stream.specs.Stream.{Serves};
+ghost use Rattle.service.specs.Serve as stream;
+ghost use Rattle.service.specs.Stream.{Serves};
 ghost use Rattle.plan.specs.Plan.{asChange, Holds, heldAt};
 ghost use Rattle.server.specs.Answer.{asVerdict, callOf, doneOf, Says, Sends};
 ghost use Rattle.server.specs.Act.{at, valueShown, entryShown, less, after, Planned, Agreed, Given, Replies, Performs};
@@ -213,7 +211,7 @@ pub(crate) fn perform(
 
 // The request at the front of the input.
 pub(crate) fn serve_sound(input: &[u8], t: &mut [u8], second: Second, out: &mut [u8]) -> Answer
-    requires { ⌜ isSound (now t) ≡ true ⌝ }
+    requires { ⌜ Sound (now t) ⌝ }
     requires { ⌜ stream.room ≤ length (now out) ⌝ }
     requires { ⌜ second .0 < 0x1_0000_0000 ⌝ }
     ensures { λ a. ⌜ Serves (now (input .entry)) (now (t .entry)) (callOf (second .0) (now (out .entry))) (doneOf a (now (out .exit)) (now (t .exit))) ⌝ }

@@ -4,8 +4,8 @@ mod lines;
 
 use field::Second;
 ghost use mathlib.Core.Path.{_≡_};
-ghost use Rattle.stream.specs.Stream.{Serves};
-ghost use Rattle.stream.specs.Many.{goesOn, Streams};
+ghost use Rattle.service.specs.Stream.{Serves};
+ghost use Rattle.service.specs.Many.{goesOn, Streams};
 ghost use Rattle.server.specs.Answer.{asVerdict, callOf, doneOf, contextOf, totalOf, Ready, CallsAt};
 ghost use Rattle.server.specs.Lines.{ServesLine, ServesLines};
 

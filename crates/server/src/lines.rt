@@ -9,21 +9,19 @@ use hex::NumberRead;
 use message::Request;
 use request::RequestRead;
 ghost use mathlib.Core.Path.{_≡_};
-ghost use mathlib.Core.Bool.{true};
 ghost use mathlib.Core.List.{[], _∷_, _++_};
 ghost use Prim.Native.Nat.{_+_, _*_, _≤_, _<_};
 ghost use lib.ListN.{length};
 ghost use Rattle.hex.specs.Hex.{toHex};
 ghost use Rattle.wire.specs.Codec.{Valid};
 ghost use Rattle.message.specs.Request.{request, requestIn};
-ghost use Rattle.message.specs.Reply.{errorReply};
-ghost use Rattle.message.specs.Refusal.{refusal};
 ghost use Rattle.message.specs.Start.{idIn};
 ghost use Rattle.map.specs.Step.{step};
-ghost use Rattle.line.specs.Feed.{lineEnd, turnOf};
-ghost use Rattle.line.specs.Turns.{lineRoom};
-ghost use Rattle.table.specs.Memory.{stateOf};
-ghost use Rattle.stream.specs.Sound.{isSound};
+ghost use Rattle.map.specs.Reply.{flat};
+ghost use Rattle.service.specs.Serve.{errorPieces};
+ghost use Rattle.service.specs.Feed.{lineEnd, turnOf};
+ghost use Rattle.service.specs.Turns.{lineRoom};
+ghost use Rattle.table.specs.Memory.{stateOf, Sound};
 ghost use Rattle.server.specs.Lines.{asked, isDue, Formed, Puts, GivesReply, GivesFrame, GivesLine, Counts, TurnDone, TurnsDone};
 
 // What reading the form of a line finds: its second and so many bytes, or another form.
@@ -87,7 +85,7 @@ fn send_error(frame: &[u8], k: u8, out: &mut [u8], at: usize) -> usize
     requires { ⌜ at + lineRoom ≤ length (now out) ⌝ }
     requires { ⌜ 1 ≤ k ⌝ }
     requires { ⌜ k ≤ 11 ⌝ }
-    ensures { λ r. ⌜ Puts (toHex (errorReply .enc (refusal k (idIn (now (frame .entry))))) ++ (0x0a ∷ [])) (now (out .entry)) (now (out .exit)) at r ⌝ }
+    ensures { λ r. ⌜ Puts (toHex (flat (errorPieces k (idIn (now (frame .entry))))) ++ (0x0a ∷ [])) (now (out .entry)) (now (out .exit)) at r ⌝ }
 {
     let mut reply = [0; 512];
     let a = act::refuse(&mut reply, request::read_id(frame), k, 0);
@@ -103,20 +101,20 @@ fn send_reply(
     out: &mut [u8],
     at: usize,
 ) -> usize
-    requires { ⌜ isSound (now t) ≡ true ⌝ }
+    requires { ⌜ Sound (now t) ⌝ }
     requires { ⌜ at + lineRoom ≤ length (now out) ⌝ }
     requires { ⌜ second .0 < 0x1_0000_0000 ⌝ }
     requires { ⌜ Valid request (requestIn (now frame) r) ⌝ }
-    ensures { λ n. ⌜ GivesReply (requestIn (now (frame .entry)) r) (step (asked (second .0) (now (frame .entry)) .context) (requestIn (now (frame .entry)) r) (stateOf (now (t .entry)))) (now (out .entry)) (now (out .exit)) at n (now (t .entry)) (now (t .exit)) ⌝ }
+    ensures { λ n. ⌜ GivesReply (requestIn (now (frame .entry)) r) (length (now (frame .entry))) (step (asked (second .0) (now (frame .entry)) .context) (requestIn (now (frame .entry)) r) (stateOf (now (t .entry)))) (now (out .entry)) (now (out .exit)) at n (now (t .entry)) (now (t .exit)) ⌝ }
 {
     let mut reply = [0; 512];
-    let a = act::perform(frame, r, 0, t, second, &mut reply);
+    let a = act::perform(frame, r, frame.len(), t, second, &mut reply);
     put_reply(&reply[..a.size], out, at)
 }
 
 // The bytes of a line: a whole request with nothing behind it is served.
 fn serve_frame(frame: &[u8], t: &mut [u8], second: Second, out: &mut [u8], at: usize) -> usize
-    requires { ⌜ isSound (now t) ≡ true ⌝ }
+    requires { ⌜ Sound (now t) ⌝ }
     requires { ⌜ at + lineRoom ≤ length (now out) ⌝ }
     requires { ⌜ second .0 < 0x1_0000_0000 ⌝ }
     ensures { λ r. ⌜ GivesFrame (asked (second .0) (now (frame .entry))) (now (out .entry)) (now (out .exit)) at r (now (t .entry)) (now (t .exit)) ⌝ }
@@ -136,7 +134,7 @@ fn serve_frame(frame: &[u8], t: &mut [u8], second: Second, out: &mut [u8], at: u
 
 // A line, without its line end.
 pub(crate) fn line_sound(line: &[u8], t: &mut [u8], out: &mut [u8], at: usize) -> usize
-    requires { ⌜ isSound (now t) ≡ true ⌝ }
+    requires { ⌜ Sound (now t) ⌝ }
     requires { ⌜ at + lineRoom ≤ length (now out) ⌝ }
     ensures { λ r. ⌜ GivesLine (now (line .entry)) (now (out .entry)) (now (out .exit)) at r (now (t .entry)) (now (t .exit)) ⌝ }
 {
@@ -191,7 +189,7 @@ fn is_due(end: usize, len: usize, last: bool) -> bool
 
 // One turn on what is left of a piece.
 fn turn(s: &[u8], t: &mut [u8], out: &mut [u8], at: usize, passing: bool, last: bool) -> Turned
-    requires { ⌜ isSound (now t) ≡ true ⌝ }
+    requires { ⌜ Sound (now t) ⌝ }
     requires { ⌜ at + lineRoom ≤ length (now out) ⌝ }
     ensures { λ r. ⌜ TurnDone (turnOf passing last (now (s .entry)) (stateOf (now (t .entry)))) (now (out .entry)) (now (out .exit)) at r (now (t .entry)) (now (t .exit)) ⌝ }
 {
@@ -214,7 +212,7 @@ fn turn(s: &[u8], t: &mut [u8], out: &mut [u8], at: usize, passing: bool, last: 
 
 // Turns one after the other, as long as there is room for a line.
 pub(crate) fn feed(input: &[u8], t: &mut [u8], out: &mut [u8], passing: bool, last: bool) -> Fed
-    requires { ⌜ isSound (now t) ≡ true ⌝ }
+    requires { ⌜ Sound (now t) ⌝ }
     requires { ⌜ lineRoom ≤ length (now out) ⌝ }
     ensures { λ r. ⌜ TurnsDone last passing (now (input .entry)) (now (t .entry)) (now (out .entry)) (Served.Fed r) (now (out .exit)) (now (t .exit)) ⌝ }
 {

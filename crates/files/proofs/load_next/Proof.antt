@@ -1,7 +1,6 @@
 -- `files::load_next` meets its contract. Assumes nothing.
-use mathlib.Core.Path.{_≡_, refl}
+use mathlib.Core.Path.{_≡_}
 use mathlib.Core.Bool.{true}
-use mathlib.Core.Logic.{inl, inr}
 use native.Mathlib.Omega.{arith}
 use borrow.Author.Tests.{not-true, not-false}
 use Rattle.table.specs.Bytes.{part}
@@ -13,9 +12,6 @@ use Rattle.files.proofs.load_next.Tie as tie
 
 abbrev start : tie.After-load-lines → tie.Start
 start v = v .before .before .before .before .before .before .before .before .before
-
-returns-3 : tie.Need-returns-3
-returns-3 c = inl (record { number = refl; lies = record { order = omega arith; within = omega arith }; short = c .if3 .taken; buffer = refl; table = refl })
 
 loads : (v : tie.After-load-lines) → let a = start v .args in Loads (a .buf .now) (a .table .now) (a .s) (v .load-lines .result) (v .load-lines .last .1 .0)
 unfolding part
@@ -29,19 +25,23 @@ good : (e : tie.Else4) → called e .load-lines .result .good ≡ true
 good e = not-false _ (e .if4 .left)
 
 returns-4 : tie.Need-returns-4
-returns-4 c = inr (is-bad (loads (c .before .before .before .before)) (not-true _ (c .if4 .taken)))
+returns-4 c =
+    let n = c .before .before in
+    rw (c .broken .ensures) (is-bad (loads (n .before .before .before .before)) (not-true _ (n .if4 .taken)))
 
 returns-5 : tie.Need-returns-5
 returns-5 c =
-    let t = c .before .before in
+    let n = c .before .before in
+    let t = n .before .before in
     let e = t .before .before in
-    inr (no-head (loads (called e)) (good e) (t .if5 .taken) (not-true _ (c .if6 .taken)))
+    rw (c .broken2 .ensures) (no-head (loads (called e)) (good e) (t .if5 .taken) (not-true _ (n .if6 .taken)))
 
 returns-6 : tie.Need-returns-6
 returns-6 c =
-    let t = c .before .before .before in
+    let n = c .before .before in
+    let t = n .before .before .before in
     let e = t .before .before in
-    inr (no-end (loads (called e)) (good e) (t .if5 .taken) (c .if7 .taken))
+    rw (c .broken3 .ensures) (no-end (loads (called e)) (good e) (t .if5 .taken) (n .if7 .taken))
 
 returns-7 : tie.Need-returns-7
 returns-7 c =
@@ -51,7 +51,10 @@ returns-7 c =
     all (loads (called e)) (good e) (t .if5 .taken) (not-false _ (b .if6 .left)) (c .if7 .left)
 
 returns-8 : tie.Need-returns-8
-returns-8 c = let e = c .before .before .before in inr (no-line (loads (called e)) (good e) (c .if8 .taken))
+returns-8 c =
+    let n = c .before .before in
+    let e = n .before .before .before in
+    rw (c .broken4 .ensures) (no-line (loads (called e)) (good e) (n .if8 .taken))
 
 returns-9 : tie.Need-returns-9
 returns-9 c =
@@ -66,17 +69,20 @@ load-next-spec =
     (tie.spec
     (λ c. search needs)
     (λ c. search needs)
-    returns-3
     (λ c. search needs)
     (λ c. search needs)
+    (λ c. search needs)
+    (λ c κs. search needs)
     (λ c κs. search needs)
     (λ c. search needs)
     (λ c. search needs)
     returns-4
     (λ c. search needs)
+    (λ c κs. search needs)
     (λ c. search needs)
     (λ c. search needs)
     returns-5
+    (λ c κs. search needs)
     (λ c. search needs)
     (λ c. search needs)
     returns-6
@@ -84,6 +90,7 @@ load-next-spec =
     (λ c. search needs)
     returns-7
     (λ c. search needs)
+    (λ c κs. search needs)
     (λ c. search needs)
     (λ c. search needs)
     returns-8

@@ -1,8 +1,8 @@
 -- `server::serve` meets its contract. Assumes nothing.
-use mathlib.Core.Path.{_∙_}
 use native.Mathlib.Omega.{arith}
 use borrow.Author.Tests.{not-true, not-false}
-use Rattle.server.proofs.StepLaws.{serves-short, serves-unsound, told-sound}
+use Rattle.server.proofs.StepLaws.{serves-short, serves-unsound}
+use Rattle.table.proofs.Lists.{refuted}
 use borrow.Author.Needs.{needs}
 use Rattle.server.proofs.serve.Statement.{statement}
 use Rattle.server.proofs.serve.Tie as tie
@@ -14,13 +14,13 @@ returns-2 : tie.Need-returns-2
 returns-2 c =
     let i = c .before in
     let w = i .before in
-    serves-unsound _ _ _ _ (w .before .before .if1 .left) (told-sound _ _ (w .is-table .ensures) ∙ not-true _ (i .if2 .taken)) (c .still2 .ensures)
+    serves-unsound _ _ _ _ (w .before .before .if1 .left) (refuted (w .is-table .ensures) (not-true _ (i .if2 .taken))) (c .still2 .ensures)
 
 serve-sound-requires : tie.Need-serve-sound-requires
 serve-sound-requires c κs =
     let i = c .before .before in
     let w = i .before in
-    (told-sound _ _ (w .is-table .ensures) ∙ not-false _ (i .if2 .left), (w .before .before .if1 .left, omega arith))
+    (w .is-table .ensures .0 (not-false _ (i .if2 .left)), (w .before .before .if1 .left, omega arith))
 
 returns-3 : tie.Need-returns-3
 returns-3 c = c .before .before .before .before .serve-sound .ensures

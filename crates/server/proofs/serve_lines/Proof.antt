@@ -1,7 +1,6 @@
 -- `server::serve_lines` meets its contract. Assumes nothing.
-use mathlib.Core.Path.{_∙_}
 use borrow.Author.Tests.{not-true, not-false}
-use Rattle.server.proofs.StepLaws.{told-sound}
+use Rattle.table.proofs.Lists.{refuted}
 use Rattle.server.proofs.LineLaws.{if-short, if-unsound, if-sound, unserved}
 use borrow.Author.Needs.{needs}
 use Rattle.server.proofs.serve_lines.Statement.{statement}
@@ -13,21 +12,21 @@ returns c = if-short _ _ _ _ (c .if1 .taken) (unserved _ _ _)
 returns-2 : tie.Need-returns-2
 returns-2 c =
     let w = c .before in
-    if-unsound _ _ _ _ (w .before .before .if1 .left) (told-sound _ _ (w .is-table .ensures) ∙ not-true _ (c .if2 .taken))
+    if-unsound _ _ _ _ (w .before .before .if1 .left) (refuted (w .is-table .ensures) (not-true _ (c .if2 .taken)))
     (unserved _ _ _)
 
 feed-requires : tie.Need-feed-requires
 feed-requires c κs =
     let i = c .before .before in
     let w = i .before in
-    (told-sound _ _ (w .is-table .ensures) ∙ not-false _ (i .if2 .left), w .before .before .if1 .left)
+    (w .is-table .ensures .0 (not-false _ (i .if2 .left)), w .before .before .if1 .left)
 
 returns-3 : tie.Need-returns-3
 returns-3 c =
     let x = c .before .before .before .before in
     let i = x .before .before .before in
     let w = i .before in
-    if-sound _ _ _ _ (w .before .before .if1 .left) (told-sound _ _ (w .is-table .ensures) ∙ not-false _ (i .if2 .left)) (x .feed .ensures)
+    if-sound _ _ _ _ (w .before .before .if1 .left) (w .is-table .ensures .0 (not-false _ (i .if2 .left))) (x .feed .ensures)
 
 pub serve-lines-spec : {M : Type 1} → statement M
 serve-lines-spec =

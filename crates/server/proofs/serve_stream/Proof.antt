@@ -6,9 +6,9 @@ use native.Mathlib.Omega.{arith}
 use lib.ListN.{length, drop, length-drop}
 use borrow.Author.Tests.{not-true, not-false}
 use Rattle.wire.specs.Codec.{Bytes}
-use Rattle.stream.specs.Serve.{room}
+use Rattle.service.specs.Serve.{room}
 use Rattle.server.specs.Answer.{contextOf}
-use Rattle.server.proofs.StepLaws.{told-sound}
+use Rattle.table.proofs.Lists.{refuted}
 use Rattle.server.proofs.ManyLaws.{Between, begin, short, unsound, no-room, call-takes, call-sends, call-kept, call-goes, call-on, call-ends}
 use borrow.Author.Needs.{needs}
 use Rattle.server.proofs.serve_stream.Statement.{statement}
@@ -34,10 +34,10 @@ returns c = rw (c .all-calls .ensures) (short _ _ _ _ (c .before .if1 .taken))
 returns-2 : tie.Need-returns-2 Inv-loop μ-loop
 returns-2 c = let i = c .before in
     let w = i .before in
-    rw (c .all-calls2 .ensures) (unsound _ _ _ _ (w .before .before .if1 .left) (told-sound _ _ (w .is-table .ensures) ∙ not-true _ (i .if2 .taken)))
+    rw (c .all-calls2 .ensures) (unsound _ _ _ _ (w .before .before .if1 .left) (refuted (w .is-table .ensures) (not-true _ (i .if2 .taken))))
 
 loop-holds : tie.Need-loop-holds Inv-loop μ-loop
-loop-holds c = begin _ _ _ _ (told-sound _ _ (c .before .is-table .ensures) ∙ not-false _ (c .if2 .left))
+loop-holds c = begin _ _ _ _ (c .before .is-table .ensures .0 (not-false _ (c .if2 .left)))
 
 sub-loop : tie.Need-sub-loop Inv-loop μ-loop
 sub-loop c = c .loop .inv .sized

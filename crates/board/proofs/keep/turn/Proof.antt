@@ -3,7 +3,6 @@ use Rattle.files.specs.Loading.{done}
 use native.Mathlib.Omega.{arith}
 use Rattle.files.proofs.Ahead.{load-more}
 use Rattle.files.proofs.WindowLaws.{lies-more, long-more}
-use Rattle.files.proofs.LoadLaws.{only-17}
 use borrow.Author.Needs.{needs}
 use Rattle.board.proofs.keep.turn.Statement.{statement}
 use Rattle.board.proofs.keep.turn.Tie as tie
@@ -30,11 +29,17 @@ begin v = v .before .before .before .before .before .before
 
 returns-4 : tie.Need-returns-4
 returns-4 c =
-    let v = c .before .before .before .before .before .before in
-    only-17 (begin v .pre .long) (rw (c .enum-told3 .given .1) at (v .load-next .ensures))
+    let n = c .before in
+    let v = n .before .before .before .before .before .before in
+    rw (n .n2 .given .1) at (v .load-next .ensures)
 
 returns-5 : tie.Need-returns-5
 returns-5 c =
+    let v = c .before .before .before .before .before .before in
+    absurd (omega (arith, (rw (c .enum-told3 .given .1) at (v .load-next .ensures)) .short, begin v .pre .long))
+
+returns-6 : tie.Need-returns-6
+returns-6 c =
     let v = c .before .before .before .before .before .before in
     absurd ((rw (c .enum-told4 .given .1) at (v .load-next .ensures)) .outside (begin v .pre .lies))
 
@@ -56,6 +61,7 @@ turn-spec =
     (λ c. search needs)
     (λ c. search needs)
     (λ c. search needs)
+    (λ c. search needs)
     returns-2
     (λ c. search needs)
     (λ c. search needs)
@@ -65,4 +71,7 @@ turn-spec =
     returns-4
     (λ c. search needs)
     (λ c. search needs)
-    returns-5)
+    returns-5
+    (λ c. search needs)
+    (λ c. search needs)
+    returns-6)

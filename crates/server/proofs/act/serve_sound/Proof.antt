@@ -6,8 +6,7 @@ use Rattle.message.specs.Request.{request, requestIn}
 use Rattle.message.proofs.RequestLaws.{request-laws}
 use Rattle.message.proofs.Refusals.{refusals}
 use Rattle.request.proofs.Spans.{request-in}
-use Rattle.stream.specs.Serve.{onRead}
-use Rattle.stream.proofs.Sounds.{is-sound}
+use Rattle.service.specs.Serve.{onRead}
 use Rattle.server.proofs.SendLaws.{id-small}
 use Rattle.server.proofs.StepLaws.{does, does-still, serves-read}
 use borrow.Author.Needs.{needs}
@@ -32,7 +31,7 @@ perform-requires c κs =
     let w = c .before .before .before in
     let r = w .before .before in
     let s = begin r in
-    (record { sound = is-sound _ (s .pre .0); room = s .pre .1 .0; second = s .pre .1 .1 }, request-laws .exact _ _ _ (bytes r) (found w) .good)
+    (record { sound = s .pre .0; room = s .pre .1 .0; second = s .pre .1 .1 }, request-laws .exact _ _ _ (bytes r) (found w) .good)
 
 returns : tie.Need-returns
 unfolding onRead

@@ -1,6 +1,6 @@
 -- `server::lines::is_due` meets its contract. Assumes nothing.
 use borrow.Author.Tests.{lt-ltb, le-ltb}
-use Rattle.line.specs.Line.{longest}
+use Rattle.service.specs.Line.{longest}
 use Rattle.server.specs.Lines.{isDue}
 use Rattle.server.proofs.lines.is_due.Statement.{statement}
 use Rattle.server.proofs.lines.is_due.Tie as tie

@@ -3,9 +3,9 @@ use mathlib.Core.Path.{_≡_}
 use native.Mathlib.Omega.{arith}
 use lib.ListN.{take}
 use Rattle.wire.specs.Codec.{Bytes}
-use Rattle.message.specs.Reply.{errorReply}
-use Rattle.message.specs.Refusal.{refusal}
 use Rattle.message.specs.Start.{idIn}
+use Rattle.map.specs.Reply.{flat}
+use Rattle.service.specs.Serve.{errorPieces}
 use Rattle.server.proofs.SendLaws.{id-small}
 use Rattle.server.proofs.LineLaws.{Short, error-in}
 use borrow.Author.Needs.{needs}
@@ -25,7 +25,7 @@ refuse-requires c κs =
 
 -- the reply in its buffer
 reply : (c : tie.After-refuse) → let s = begin (c .before) in
-    (take (c .refuse .result .size) (c .refuse .last .0) ≡ errorReply .enc (refusal (s .args .k) (idIn (s .args .frame .now)))) × Short (c .refuse .result .size) (c .refuse .last .0)
+    (take (c .refuse .result .size) (c .refuse .last .0) ≡ flat (errorPieces (s .args .k) (idIn (s .args .frame .now)))) × Short (c .refuse .result .size) (c .refuse .last .0)
 reply c =
     let w = c .before in
     let s = begin w in

@@ -1,4 +1,0 @@
-pub mod Line
-pub mod Feed
-pub mod Vectors
-pub mod Turns

@@ -1,0 +1,15 @@
+pub mod Decides
+pub mod Sounds
+pub mod Calls
+pub mod Like
+pub mod After
+pub mod Own
+pub mod Ahead
+pub mod Served
+pub mod Demand3
+pub mod Determined
+pub mod Exist
+pub mod Bounds
+pub mod Once
+pub mod Pieces
+pub mod Edges

@@ -151,7 +151,7 @@ static void stream(void) {
     SAME(answer[2], 3);
     SAME(fq_serve_stream(row, 16, other, sizeof other, 0, reply, sizeof reply, answer, FQ_STREAM_TOLD), 0);
     SAME(answer[0], 16);
-    SAME(fq_serve_stream(row, 16, other, sizeof other, 0, reply, FQ_REPLY_ROOM, answer, FQ_STREAM_TOLD), FQ_FULL);
+    SAME(fq_serve_stream(row, 16, other, sizeof other, 0, reply, FQ_REPLY_ROOM, answer, FQ_STREAM_TOLD), FQ_REPLY_FULL);
     SAME(answer[0], 16);
     SAME(answer[2], 1);
     SAME(fq_serve_stream(row, 16, other, sizeof other, 0, reply, FQ_REPLY_ROOM - 1, answer, FQ_STREAM_TOLD), FQ_NO_ROOM);

@@ -12,6 +12,7 @@
        0               more bytes are needed
        1 to 17         refused; the numbers are those of enum fq_refusal
        FQ_DONE + n     done, with n bytes read or written; n is 0 where a function says so
+       FQ_REPLY_FULL   fq_serve_stream alone: `reply` has to be emptied
 
    and a refused call changes neither a table nor a buffer, save for the error reply where fq_serve or fq_serve_stream sends one.
 
@@ -29,6 +30,7 @@ extern "C" {
 #endif
 
 #define FQ_DONE 256
+#define FQ_REPLY_FULL 257
 
 #define FQ_TABLE_SIZE 45072     /* bytes of a table */
 #define FQ_TABLE_KEYS 128       /* keys that a table holds at most */
@@ -106,8 +108,9 @@ uint64_t fq_serve(const uint8_t *input, size_t input_len, uint8_t *table, size_t
                   uint64_t *answer, size_t answer_len);
 
 /* Serves the requests of the input one after the other, and answers as the last call does: 0 where what is left is no whole request, or nothing, 1 to 8
-   where the stream ends, 12 where less than FQ_REPLY_ROOM bytes of `reply` are left, or 13. The table is checked once. Told: bytes taken, bytes of
-   the replies, and how many calls there were, the last one among them. */
+   where the stream ends, 12 where `reply` has less than FQ_REPLY_ROOM bytes, or 13. FQ_REPLY_FULL where less than that are left behind the replies: no
+   further call was made; take the replies out and call again with the input behind the bytes taken. The table is checked once. Told: bytes taken,
+   bytes of the replies, and how many calls there were. */
 uint64_t fq_serve_stream(const uint8_t *input, size_t input_len, uint8_t *table, size_t table_len, uint32_t second, uint8_t *reply, size_t reply_len,
                          uint64_t *answer, size_t answer_len);
 

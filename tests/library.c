@@ -151,6 +151,10 @@ static void stream(void) {
     SAME(answer[2], 3);
     SAME(fq_serve_stream(row, 16, other, sizeof other, 0, reply, sizeof reply, answer, FQ_STREAM_TOLD), 0);
     SAME(answer[0], 16);
+    SAME(fq_serve_stream(row, 16, other, sizeof other, 0, reply, FQ_REPLY_ROOM, answer, FQ_STREAM_TOLD), FQ_REPLY_FULL);
+    SAME(answer[0], 16);
+    SAME(answer[2], 1);
+    SAME(fq_serve_stream(row, 16, other, sizeof other, 0, reply, FQ_REPLY_ROOM - 1, answer, FQ_STREAM_TOLD), FQ_NO_ROOM);
     SAME(fq_serve(row + 16, 10, other, sizeof other, 0, reply, FQ_REPLY_ROOM, answer, FQ_SERVE_TOLD), FQ_NO_SUCH_CACHE);
     SAME(answer[0], 10);
     SAME(fq_serve(row, 16, other, sizeof other, 0, reply, FQ_REPLY_ROOM - 1, answer, FQ_SERVE_TOLD), FQ_NO_ROOM);

@@ -7,7 +7,7 @@ use Rattle.wire.specs.Write.{Sent}
 use Rattle.map.specs.Step.{Context}
 use Rattle.table.specs.declared.Outcome.{Outcome}
 use Rattle.table.specs.declared.Outcome.the-variants as o
-use Rattle.service.specs.Serve.{Verdict, served, more, refused}
+use Rattle.service.specs.Serve.{Verdict, served, more, refused, full}
 use Rattle.service.specs.Stream.{Call, Done, Serves}
 use Rattle.service.specs.Many.{Total, Streams}
 use Rattle.server.specs.declared.Served.{Served}
@@ -21,6 +21,7 @@ abbrev pub verdictCode : Verdict → ℕ
 verdictCode served = 256
 verdictCode more = 0
 verdictCode (refused k) = k
+verdictCode full = 257
 
 -- the reply buffer and the table that a call leaves, the numbers of its answer told, and its code
 pub record TellsDone (input t : List ℕ) (c : Call) (out t' old new : List ℕ) (n : ℕ) : Type 0 where
@@ -34,7 +35,7 @@ pub record TellsDone (input t : List ℕ) (c : Call) (out t' old new : List ℕ)
 -- the same of calls one after the other, with how many there were
 pub record TellsTotal (c : Context) (input t lent out t' old new : List ℕ) (n : ℕ) : Type 0 where
   pub total : Total
-  pub streams : Streams c input t lent total
+  pub streams : Streams c false input t lent total
   pub buffer : out ≡ total .buffer
   pub table : t' ≡ total .table
   pub told : new ≡ tell (total .taken ∷ total .size ∷ total .calls ∷ []) old

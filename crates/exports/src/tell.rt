@@ -95,6 +95,7 @@ pub(crate) fn verdict(v: Verdict) -> u64
         Verdict::Served => 256,
         Verdict::More => 0,
         Verdict::Refused(k) => k as u64,
+        Verdict::Full => 257,
     }
 }
 

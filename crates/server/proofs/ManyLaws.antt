@@ -1,9 +1,10 @@
 -- What a loop of calls knows between two of them. Assumes nothing.
 use mathlib.Core.Path.{_≡_, refl, sym, ap, subst, subst₂, _∙_}
 use mathlib.Core.List.{List, _++_, append-assoc}
-use mathlib.Core.Bool.{true, false}
+use mathlib.Core.Bool.{Bool, true, false, _&&_, _||_}
 use Prim.Native.Nat.{ℕ, _+_, _-_, _≤_, _<_}
-use borrow.Author.Tests.{lt-ltb, le-ltb}
+use lib.Dec.{ltb}
+use borrow.Author.Tests.{lt-ltb, le-ltb, ltb-true, ltb-false}
 use native.Mathlib.Nat.{zero-add, add-zero, add-assoc}
 use native.Mathlib.Omega.{arith}
 use lib.ListN.{length, take, drop, length-drop, length-append, take-append-drop}
@@ -15,7 +16,7 @@ use Rattle.service.specs.Serve.{room}
 use Rattle.map.specs.Reply.{flat}
 use Rattle.service.specs.Stream.{Done, Serves}
 use Rattle.service.specs.Serve as serving
-use Rattle.service.specs.Many.{goesOn, Total, only, behind, at, Streams, last, then}
+use Rattle.service.specs.Many.{goesOn, isShort, Total, only, behind, at, nothing, Streams, waits, last, then}
 use Rattle.table.specs.Memory.{Sound}
 use Rattle.table.proofs.Lists.{says-no}
 use Rattle.service.proofs.Decides.{isSound}
@@ -25,10 +26,18 @@ use Rattle.server.specs.declared.Answer.{Answer}
 use Rattle.server.specs.Answer.{asVerdict, doneOf, CallsAt}
 use Rattle.server.proofs.SendLaws.{id-small}
 
+both-some : (a b : ℕ) → (ltb 0 a || ltb 0 b) ≡ ltb 0 (a + b)
+both-some a b = go (ltb 0 a) (ltb 0 b) refl refl
+  where
+    go : (x y : Bool) → ltb 0 a ≡ x → ltb 0 b ≡ y → (x || y) ≡ ltb 0 (a + b)
+    go true y e f = sym (lt-ltb 0 (a + b) (omega (arith, ltb-true 0 a e)))
+    go false true e f = sym (lt-ltb 0 (a + b) (omega (arith, ltb-true 0 b f)))
+    go false false e f = sym (le-ltb 0 (a + b) (omega (arith, ltb-false 0 a e, ltb-false 0 b f)))
+
 module _ (c : Context) (input table lent : List ℕ) where
   -- so many bytes are taken and sent by so many calls, and whatever the calls behind them make, they make it of the whole
   pub record Between (taken size calls : ℕ) (now out : List ℕ) : Type 0 where
-    pub whole : (t : Total) → Streams c (drop taken input) now (drop size out) t → Streams c input table lent (behind taken size calls out t)
+    pub whole : (t : Total) → Streams c (ltb 0 size) (drop taken input) now (drop size out) t → Streams c false input table lent (behind taken size calls out t)
     pub sound : Sound now
     pub within : taken ≤ length input
     pub sized : size ≤ length out
@@ -46,7 +55,7 @@ module _ (c : Context) (input table lent : List ℕ) where
   pub begin : Sound table → Between 0 0 0 table lent
   begin s =
       record {
-        whole = λ t x. subst (Streams c input table lent) (sym (first t)) x;
+        whole = λ t x. subst (Streams c false input table lent) (sym (first t)) x;
         sound = s;
         within = omega arith;
         sized = omega arith;
@@ -93,8 +102,12 @@ module _ (c : Context) (input table lent : List ℕ) where
     rest : drop (size + d .size) filled ≡ drop (d .size) (d .buffer)
     rest = subst (λ (n : ℕ). drop (n + d .size) filled ≡ drop (d .size) (d .buffer)) front (drop-append-add (take size out) (d .buffer) (d .size))
 
-    pub goes : goesOn (d .answer .verdict) ≡ true → 1 ≤ d .answer .taken
-    goes v = let k = known in rw (does-in x .answer) (k .some (sym (ap (λ (a : serving.Answer). goesOn (a .verdict)) (does-in x .answer)) ∙ v))
+    -- there is room, so it is not refused 12
+    roomy : isShort (d .answer .verdict) && ltb 0 size ≡ false
+    roomy = let k = known in rw (does-in x .answer, k .roomy)
+
+    used : (ltb 0 size || ltb 0 (d .size)) ≡ ltb 0 (size + d .size)
+    used = both-some size (d .size)
 
     after-sound : Sound (d .table)
     after-sound = stays-sound (drop taken input) now (at c (drop size out)) d (g .sound) x
@@ -103,25 +116,26 @@ module _ (c : Context) (input table lent : List ℕ) where
     table-kept = after-sound .form .long ∙ (sym (g .sound .form .long) ∙ g .kept)
 
     -- a call that goes on
-    pub on : goesOn (d .answer .verdict) ≡ true → Between (taken + d .answer .taken) (size + d .size) (calls + 1) (d .table) filled
+    pub on : 0 < d .answer .taken → Between (taken + d .answer .taken) (size + d .size) (calls + 1) (d .table) filled
     on v =
         record {
           whole = λ t y.
-              subst (Streams c input table lent) (joins t)
+              subst (Streams c false input table lent) (joins t)
               (g .whole _
-              (then x v (subst₂ (λ (i l : List ℕ). Streams c i (d .table) l t) (sym (drop-drop (d .answer .taken) taken input)) rest y)));
+              (then x roomy (lt-ltb 0 (d .answer .taken) v) (rw used
+              (subst₂ (λ (i l : List ℕ). Streams c (ltb 0 (size + d .size)) i (d .table) l t) (sym (drop-drop (d .answer .taken) taken input)) rest y))));
           sound = after-sound;
           within = takes;
           sized = omega (arith, sends, filled-long, g .long);
           long = filled-long;
-          few = omega (arith, g .few, goes v);
+          few = omega (arith, g .few);
           kept = table-kept;
         }
 
     -- the last call
-    pub ends : goesOn (d .answer .verdict) ≡ false
-        → Streams c input table lent (record { taken = taken + d .answer .taken; size = size + d .size; calls = calls + 1; verdict = d .answer .verdict; buffer = filled; table = d .table })
-    ends v = g .whole (only d) (last x v)
+    pub ends : d .answer .taken ≡ 0
+        → Streams c false input table lent (record { taken = taken + d .answer .taken; size = size + d .size; calls = calls + 1; verdict = d .answer .verdict; buffer = filled; table = d .table })
+    ends v = g .whole (only d) (last x roomy (le-ltb 0 (d .answer .taken) (omega arith)))
 
   -- the same of a call of the code, whose buffer is new
   module _ (b : Bytes input) (taken size calls : ℕ) (now out : List ℕ) (g : Between taken size calls now out) (a : Answer) (new after : List ℕ)
@@ -141,50 +155,47 @@ module _ (c : Context) (input table lent : List ℕ) where
     pub call-kept : length after ≡ length table
     call-kept = table-kept b taken size calls now out g d (x .serves) h
 
-    pub call-goes : goesOn (asVerdict (a .verdict)) ≡ true → 1 ≤ a .taken
-    call-goes v = goes b taken size calls now out g d (x .serves) h v
-
-    pub call-on : goesOn (asVerdict (a .verdict)) ≡ true → Between (taken + a .taken) (size + a .size) (calls + 1) after new
+    pub call-on : 0 < a .taken → Between (taken + a .taken) (size + a .size) (calls + 1) after new
     call-on v = subst (Between (taken + a .taken) (size + a .size) (calls + 1) after) same (on b taken size calls now out g d (x .serves) h v)
 
-    pub call-ends : goesOn (asVerdict (a .verdict)) ≡ false
-        → Streams c input table lent (record { taken = taken + a .taken; size = size + a .size; calls = calls + 1; verdict = asVerdict (a .verdict); buffer = new; table = after })
+    pub call-ends : a .taken ≡ 0
+        → Streams c false input table lent (record { taken = taken + a .taken; size = size + a .size; calls = calls + 1; verdict = asVerdict (a .verdict); buffer = new; table = after })
     call-ends v =
         subst
-        (λ (l : List ℕ). Streams c input table lent (record { taken = taken + a .taken; size = size + a .size; calls = calls + 1; verdict = asVerdict (a .verdict); buffer = l; table = after }))
+        (λ (l : List ℕ). Streams c false input table lent (record { taken = taken + a .taken; size = size + a .size; calls = calls + 1; verdict = asVerdict (a .verdict); buffer = l; table = after }))
         same (ends b taken size calls now out g d (x .serves) h v)
 
-  -- no room for a further call
-  pub no-room : (taken size calls : ℕ) (now out : List ℕ) → Between taken size calls now out → length out - size < room
-      → Streams c input table lent (record { taken = taken; size = size; calls = calls + 1; verdict = serving.refused 12; buffer = out; table = now })
+  -- no room for a further call, in a buffer that had room
+  pub no-room : (taken size calls : ℕ) (now out : List ℕ) → Between taken size calls now out → room ≤ length lent → length out - size < room
+      → Streams c false input table lent (record { taken = taken; size = size; calls = calls; verdict = serving.full; buffer = out; table = now })
   unfolding serving.still serving.serve flat
-  no-room taken size calls now out g h =
+  no-room taken size calls now out g l h =
       let s : length (drop size out) < room = simp length-drop (omega arith) in
       let d : Done = record { answer = record { taken = 0; verdict = serving.refused 12 }; size = 0; buffer = drop size out; table = now } in
       let x : Serves (drop taken input) now (at c (drop size out)) d =
       record { ok = isSound now; tells = tells-sound now; does = rw (lt-ltb (length (drop size out)) room s) (record { answer = refl; size = refl; buffer = refl; table = refl }) } in
-      let y = g .whole (only d) (last x refl) in
-      subst (Streams c input table lent) (settled taken size calls now out) y
+      let y = g .whole (nothing (drop size out) now) (waits x (lt-ltb 0 size (omega (arith, g .long)))) in
+      subst (Streams c false input table lent) (settled taken size calls now out) y
     where
       settled : (taken size calls : ℕ) (now out : List ℕ)
-          → behind taken size calls out (record { taken = 0; size = 0; calls = 1; verdict = serving.refused 12; buffer = drop size out; table = now })
-          ≡ record { taken = taken; size = size; calls = calls + 1; verdict = serving.refused 12; buffer = out; table = now }
+          → behind taken size calls out (nothing (drop size out) now) ≡ record { taken = taken; size = size; calls = calls; verdict = serving.full; buffer = out; table = now }
       settled taken size calls now out =
           let p = add-zero taken in
           let q = add-zero size in
+          let n = add-zero calls in
           let r = take-append-drop size out in
-          λ i. record { taken = p i; size = q i; calls = calls + 1; verdict = serving.refused 12; buffer = r i; table = now }
+          λ i. record { taken = p i; size = q i; calls = n i; verdict = serving.full; buffer = r i; table = now }
 
   -- one call that is refused for want of room, or because the table is not sound
-  pub short : length lent < room → Streams c input table lent (record { taken = 0; size = 0; calls = 1; verdict = serving.refused 12; buffer = lent; table = table })
+  pub short : length lent < room → Streams c false input table lent (record { taken = 0; size = 0; calls = 1; verdict = serving.refused 12; buffer = lent; table = table })
   unfolding serving.still serving.serve flat
   short h =
       last {input = input} {table = table} {lent = lent} {d = record { answer = record { taken = 0; verdict = serving.refused 12 }; size = 0; buffer = lent; table = table }}
-      (record { ok = isSound table; tells = tells-sound table; does = rw (lt-ltb (length lent) room h) (record { answer = refl; size = refl; buffer = refl; table = refl }) }) refl
+      (record { ok = isSound table; tells = tells-sound table; does = rw (lt-ltb (length lent) room h) (record { answer = refl; size = refl; buffer = refl; table = refl }) }) refl refl
 
   pub unsound : room ≤ length lent → (Sound table → ⊥)
-      → Streams c input table lent (record { taken = 0; size = 0; calls = 1; verdict = serving.refused 13; buffer = lent; table = table })
+      → Streams c false input table lent (record { taken = 0; size = 0; calls = 1; verdict = serving.refused 13; buffer = lent; table = table })
   unfolding serving.still serving.serve flat
   unsound h s =
       last {input = input} {table = table} {lent = lent} {d = record { answer = record { taken = 0; verdict = serving.refused 13 }; size = 0; buffer = lent; table = table }}
-      (record { ok = false; tells = says-no s; does = rw (le-ltb (length lent) room h) (record { answer = refl; size = refl; buffer = refl; table = refl }) }) refl
+      (record { ok = false; tells = says-no s; does = rw (le-ltb (length lent) room h) (record { answer = refl; size = refl; buffer = refl; table = refl }) }) refl refl

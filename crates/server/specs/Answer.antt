@@ -19,6 +19,7 @@ abbrev pub asVerdict : Verdict → stream.Verdict
 asVerdict v.Served = stream.served
 asVerdict v.More = stream.more
 asVerdict (v.Refused k) = stream.refused k
+asVerdict v.Full = stream.full
 
 abbrev pub asAnswer : Answer → stream.Answer
 asAnswer a = record { taken = a .taken; verdict = asVerdict (a .verdict) }

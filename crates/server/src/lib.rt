@@ -4,16 +4,18 @@ mod lines;
 
 use field::Second;
 ghost use mathlib.Core.Path.{_≡_};
+ghost use mathlib.Core.Bool.{false};
 ghost use Rattle.service.specs.Stream.{Serves};
-ghost use Rattle.service.specs.Many.{goesOn, Streams};
-ghost use Rattle.server.specs.Answer.{asVerdict, callOf, doneOf, contextOf, totalOf, Ready, CallsAt};
+ghost use Rattle.service.specs.Many.{Streams};
+ghost use Rattle.server.specs.Answer.{callOf, doneOf, contextOf, totalOf, Ready, CallsAt};
 ghost use Rattle.server.specs.Lines.{ServesLine, ServesLines};
 
-// How a call ended.
+// How a call ended, or a stream: full is a stream that needs an emptied reply buffer.
 pub enum Verdict {
     Served,
     More,
     Refused(u8),
+    Full,
 }
 
 // The answer of a call: the bytes of the input that it took, the bytes of the reply, and how it ended.
@@ -41,23 +43,12 @@ pub fn serve(input: &[u8], table: &mut [u8], second: u32, reply: &mut [u8]) -> A
     act::serve_sound(input, table, Second(second as u64), reply)
 }
 
-// What a stream of calls gives: the bytes taken and sent by all of them, how many there were, and how the last one ended.
+// What a stream of calls gives: the bytes taken and sent by all of them, how many there were, and how the last one ended, or that the buffer is full.
 pub struct Streamed {
     pub taken: usize,
     pub size: usize,
     pub calls: usize,
     pub verdict: Verdict,
-}
-
-// "After 1 to 8 a stream is closed. After 9 to 11 it goes on."
-fn goes_on(v: Verdict) -> bool
-    ensures { λ r. ⌜ r ≡ goesOn (asVerdict v) ⌝ }
-{
-    match v {
-        Verdict::Served => true,
-        Verdict::More => false,
-        Verdict::Refused(k) => 9 <= k && k <= 11,
-    }
 }
 
 fn all_calls(taken: usize, size: usize, calls: usize, verdict: Verdict) -> Streamed
@@ -91,9 +82,10 @@ fn call_at(
     )
 }
 
-// Calls one after the other at one second, each on what the last one left, with one check of the table.
+// Calls one after the other at one second, each on what the last one left, with one check of the table. "After 1 to 8 a stream is closed. After 9 to 11
+// it goes on": it goes on behind a call that took bytes.
 pub fn serve_stream(input: &[u8], table: &mut [u8], second: u32, reply: &mut [u8]) -> Streamed
-    ensures { λ r. ⌜ Streams (contextOf second) (now (input .entry)) (now (table .entry)) (now (reply .entry)) (totalOf r (now (reply .exit)) (now (table .exit))) ⌝ }
+    ensures { λ r. ⌜ Streams (contextOf second) false (now (input .entry)) (now (table .entry)) (now (reply .entry)) (totalOf r (now (reply .exit)) (now (table .exit))) ⌝ }
 {
     if reply.len() < Answer::ROOM {
         return all_calls(0, 0, 1, Verdict::Refused(12));
@@ -109,12 +101,12 @@ pub fn serve_stream(input: &[u8], table: &mut [u8], second: u32, reply: &mut [u8
         taken = taken + a.taken;
         size = size + a.size;
         calls = calls + 1;
-        let v = a.verdict;
-        if !goes_on(v) {
+        if a.taken == 0 {
+            let v = a.verdict;
             return all_calls(taken, size, calls, v);
         }
     }
-    all_calls(taken, size, calls + 1, Verdict::Refused(12))
+    all_calls(taken, size, calls, Verdict::Full)
 }
 
 // What serving a line answers: how many bytes it wrote, or the refusal for which it wrote none.

@@ -1,22 +1,19 @@
 -- What a call on a sound table with room enough takes and sends. Assumes nothing.
-use mathlib.Core.Path.{_≡_, refl, sym, ap, _∙_}
-use mathlib.Core.List.{List, [], _∷_, append-nil}
+use mathlib.Core.Path.{_≡_, refl}
+use mathlib.Core.List.{List, append-nil}
 use mathlib.Core.Bool.{Bool, true, false, cond}
 use mathlib.Core.Option.{none, some}
 use Prim.Native.Nat.{ℕ, _≤_, _<_}
 use native.Mathlib.Omega.{arith}
 use lib.ListN.{length}
-use lib.Seq.{length-take-le}
 use lib.Dec.{ltb}
-use borrow.Author.Tests.{le-ltb, lt-leb}
+use borrow.Author.Tests.{le-ltb, ne-eqb}
 use Rattle.wire.specs.Codec as wire
 use Rattle.wire.specs.Codec.{Read, Valid, Bytes}
-use Rattle.wire.proofs.Laws.{never}
 use Rattle.message.specs.Request.{Request, request, isEmpty}
 use Rattle.message.specs.Reply.{errorReply}
 use Rattle.message.specs.Refusal.{refusal}
 use Rattle.message.proofs.RequestLaws.{request-laws}
-use Rattle.message.proofs.Lists.{some-byte}
 use Rattle.message.proofs.Sizes.{request-small}
 use Rattle.message.proofs.Refusals.{refusals}
 use Rattle.message.proofs.ReplySize.{error-most}
@@ -32,7 +29,7 @@ use Rattle.map.proofs.Format.{answer-most}
 use Rattle.table.specs.Memory.{stateOf, Sound}
 use Rattle.service.specs.Serve.{Effect, refused, errorPieces, still, onStep, onRead, serve, room}
 use Rattle.service.specs.Stream.{Call, Done, Left, Serves}
-use Rattle.service.specs.Many.{goesOn}
+use Rattle.service.specs.Many.{isShort}
 use Rattle.service.proofs.Sounds.{sound-is, effectIn, does-in}
 
 -- a step is refused by 9, 10 or 11
@@ -63,46 +60,36 @@ error-size k id l h i =
 
 pub record Facts (input : List ℕ) (e : Effect) : Type 0 where
   pub within : e .answer .taken ≤ length input
-  pub some : goesOn (e .answer .verdict) ≡ true → 1 ≤ e .answer .taken
+  pub roomy : isShort (e .answer .verdict) ≡ false
   pub size : length (flat (e .sent)) ≤ room
 
 module _ (input : List ℕ) (b : Bytes input) (small : idIn input < 0x8000_0000_0000_0000) (c : Context) (st : State) (s : IsTable st) where
-  some-bytes : (r : Request) (n : ℕ) → request .dec input ≡ wire.whole r n → 1 ≤ n
-  some-bytes r n e =
-      let x = request-laws .exact input r n b e in
-      let l = length-take-le n input (request-laws .spans input r n e) in
-      go (request .enc r) refl (ap length (sym (x .same)) ∙ l) (x .good)
-    where
-      go : (w : List ℕ) → request .enc r ≡ w → length w ≡ n → Valid request r → 1 ≤ n
-      go [] q p v = absurd (some-byte r v [] (append-nil (request .enc r) ∙ q))
-      go (y ∷ w) q p v = omega (arith, p)
-
   facts-step : (r : Request) (n : ℕ) → request .dec input ≡ wire.whole r n → (o : Outcome) → step c r st ≡ o → Late o → Facts input (onStep r n o)
   unfolding onStep
   facts-step r n e (map-step.refused k) q h =
       let v = request-laws .exact input r n b e .good in
       record {
         within = request-laws .spans input r n e;
-        some = λ _. some-bytes r n e;
+        roomy = ne-eqb k 12 (λ q. omega (arith, h .1));
         size = omega (arith, error-size k (r .id) (omega (arith, h .0)) (h .1) (request-small r v .id));
       }
   facts-step r n e (answered a t) q h =
       let v = request-laws .exact input r n b e .good in
       record {
         within = request-laws .spans input r n e;
-        some = λ _. some-bytes r n e;
+        roomy = refl;
         size = rw (did c r st a t q .same) (omega (arith, answer-most r st v s));
       }
 
   facts-read : (x : Read Request) → request .dec input ≡ x → Facts input (onRead input c st x)
   unfolding onRead still flat
   facts-read (wire.whole r n) e = facts-step r n e (step c r st) refl (late c r st)
-  facts-read wire.more e = record { within = omega arith; some = λ g. never (cc); size = omega arith }
+  facts-read wire.more e = record { within = omega arith; roomy = refl; size = omega arith }
   facts-read (wire.refused k) e =
       let l = refusals input k e in
       record {
         within = omega arith;
-        some = λ g. never (let z : goesOn (refused k) ≡ false = rw (lt-leb 9 k (omega (arith, l .1))) in cc);
+        roomy = ne-eqb k 12 (λ q. omega (arith, l .1));
         size = omega (arith, error-size k (idIn input) (l .0) (omega (arith, l .1)) small);
       }
 

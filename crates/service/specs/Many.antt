@@ -2,19 +2,24 @@
 -- behind the bytes sent.
 use mathlib.Core.Path.{_≡_}
 use mathlib.Core.List.{List, _++_}
-use mathlib.Core.Bool.{Bool, true, false, _&&_}
+use mathlib.Core.Bool.{Bool, true, false, _&&_, _||_}
 use Prim.Native.Nat.{ℕ, suc, _+_}
 use lib.ListN.{take, drop}
-use lib.Dec.{leb}
+use lib.Dec.{eqb, ltb}
 use Rattle.map.specs.Step.{Context}
-use Rattle.service.specs.Serve.{Verdict, served, more, refused}
+use Rattle.service.specs.Serve.{Answer, Verdict, served, more, refused, full}
 use Rattle.service.specs.Stream.{Call, Done, Serves}
 
--- "After 1 to 8 a stream is closed: nothing behind it is read. After 9 to 11 it goes on." Where more is needed, and after 12 and 13, it ends too.
-abbrev pub goesOn : Verdict → Bool
-goesOn served = true
-goesOn more = false
-goesOn (refused k) = leb 9 k && leb k 11
+-- "After 1 to 8 a stream is closed: nothing behind it is read. After 9 to 11 it goes on." It goes on behind a call that took bytes.
+abbrev pub goesOn : Answer → Bool
+goesOn a = ltb 0 (a .taken)
+
+-- 12: the reply buffer is too short
+abbrev pub isShort : Verdict → Bool
+isShort served = false
+isShort more = false
+isShort (refused k) = eqb k 12
+isShort full = false
 
 -- what all calls together took and sent, how many there were, how the last one ended, and what they left
 pub record Total : Type 0 where
@@ -43,9 +48,18 @@ behind taken size calls buffer t =
 abbrev pub at : Context → List ℕ → Call
 at c buffer = record { context = c; buffer = buffer }
 
--- what the function `serve_stream` ensures, literally
-pub data Streams (c : Context) : List ℕ → List ℕ → List ℕ → Total → Type 0 where
-  last : {input table lent : List ℕ} {d : Done} → Serves input table (at c lent) d → goesOn (d .answer .verdict) ≡ false → Streams c input table lent (only d)
-  then : {input table lent : List ℕ} {d : Done} {t : Total} → Serves input table (at c lent) d → goesOn (d .answer .verdict) ≡ true
-      → Streams c (drop (d .answer .taken) input) (d .table) (drop (d .size) (d .buffer)) t
-      → Streams c input table lent (behind (d .answer .taken) (d .size) 1 (d .buffer) t)
+-- nothing done
+abbrev pub nothing : List ℕ → List ℕ → Total
+nothing buffer table = record { taken = 0; size = 0; calls = 0; verdict = full; buffer = buffer; table = table }
+
+-- What the function `serve_stream` ensures, literally. used: something is sent already. A call that would be refused 12 then is not made, and the stream
+-- is full: the caller empties the buffer and calls again. So a call is refused 12 only where the whole buffer lent is too short.
+pub data Streams (c : Context) : Bool → List ℕ → List ℕ → List ℕ → Total → Type 0 where
+  waits : {used : Bool} {input table lent : List ℕ} {d : Done} → Serves input table (at c lent) d → isShort (d .answer .verdict) && used ≡ true
+      → Streams c used input table lent (nothing lent table)
+  last : {used : Bool} {input table lent : List ℕ} {d : Done} → Serves input table (at c lent) d → isShort (d .answer .verdict) && used ≡ false
+      → goesOn (d .answer) ≡ false → Streams c used input table lent (only d)
+  then : {used : Bool} {input table lent : List ℕ} {d : Done} {t : Total} → Serves input table (at c lent) d → isShort (d .answer .verdict) && used ≡ false
+      → goesOn (d .answer) ≡ true
+      → Streams c (used || ltb 0 (d .size)) (drop (d .answer .taken) input) (d .table) (drop (d .size) (d .buffer)) t
+      → Streams c used input table lent (behind (d .answer .taken) (d .size) 1 (d .buffer) t)

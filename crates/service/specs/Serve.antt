@@ -15,10 +15,12 @@ use Rattle.map.specs.Step as map
 use Rattle.map.specs.Step.{Context, Outcome, answered, step}
 use Rattle.map.specs.Reply.{Piece, fixed, pieces}
 
+-- how a call ended, or a stream: full is a stream that needs an emptied buffer
 pub data Verdict : Type 0 where
   served : Verdict
   more : Verdict
   refused : ℕ → Verdict
+  full : Verdict
 
 -- Document 01's answer: "the number of bytes taken and any 'more needed' or refusal number".
 pub record Answer : Type 0 where

@@ -16,7 +16,7 @@ use crate::memory::{self, number, put_number, row_at, COUNT, DEADLINE, LAST, SIZ
 use crate::messages::{reply_numbers, request_numbers};
 use crate::subject::{
     read_code, verdict_code, write_code, Asked, Piece, ReplyParts, RequestParts, ServesLines,
-    Stores, Subject, GOOD,
+    Stores, Subject, FULL, GOOD,
 };
 
 /// What is wrong with an `Echo`.
@@ -550,14 +550,16 @@ impl Subject for Echo {
         loop {
             let (code, more, length) =
                 self.one_call(&input[taken..], table, second, &mut reply[sent..]);
+            let full = code == 12 && sent > 0;
             taken += more;
             sent += length;
-            calls += u64::from(length > 0 || !self.has(Fault::CountsReplies));
+            calls += u64::from(!full && (length > 0 || !self.has(Fault::CountsReplies)));
             if self.stream_goes_on(code) {
                 continue;
             }
             fill(answer, &[taken as u64, sent as u64, calls]);
-            let hidden = self.has(Fault::HidesTwelve) && code == 12 && calls > 1;
+            let code = if full { FULL } else { code };
+            let hidden = self.has(Fault::HidesTwelve) && full;
             let unchecked = self.has(Fault::ChecksOnce) && code == 13;
             return if hidden || unchecked { GOOD } else { code };
         }

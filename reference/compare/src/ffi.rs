@@ -291,7 +291,7 @@ impl Subject for Library {
                 answer.len(),
             )
         };
-        check_code("fq_serve_stream", code, 0, input);
+        check_code("fq_serve_stream", code, 1, input);
         if answer.len() >= STREAM_WORDS {
             let limits = [input.len(), reply.len(), input.len() + 1];
             check_words("fq_serve_stream", answer, &limits, input);

@@ -11,7 +11,7 @@ use crate::fields::{join, of_request};
 use crate::lent::{Lent, Words};
 use crate::make;
 use crate::memory;
-use crate::subject::{verdict_code, Subject, GOOD, SERVE_WORDS, STREAM_WORDS};
+use crate::subject::{verdict_code, Subject, FULL, GOOD, SERVE_WORDS, STREAM_WORDS};
 use crate::trial::Trial;
 
 /// What a stream of calls comes to.
@@ -23,6 +23,21 @@ struct Total {
     calls: usize,
     /// The last call's.
     code: u64,
+}
+
+impl Total {
+    /// What the stream tells: a call that is refused 12 behind replies is not
+    /// made.
+    fn told(self) -> Total {
+        if self.code != 12 || self.sent == 0 {
+            return self;
+        }
+        Total {
+            calls: self.calls - 1,
+            code: FULL,
+            ..self
+        }
+    }
 }
 
 pub fn round<S: Subject>(trial: &mut Trial<S>) -> Outcome {
@@ -254,6 +269,7 @@ fn whole_stream<S: Subject>(
     expected: &Lent,
 ) -> Outcome {
     let input = Lent::of(call.input);
+    let total = total.told();
     let mut words = Words::about(&mut trial.chance, STREAM_WORDS);
     let code = trial.subject.serve_stream(
         input.slice(),

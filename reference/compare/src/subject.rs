@@ -6,6 +6,9 @@ use reference::{Read, Verdict};
 /// code alone. More needed is 0, a refusal its number.
 pub const GOOD: u64 = 0x100;
 
+/// A stream that ends before a call for which no room is left.
+pub const FULL: u64 = 0x101;
+
 /// The words of an answer.
 pub const REQUEST_WORDS: usize = 16;
 pub const REPLY_WORDS: usize = 9;

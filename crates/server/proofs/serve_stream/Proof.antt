@@ -1,6 +1,5 @@
 -- `server::serve_stream` meets its contract: between two calls the loop knows what `Between` says. The measure is what is left of the input.
 -- Assumes nothing.
-use mathlib.Core.Path.{sym, _∙_}
 use Prim.Native.Nat.{_-_, _≤_}
 use native.Mathlib.Omega.{arith}
 use lib.ListN.{length, drop, length-drop}
@@ -9,7 +8,7 @@ use Rattle.wire.specs.Codec.{Bytes}
 use Rattle.service.specs.Serve.{room}
 use Rattle.server.specs.Answer.{contextOf}
 use Rattle.table.proofs.Lists.{refuted}
-use Rattle.server.proofs.ManyLaws.{Between, begin, short, unsound, no-room, call-takes, call-sends, call-kept, call-goes, call-on, call-ends}
+use Rattle.server.proofs.ManyLaws.{Between, begin, short, unsound, no-room, call-takes, call-sends, call-kept, call-on, call-ends}
 use borrow.Author.Needs.{needs}
 use Rattle.server.proofs.serve_stream.Statement.{statement}
 use Rattle.server.proofs.serve_stream.Tie as tie
@@ -70,27 +69,26 @@ returns-3 c = let w = c .before .before .before .before .before .before .before 
     let i = w .before .before .before in
     let l = i .before in
     rw (c .all-calls3 .ensures)
-    (call-ends _ _ _ _ (bytes l) _ _ _ _ _ (l .loop .inv) _ _ _ (w .call-at .ensures) (roomy i) (sym (c .before .before .goes-on .ensures) ∙ not-true _ (c .before .if3 .taken)))
+    (call-ends _ _ _ _ (bytes l) _ _ _ _ _ (l .loop .inv) _ _ _ (w .call-at .ensures) (roomy i) (c .before .if3 .taken))
 
 loop-less : tie.Need-loop-less Inv-loop μ-loop
 loop-less c = let w = c .before .before .before .before .before .before .before .before in
     let i = w .before .before .before in
     let l = i .before in
-    let v = sym (c .before .goes-on .ensures) ∙ not-false _ (c .if3 .left) in
-    omega (arith, call-goes _ _ _ _ (bytes l) _ _ _ _ _ (l .loop .inv) _ _ _ (w .call-at .ensures) (roomy i) v, call-takes _ _ _ _ (bytes l) _ _ _ _ _ (l .loop .inv) _ _ _ (w .call-at .ensures) (roomy i))
+    omega (arith, c .if3 .left, call-takes _ _ _ _ (bytes l) _ _ _ _ _ (l .loop .inv) _ _ _ (w .call-at .ensures) (roomy i))
 
 loop-again : tie.Need-loop-again Inv-loop μ-loop
 loop-again c = let w = c .before .before .before .before .before .before .before .before in
     let i = w .before .before .before in
     let l = i .before in
-    call-on _ _ _ _ (bytes l) _ _ _ _ _ (l .loop .inv) _ _ _ (w .call-at .ensures) (roomy i) (sym (c .before .goes-on .ensures) ∙ not-false _ (c .if3 .left))
+    call-on _ _ _ _ (bytes l) _ _ _ _ _ (l .loop .inv) _ _ _ (w .call-at .ensures) (roomy i) (omega (arith, c .if3 .left))
 
 same-length-4 : tie.Need-same-length-4 Inv-loop μ-loop
 same-length-4 c = c .before .before .loop .inv .kept
 
 returns-4 : tie.Need-returns-4 Inv-loop μ-loop
 returns-4 c = let l = c .before .before in
-    rw (c .all-calls4 .ensures) (no-room _ _ _ _ _ _ _ _ _ (l .loop .inv) (c .before .loop-test .left))
+    rw (c .all-calls4 .ensures) (no-room _ _ _ _ _ _ _ _ _ (l .loop .inv) (l .before .before .before .before .if1 .left) (c .before .loop-test .left))
 
 pub serve-stream-spec : {M : Type 1} → statement M
 serve-stream-spec =
@@ -111,13 +109,11 @@ serve-stream-spec =
     add-size
     (λ c. search needs)
     (λ c κs. search needs)
-    (λ c κs. search needs)
     same-length-2
     (λ c. search needs)
     returns-3
     loop-less
     loop-again
-    (λ c. search needs)
     (λ c κs. search needs)
     same-length-4
     (λ c. search needs)

@@ -40,7 +40,7 @@ use Rattle.server.specs.Act.{at, less, after}
 
 -- what is sent, with the table that is left
 pub does : {ps : _} {n : ℕ} {v : stream.Verdict} {old new : List ℕ} {a : Answer} {o : _} {t t′ : List ℕ}
-    → Sends ps n v old new a → stream-of.Left t o t′ → Does (effect n v ps o) t old (doneOf a new t′)
+    → Sends ps n v old new a → stream-of.Becomes t o t′ → Does (effect n v ps o) t old (doneOf a new t′)
 does s l =
     let e = s .says in
     record { answer = ap₂ (λ (x : ℕ) (y : stream.Verdict). record { taken = x; verdict = y }) (e .taken) (e .verdict); size = e .size; buffer = s .buffer; table = l }

@@ -21,7 +21,7 @@ use Rattle.map.proofs.Sent as sent
 use Rattle.map.proofs.Sent.{pieces-with}
 use Rattle.table.specs.Memory.{stateOf}
 use Rattle.service.specs.Serve.{Answer, Effect, effect, served, more, refused, still, onStep, onRead, serve, room, roomOf, within}
-use Rattle.service.specs.Stream.{Call, Done, Left, Run, run-end, run-call}
+use Rattle.service.specs.Stream.{Call, Done, Becomes, Run, run-end, run-call}
 use Rattle.service.specs.Demand3.{wrote, gone, after, SameCalls, same-end, same-call, Independent, end, call}
 use Rattle.service.proofs.Decides.{isSound}
 use Rattle.service.proofs.Sounds.{tells-sound, both-sound, effectIn, first-of, rest-of}
@@ -107,7 +107,7 @@ module _ (u w : List ℕ) (len : length w ≡ length u) where
       pub own : stateWith v u (stateOf t) ≡ stateOf t
       pub issued : v ≤ stateOf t .last
 
-    wrote-next : (t t′ s s′ : List ℕ) (n n′ : Option State) → Wrote t t′ → Moved u w len v n n′ → Left t n s → Left t′ n′ s′ → Wrote s s′
+    wrote-next : (t t′ s s′ : List ℕ) (n n′ : Option State) → Wrote t t′ → Moved u w len v n n′ → Becomes t n s → Becomes t′ n′ s′ → Wrote s s′
     wrote-next t t′ s s′ none none g z p q = rw (p, q) g
     wrote-next t t′ s s′ none (some b) g z p q = absurd z
     wrote-next t t′ s s′ (some a) none g z p q = absurd z

@@ -28,7 +28,7 @@ use Rattle.map.proofs.Answered.{did}
 use Rattle.map.proofs.Format.{answer-most}
 use Rattle.table.specs.Memory.{stateOf, Sound}
 use Rattle.service.specs.Serve.{Effect, refused, errorPieces, still, onStep, onRead, serve, room}
-use Rattle.service.specs.Stream.{Call, Done, Left, Serves}
+use Rattle.service.specs.Stream.{Call, Done, Becomes, Serves}
 use Rattle.service.specs.Many.{isShort}
 use Rattle.service.proofs.Sounds.{sound-is, effectIn, does-in}
 use Rattle.service.proofs.Calls.{roomy-within}
@@ -104,6 +104,6 @@ facts input b i t c d s h x = rw (le-ltb (length (c .buffer)) room h, sound-is t
 pub stays-sound : (input t : List ℕ) (c : Call) (d : Done) → Sound t → Serves input t c d → Sound (d .table)
 stays-sound input t c d s x = go (effectIn input t c .next) (does-in x .table)
   where
-    go : (n : _) → Left t n (d .table) → Sound (d .table)
+    go : (n : _) → Becomes t n (d .table) → Sound (d .table)
     go none e = rw e s
     go (some st) e = e .1

@@ -20,7 +20,7 @@ use Rattle.map.proofs.Keeps.{keeps}
 use Rattle.map.proofs.Sent as sent
 use Rattle.table.specs.Memory.{stateOf, Sound}
 use Rattle.service.specs.Serve.{Effect, more, refused, still, onStep, onRead, serve, room, within}
-use Rattle.service.specs.Stream.{Call, Done, Left, Serves, Run, run-end, run-call}
+use Rattle.service.specs.Stream.{Call, Done, Becomes, Serves, Run, run-end, run-call}
 use Rattle.service.specs.Demand3.{after, call}
 use Rattle.wire.proofs.Laws.{bytes-drop}
 use Rattle.table.specs.Form.{form}
@@ -67,7 +67,7 @@ unfoldable left : List ℕ → Option State → List ℕ
 left old none = old
 left old (some st) = form st
 
-left-is : (old : List ℕ) (n : Option State) → Fits n → Left old n (left old n)
+left-is : (old : List ℕ) (n : Option State) → Fits n → Becomes old n (left old n)
 unfolding left
 left-is old none f = refl
 left-is old (some st) f = let x = has-form st (f .0) (f .1) in (x .state, x .sound)

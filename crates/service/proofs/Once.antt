@@ -17,7 +17,7 @@ use Rattle.map.specs.Issued.{IssuedOnce}
 use Rattle.map.proofs.Laws.{Next, issues-after, once-none, once-next}
 use Rattle.table.specs.Memory.{stateOf}
 use Rattle.service.specs.Serve.{Effect, refused, still, onStep, onRead, serve, room, within}
-use Rattle.service.specs.Stream.{Call, Done, Left, Run, run-end, run-call}
+use Rattle.service.specs.Stream.{Call, Done, Becomes, Run, run-end, run-call}
 use Rattle.service.proofs.Decides.{isSound}
 use Rattle.service.proofs.Sounds.{effectIn, does-in}
 use Rattle.service.proofs.Calls.{within-has}
@@ -51,7 +51,7 @@ module _ (c : Context) (st : State) where
       go false true = within-has (λ (f : Effect). NextState st (f .next)) space x (onRead input c st x) (λ n. tt) (on-read input x)
       go false false = tt
 
-next-left : (t t′ : List ℕ) (n : Option State) → NextState (stateOf t) n → Left t n t′ → Next (stateOf t .last) (stateOf t′ .last)
+next-left : (t t′ : List ℕ) (n : Option State) → NextState (stateOf t) n → Becomes t n t′ → Next (stateOf t .last) (stateOf t′ .last)
 next-left t t′ none h l = inl (ap (λ (u : List ℕ). stateOf u .last) l)
 next-left t t′ (some st) h l = rw (l .0) h
 

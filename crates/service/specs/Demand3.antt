@@ -123,7 +123,7 @@ pub data Independent (u w : List ℕ) : Progress → List ℕ → List ℕ → L
       → Independent u w p input table (c ∷ cs) (c′ ∷ cs′) (d ∷ ds) (d′ ∷ ds′)
 
 -- two rows that have u and w in one place, and else the same bytes
-pub record Changed (u w input input′ : List ℕ) : Type 0 where
+pub record SameBut (u w input input′ : List ℕ) : Type 0 where
   pub front : List ℕ
   pub back : List ℕ
   pub this : input ≡ front ++ (u ++ back)
@@ -140,7 +140,7 @@ pub record Demand3 : Type 0 where
       → take (length rs) (map seen dones) ≡ play rs calls (stateOf table)
   -- "let bytes of one request's value in the row change, but not its length": the request with another value changes these bytes alone
   pub changed : (before behind : List Request) (r : Request) (w tail : List ℕ) → WellFormed (before ++ (r ∷ behind)) → length w ≡ length (r .args .value)
-      → Changed (r .args .value) w (written (before ++ (r ∷ behind)) ++ tail) (written (before ++ (withValue w r ∷ behind)) ++ tail)
+      → SameBut (r .args .value) w (written (before ++ (r ∷ behind)) ++ tail) (written (before ++ (withValue w r ∷ behind)) ++ tail)
   -- "Then for every list of calls, refused ones included, at the same seconds and with the same reply room, both give the same answers, every reply
   -- keeps all its bytes but those of that value, and after each call the tables differ at most in the entry that request wrote, and there in the
   -- value alone."

@@ -41,7 +41,7 @@ use Rattle.table.specs.Memory.{stateOf, Sound}
 use Rattle.table.specs.Form.{form}
 use Rattle.table.proofs.HasForm.{has-form}
 use Rattle.service.specs.Serve.{errorPieces, onStep, onRead}
-use Rattle.service.specs.Stream.{Left}
+use Rattle.service.specs.Stream.{Becomes}
 use Rattle.service.proofs.Decides.{decSound}
 use Rattle.server.specs.declared.Fed.{Fed}
 use Rattle.server.specs.declared.Served.the-variants as served
@@ -179,7 +179,7 @@ turns-exist zero last p s st room f h = absurd (omega arith)
 turns-exist (suc n) last p s st room f h = turns-from last p s st room f (λ p u st room f l. turns-exist n last p u st room f (omega arith))
 
 -- a table that is left
-leaves : (t : List ℕ) (o : Option State) → Fit (stateLeft (stateOf t) o) → (t′ : List ℕ) × Left t o t′
+leaves : (t : List ℕ) (o : Option State) → Fit (stateLeft (stateOf t) o) → (t′ : List ℕ) × Becomes t o t′
 leaves t none f = (t, refl)
 leaves t (some st) f = let m = has-form st (f .table) (f .order) in (form st, (m .state, m .sound))
 

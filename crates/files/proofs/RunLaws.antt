@@ -14,7 +14,7 @@ use Rattle.service.specs.Feed.{linesOf, joined, Feeds, read as feeds-read, end 
 use Rattle.service.proofs.Pieces.{restStep, pieces}
 use Rattle.table.specs.Bytes.{part}
 use Rattle.table.specs.Memory.{stateOf, Sound}
-use Rattle.service.specs.Stream.{Left}
+use Rattle.service.specs.Stream.{Becomes}
 use Rattle.map.specs.State.{State}
 use Rattle.server.proofs.LeftLaws.{left-state, left-sound, left-both}
 use Rattle.files.specs.declared.Window.{Window}
@@ -37,7 +37,7 @@ ended-none (done x) e = refl
 pub record Fed (passing : Bool) (here : List ℕ) (ps : List (List ℕ)) (t w t′ : List ℕ) : Type 0 where
   pub next : Option State
   pub feeds : Feeds passing here ps (stateOf t) (given w next)
-  pub table : Left t next t′
+  pub table : Becomes t next t′
 
 module _ {buf t out buf′ t′ out′ w t″ : List ℕ} {s s′ : Window} {ps : List (List ℕ)} where
   fed-wrote : {n : ℕ} → Writes buf t out s n s′ buf′ t′ out′ → (s .ended ≡ true → ps ≡ []) → Fed (s′ .carried) (inside buf′ s′) ps t′ w t″

@@ -10,7 +10,7 @@ use Rattle.service.specs.Line.{longest, linesStep}
 use Rattle.service.specs.Feed.{Turn, linesOf, joined}
 use Rattle.service.specs.Turns.{lineRoom, Turns}
 use Rattle.table.specs.Memory.{stateOf, Sound}
-use Rattle.service.specs.Stream.{Left}
+use Rattle.service.specs.Stream.{Becomes}
 use Rattle.files.specs.declared.Window.{Window}
 use Rattle.files.specs.declared.NextServe.{NextServe}
 use Rattle.files.specs.declared.NextServe.the-variants as next
@@ -27,7 +27,7 @@ pub record Ready (buf t out : List ℕ) (s : Window) : Type 0 where
 pub record Serves (buf t out : List ℕ) (s : Window) (x : Turn) (t′ : List ℕ) : Type 0 where
   pub ready : Ready buf t out s
   pub turns : Turns (s .ended) (s .carried) (inside buf s) (stateOf t) (length out) x
-  pub table : Left t (x .next) t′
+  pub table : Becomes t (x .next) t′
 
 -- "write the first n bytes of out, and call again with s′"
 pub record Writes (buf t out : List ℕ) (s : Window) (n : ℕ) (s′ : Window) (buf′ t′ out′ : List ℕ) : Type 0 where
@@ -94,7 +94,7 @@ pub data Runs : List ℕ → List ℕ → Window → List (List ℕ) → List �
 -- table keeps its bytes.
 pub record FileGives (file t written t′ : List ℕ) : Type 0 where
   pub text : written ≡ linesStep (linesOf file) (stateOf t) .text
-  pub table : Left t (linesStep (linesOf file) (stateOf t) .next) t′
+  pub table : Becomes t (linesStep (linesOf file) (stateOf t) .next) t′
 
 -- Between two calls of a run: whatever run goes on from here, the pieces read and the bytes written so far come before its own.
 pub record Ahead (buf t : List ℕ) (s : Window) (buf′ t′ : List ℕ) (s′ : Window) : Type 0 where

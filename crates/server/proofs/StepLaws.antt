@@ -32,6 +32,7 @@ use Rattle.service.specs.Stream as stream-of
 use Rattle.service.specs.Stream.{Done, Does, Serves}
 use Rattle.service.proofs.Decides.{isSound}
 use Rattle.service.proofs.Sounds.{tells-sound}
+use Rattle.service.proofs.Calls.{roomy-within}
 use Rattle.plan.specs.Plan.{isFull, refusalOf}
 use Rattle.server.specs.declared.Answer.{Answer}
 use Rattle.server.specs.Answer.{callOf, doneOf, Says, Sends}
@@ -39,7 +40,7 @@ use Rattle.server.specs.Act.{at, less, after}
 
 -- what is sent, with the table that is left
 pub does : {ps : _} {n : ℕ} {v : stream.Verdict} {old new : List ℕ} {a : Answer} {o : _} {t t′ : List ℕ}
-    → Sends ps n v old new a → stream-of.Left t o t′ → Does (effect n v ps o) t old (doneOf a new t′)
+    → Sends ps n v old new a → stream-of.Becomes t o t′ → Does (effect n v ps o) t old (doneOf a new t′)
 does s l =
     let e = s .says in
     record { answer = ap₂ (λ (x : ℕ) (y : stream.Verdict). record { taken = x; verdict = y }) (e .taken) (e .verdict); size = e .size; buffer = s .buffer; table = l }
@@ -192,7 +193,7 @@ module _ (c : Context) (q : Request) (t : List ℕ) (s : Sound t) (v : Valid req
 pub serves-read : (input t out : List ℕ) (second : ℕ) {d : Done} {x : Read Request} → Sound t → stream.room ≤ length out → request .dec input ≡ x
     → Does (stream.onRead input (at second) (stateOf t) x) t out d → Serves input t (callOf second out) d
 unfolding stream.serve
-serves-read input t out second s l e d = record { ok = true; tells = says-yes s; does = rw (le-ltb (length out) stream.room l, e) d }
+serves-read input t out second s l e d = record { ok = true; tells = says-yes s; does = rw (le-ltb (length out) stream.room l, roomy-within (length out) (request .dec input) (stream.onRead input (at second) (stateOf t) (request .dec input)) l, e) d }
 
 -- and one that is refused before it is read
 pub serves-short : (input t out : List ℕ) (second : ℕ) {a : Answer} → length out < stream.room → Says 0 0 (stream.refused 12) a → Serves input t (callOf second out) (doneOf a out t)

@@ -150,14 +150,7 @@ pub(crate) fn line_sound(line: &[u8], t: &mut [u8], out: &mut [u8], at: usize) -
 fn line_end(s: &[u8]) -> usize
     ensures { λ r. ⌜ r ≡ lineEnd (now (s .entry)) ⌝ }
 {
-    let mut i = 0;
-    while i < s.len() {
-        if s[i] == 0x0a {
-            return i;
-        }
-        i += 1;
-    }
-    i
+    bytes::scan::find(s, 0, s.len(), 0x0a)
 }
 
 // The answer of a turn.

@@ -20,8 +20,8 @@ use Rattle.map.proofs.Keeps.{keeps}
 use Rattle.map.proofs.Sent as sent
 use Rattle.map.proofs.Sent.{pieces-with}
 use Rattle.table.specs.Memory.{stateOf}
-use Rattle.service.specs.Serve.{Answer, Effect, effect, served, more, refused, still, onStep, onRead, serve, room}
-use Rattle.service.specs.Stream.{Call, Done, Left, Run, run-end, run-call}
+use Rattle.service.specs.Serve.{Answer, Effect, effect, served, more, refused, still, onStep, onRead, serve, room, roomOf, within}
+use Rattle.service.specs.Stream.{Call, Done, Becomes, Run, run-end, run-call}
 use Rattle.service.specs.Demand3.{wrote, gone, after, SameCalls, same-end, same-call, Independent, end, call}
 use Rattle.service.proofs.Decides.{isSound}
 use Rattle.service.proofs.Sounds.{tells-sound, both-sound, effectIn, first-of, rest-of}
@@ -38,6 +38,16 @@ module _ (u w : List ℕ) (len : length w ≡ length u) (v : ℕ) where
   record Tracks (e e′ : Effect) : Type 0 where
     like : Like u w len (wrote v) e e′
     next : Moved (e .next) (e′ .next)
+
+  track-within : (space : ℕ) (x : Read Request) (e e′ : Effect) → Tracks e e′ → Tracks (within space x e) (within space x e′)
+  unfolding within piecesWith
+  track-within space (wire.whole r n) e e′ t = go (ltb space (roomOf (r .op)))
+    where
+      go : (k : Bool) → Tracks (cond k (effect n (refused 12) [] none) e) (cond k (effect n (refused 12) [] none) e′)
+      go true = record { like = record { answer = refl; sent = refl; shows = refl }; next = tt }
+      go false = t
+  track-within space wire.more e e′ t = t
+  track-within space (wire.refused k) e e′ t = t
 
   module _ (st : State) (own : stateWith v u st ≡ st) (h : v ≤ st .last) where
     track-step : (second : Context) (r : Request) (n : ℕ) → Tracks (onStep r n (step second r st)) (onStep r n (step second r (stateWith v w st)))
@@ -64,10 +74,13 @@ module _ (u w : List ℕ) (len : length w ≡ length u) (v : ℕ) where
     unfolding serve still piecesWith
     track input ok second space = go (ltb space room) ok
       where
-        go : (a b : Bool) → Tracks (cond a (still (refused 12)) (cond b (onRead input second st (request .dec input)) (still (refused 13))))
-            (cond a (still (refused 12)) (cond b (onRead input second (stateWith v w st) (request .dec input)) (still (refused 13))))
+        x : Read Request
+        x = request .dec input
+
+        go : (a b : Bool) → Tracks (cond a (still (refused 12)) (cond b (within space x (onRead input second st x)) (still (refused 13))))
+            (cond a (still (refused 12)) (cond b (within space x (onRead input second (stateWith v w st) x)) (still (refused 13))))
         go true b = record { like = record { answer = refl; sent = refl; shows = refl }; next = tt }
-        go false true = track-read input second (request .dec input)
+        go false true = track-within space x (onRead input second st x) (onRead input second (stateWith v w st) x) (track-read input second x)
         go false false = record { like = record { answer = refl; sent = refl; shows = refl }; next = tt }
 
 module _ (u w : List ℕ) (len : length w ≡ length u) where
@@ -94,7 +107,7 @@ module _ (u w : List ℕ) (len : length w ≡ length u) where
       pub own : stateWith v u (stateOf t) ≡ stateOf t
       pub issued : v ≤ stateOf t .last
 
-    wrote-next : (t t′ s s′ : List ℕ) (n n′ : Option State) → Wrote t t′ → Moved u w len v n n′ → Left t n s → Left t′ n′ s′ → Wrote s s′
+    wrote-next : (t t′ s s′ : List ℕ) (n n′ : Option State) → Wrote t t′ → Moved u w len v n n′ → Becomes t n s → Becomes t′ n′ s′ → Wrote s s′
     wrote-next t t′ s s′ none none g z p q = rw (p, q) g
     wrote-next t t′ s s′ none (some b) g z p q = absurd z
     wrote-next t t′ s s′ (some a) none g z p q = absurd z

@@ -17,15 +17,15 @@ use Rattle.map.specs.Step as map-step
 use Rattle.map.specs.Step.{Outcome, step}
 use Rattle.map.proofs.Sent as sent
 use Rattle.table.specs.Memory.{stateOf}
-use Rattle.service.specs.Serve.{Answer, Effect, refused, still, onStep, room}
+use Rattle.service.specs.Serve.{Answer, Effect, refused, still, room}
 use Rattle.service.specs.Stream.{Call, Done, Does, Run, run-end, run-call}
 use Rattle.service.specs.Demand3.{Progress, ahead, wrote, gone, passes, after, stateBut, SameCalls, same-end, same-call, Alike, progress, Independent, end, call}
 use Rattle.service.proofs.Decides.{isSound}
 use Rattle.service.proofs.Sounds.{tells-sound, effectIn, first-of, rest-of}
-use Rattle.service.proofs.Calls.{serve-at, some-taken}
+use Rattle.service.proofs.Calls.{onWhole, serve-at, some-taken}
 use Rattle.service.proofs.Like.{Like, like-ahead, same-answer, alike, Same, same-next}
 use Rattle.service.proofs.After.{gone-independent, wrote-independent}
-use Rattle.service.proofs.Own.{step-taken, Own, idle, past, new, own}
+use Rattle.service.proofs.Own.{whole-taken, Own, idle, past, new, own}
 
 mark-idle : (n taken l l′ : ℕ) → taken ≡ 0 → after (ahead n) taken l l′ ≡ ahead n
 mark-idle n taken l l′ e = rw e
@@ -40,12 +40,13 @@ drop-took : (k : ℕ) (a b : List ℕ) → k ≡ length a → drop k (a ++ b) �
 drop-took k a b e = rw e (drop-append-seam a b)
 
 -- a call on a request that both rows have takes it, or nothing
-took : (r : Request) (n : ℕ) (o : Outcome) (a b : Bool) → (cond a (still (refused 12)) (cond b (onStep r n o) (still (refused 13))) .answer .taken ≡ 0)
-    ⊎ (cond a (still (refused 12)) (cond b (onStep r n o) (still (refused 13))) .answer .taken ≡ n)
+took : (r : Request) (n : ℕ) (o : Outcome) (space : ℕ) (a b : Bool)
+    → (cond a (still (refused 12)) (cond b (onWhole space r n o) (still (refused 13))) .answer .taken ≡ 0)
+    ⊎ (cond a (still (refused 12)) (cond b (onWhole space r n o) (still (refused 13))) .answer .taken ≡ n)
 unfolding still
-took r n o true b = inl refl
-took r n o false true = inr (step-taken r n o)
-took r n o false false = inl refl
+took r n o space true b = inl refl
+took r n o space false true = inr (whole-taken r n o space)
+took r n o space false false = inl refl
 
 both : (r : Request) → Valid request r → (a b t t′ : List ℕ) (c c′ : Call) → Same t t′ → c′ .context ≡ c .context → length (c′ .buffer) ≡ length (c .buffer)
     → effectIn (request .enc r ++ b) t′ c′ ≡ effectIn (request .enc r ++ a) t c
@@ -58,7 +59,7 @@ taken : (r : Request) → Valid request r → (a t : List ℕ) (c : Call) (d : D
 taken r v a t c d x =
     subst (λ (f : Answer). (f .taken ≡ 0) ⊎ (f .taken ≡ length (request .enc r)))
     (sym (x .answer ∙ ap (λ (f : Effect). f .answer) (serve-at r v a (isSound t) (stateOf t) (c .context) (length (c .buffer)))))
-    (took r (length (request .enc r)) (step (c .context) r (stateOf t)) (ltb (length (c .buffer)) room) (isSound t))
+    (took r (length (request .enc r)) (step (c .context) r (stateOf t)) (length (c .buffer)) (ltb (length (c .buffer)) room) (isSound t))
 
 -- one call, and the rest at the mark and the input that it leaves
 finish : {u w : List ℕ} {p : Progress} {input t : List ℕ} {c c′ : Call} {cs cs′ : List Call} {d d′ : Done} {ds ds′ : List Done} (q : Progress) (next : List ℕ)

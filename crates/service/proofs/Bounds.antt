@@ -28,9 +28,10 @@ use Rattle.map.proofs.Answered.{did}
 use Rattle.map.proofs.Format.{answer-most}
 use Rattle.table.specs.Memory.{stateOf, Sound}
 use Rattle.service.specs.Serve.{Effect, refused, errorPieces, still, onStep, onRead, serve, room}
-use Rattle.service.specs.Stream.{Call, Done, Left, Serves}
+use Rattle.service.specs.Stream.{Call, Done, Becomes, Serves}
 use Rattle.service.specs.Many.{isShort}
 use Rattle.service.proofs.Sounds.{sound-is, effectIn, does-in}
+use Rattle.service.proofs.Calls.{roomy-within}
 
 -- a step is refused by 9, 10 or 11
 abbrev pub Late : Outcome → Type 0
@@ -97,12 +98,12 @@ module _ (input : List ℕ) (b : Bytes input) (small : idIn input < 0x8000_0000_
 pub facts : (input : List ℕ) → Bytes input → idIn input < 0x8000_0000_0000_0000 → (t : List ℕ) (c : Call) (d : Done) → Sound t → room ≤ length (c .buffer)
     → Serves input t c d → Facts input (effectIn input t c)
 unfolding serve
-facts input b i t c d s h x = rw (le-ltb (length (c .buffer)) room h, sound-is t s) (facts-read input b i (c .context) (stateOf t) (s .table) (request .dec input) refl)
+facts input b i t c d s h x = rw (le-ltb (length (c .buffer)) room h, sound-is t s, roomy-within (length (c .buffer)) (request .dec input) (onRead input (c .context) (stateOf t) (request .dec input)) h) (facts-read input b i (c .context) (stateOf t) (s .table) (request .dec input) refl)
 
 -- a sound table stays sound
 pub stays-sound : (input t : List ℕ) (c : Call) (d : Done) → Sound t → Serves input t c d → Sound (d .table)
 stays-sound input t c d s x = go (effectIn input t c .next) (does-in x .table)
   where
-    go : (n : _) → Left t n (d .table) → Sound (d .table)
+    go : (n : _) → Becomes t n (d .table) → Sound (d .table)
     go none e = rw e s
     go (some st) e = e .1

@@ -14,7 +14,7 @@ use Rattle.map.specs.Step as map-step
 use Rattle.map.proofs.Sent as sent
 use Rattle.service.specs.Serve.{served}
 use Rattle.service.specs.Stream.{Call, Done, Run}
-use Rattle.service.specs.Demand3.{ahead, SameCalls, Independent, Changed, Demand3}
+use Rattle.service.specs.Demand3.{ahead, SameCalls, Independent, SameBut, Demand3}
 use Rattle.service.proofs.Served.{served-calls}
 use Rattle.service.proofs.Ahead.{ahead-independent}
 
@@ -47,7 +47,7 @@ around : (f x l u b : List ℕ) → x ≡ l ++ u → f ++ (x ++ b) ≡ (f ++ l) 
 around f x l u b e = rw (e, append-assoc l u b, append-assoc f l (u ++ b))
 
 changed : (before behind : List Request) (r : Request) (w tail : List ℕ) → WellFormed (before ++ (r ∷ behind)) → length w ≡ length (r .args .value)
-    → Changed (r .args .value) w (written (before ++ (r ∷ behind)) ++ tail) (written (before ++ (withValue w r ∷ behind)) ++ tail)
+    → SameBut (r .args .value) w (written (before ++ (r ∷ behind)) ++ tail) (written (before ++ (withValue w r ∷ behind)) ++ tail)
 changed before behind r w tail v len =
     let z = value-last r w (split before r behind v .1) len in
     let b = written behind ++ tail in

@@ -19,14 +19,15 @@ use Rattle.map.specs.Reply.{flat}
 use Rattle.map.proofs.Keeps.{keeps}
 use Rattle.map.proofs.Sent as sent
 use Rattle.table.specs.Memory.{stateOf, Sound}
-use Rattle.service.specs.Serve.{more, refused, still, onStep, onRead, serve, room}
-use Rattle.service.specs.Stream.{Call, Done, Left, Serves, Run, run-end, run-call}
+use Rattle.service.specs.Serve.{Effect, more, refused, still, onStep, onRead, serve, room, within}
+use Rattle.service.specs.Stream.{Call, Done, Becomes, Serves, Run, run-end, run-call}
 use Rattle.service.specs.Demand3.{after, call}
 use Rattle.wire.proofs.Laws.{bytes-drop}
 use Rattle.table.specs.Form.{form}
 use Rattle.table.proofs.HasForm.{has-form}
 use Rattle.service.proofs.Decides.{isSound}
 use Rattle.service.proofs.Sounds.{is-sound, tells-sound, effectIn}
+use Rattle.service.proofs.Calls.{within-has}
 
 -- "Each call is given a second, 0 to 4,294,967,295."
 abbrev pub InRange : List Call → Type 0
@@ -55,9 +56,10 @@ unfolding serve still
 fits input b t c h = go (ltb (length (c .buffer)) room) (isSound t) refl
   where
     go : (x y : Bool) → isSound t ≡ y
-        → Fits (cond x (still (refused 12)) (cond y (onRead input (c .context) (stateOf t) (request .dec input)) (still (refused 13))) .next)
+        → Fits (cond x (still (refused 12)) (cond y (within (length (c .buffer)) (request .dec input) (onRead input (c .context) (stateOf t) (request .dec input))) (still (refused 13))) .next)
     go true y e = tt
-    go false true e = fits-read input b (c .context) h t (is-sound t e) (request .dec input) refl
+    go false true e = within-has (λ (f : Effect). Fits (f .next)) (length (c .buffer)) (request .dec input) (onRead input (c .context) (stateOf t) (request .dec input)) (λ n. tt)
+        (fits-read input b (c .context) h t (is-sound t e) (request .dec input) refl)
     go false false e = tt
 
 -- the table after a call: the sound form of the state that is left
@@ -65,7 +67,7 @@ unfoldable left : List ℕ → Option State → List ℕ
 left old none = old
 left old (some st) = form st
 
-left-is : (old : List ℕ) (n : Option State) → Fits n → Left old n (left old n)
+left-is : (old : List ℕ) (n : Option State) → Fits n → Becomes old n (left old n)
 unfolding left
 left-is old none f = refl
 left-is old (some st) f = let x = has-form st (f .0) (f .1) in (x .state, x .sound)

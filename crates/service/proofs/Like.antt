@@ -14,7 +14,7 @@ use Rattle.map.proofs.Sent as sent
 use Rattle.map.proofs.Sent.{same-size}
 use Rattle.table.specs.Memory.{stateOf}
 use Rattle.service.specs.Serve.{Answer, Effect}
-use Rattle.service.specs.Stream.{Call, Done, Left, Does}
+use Rattle.service.specs.Stream.{Call, Done, Becomes, Does}
 use Rattle.service.specs.Demand3.{Progress, ahead, wrote, gone, stateBut, sentBut, Alike}
 use Rattle.service.proofs.Decides.{isSound}
 use Rattle.service.proofs.Sounds.{both-sound}
@@ -67,9 +67,9 @@ pub record Same (t t′ : List ℕ) : Type 0 where
   pub state : stateOf t′ ≡ stateOf t
   pub sounds : isSound t′ ≡ isSound t
 
-pub same-next : (t t′ : List ℕ) (n n′ : Option State) (s s′ : List ℕ) → Same t t′ → n′ ≡ n → Left t n s → Left t′ n′ s′ → Same s s′
-same-next t t′ n n′ s s′ g e x y = go n x (subst (λ (m : Option State). Left t′ m s′) e y)
+pub same-next : (t t′ : List ℕ) (n n′ : Option State) (s s′ : List ℕ) → Same t t′ → n′ ≡ n → Becomes t n s → Becomes t′ n′ s′ → Same s s′
+same-next t t′ n n′ s s′ g e x y = go n x (subst (λ (m : Option State). Becomes t′ m s′) e y)
   where
-    go : (m : Option State) → Left t m s → Left t′ m s′ → Same s s′
+    go : (m : Option State) → Becomes t m s → Becomes t′ m s′ → Same s s′
     go none p q = rw (p, q) g
     go (some st) p q = record { state = q .0 ∙ sym (p .0); sounds = both-sound s′ s (q .1) (p .1) }

@@ -16,10 +16,11 @@ use Rattle.map.specs.Step.{Context, Outcome, answered, step}
 use Rattle.map.specs.Issued.{IssuedOnce}
 use Rattle.map.proofs.Laws.{Next, issues-after, once-none, once-next}
 use Rattle.table.specs.Memory.{stateOf}
-use Rattle.service.specs.Serve.{refused, still, onStep, onRead, serve, room}
-use Rattle.service.specs.Stream.{Call, Done, Left, Run, run-end, run-call}
+use Rattle.service.specs.Serve.{Effect, refused, still, onStep, onRead, serve, room, within}
+use Rattle.service.specs.Stream.{Call, Done, Becomes, Run, run-end, run-call}
 use Rattle.service.proofs.Decides.{isSound}
 use Rattle.service.proofs.Sounds.{effectIn, does-in}
+use Rattle.service.proofs.Calls.{within-has}
 
 -- a state that is left issues none, or the next one
 abbrev NextState : State → Option State → Type 0
@@ -42,12 +43,15 @@ module _ (c : Context) (st : State) where
   unfolding serve still
   on-call input ok space = go (ltb space room) ok
     where
-      go : (a b : Bool) → NextState st (cond a (still (refused 12)) (cond b (onRead input c st (request .dec input)) (still (refused 13))) .next)
+      x : Read Request
+      x = request .dec input
+
+      go : (a b : Bool) → NextState st (cond a (still (refused 12)) (cond b (within space x (onRead input c st x)) (still (refused 13))) .next)
       go true b = tt
-      go false true = on-read input (request .dec input)
+      go false true = within-has (λ (f : Effect). NextState st (f .next)) space x (onRead input c st x) (λ n. tt) (on-read input x)
       go false false = tt
 
-next-left : (t t′ : List ℕ) (n : Option State) → NextState (stateOf t) n → Left t n t′ → Next (stateOf t .last) (stateOf t′ .last)
+next-left : (t t′ : List ℕ) (n : Option State) → NextState (stateOf t) n → Becomes t n t′ → Next (stateOf t .last) (stateOf t′ .last)
 next-left t t′ none h l = inl (ap (λ (u : List ℕ). stateOf u .last) l)
 next-left t t′ (some st) h l = rw (l .0) h
 

@@ -1,6 +1,6 @@
 -- The call that meets the request itself, at the front of both rows. Assumes that a sound table holds no version above the last issued.
 use mathlib.Core.Path.{_≡_, refl, sym, ap, subst, subst₂, _∙_}
-use mathlib.Core.List.{List, _++_}
+use mathlib.Core.List.{List, [], _++_}
 use mathlib.Core.Bool.{Bool, true, false, cond}
 use mathlib.Core.Option.{none}
 use mathlib.Core.Logic.{_⊎_, ⊎-elim}
@@ -23,12 +23,12 @@ use Rattle.map.proofs.Finding.{fresh}
 use Rattle.map.proofs.Commute.{step-value, issues}
 use Rattle.map.proofs.Sent as sent
 use Rattle.table.specs.Memory.{stateOf}
-use Rattle.service.specs.Serve.{Answer, Effect, refused, still, onStep, room}
+use Rattle.service.specs.Serve.{Answer, Effect, effect, refused, still, onStep, room, roomOf}
 use Rattle.service.specs.Stream.{Call, Done, Does}
 use Rattle.service.specs.Demand3.{ahead, wrote, gone, passes, call}
 use Rattle.service.proofs.Decides.{isSound}
 use Rattle.service.proofs.Sounds.{is-sound, both-sound, bounded, effectIn}
-use Rattle.service.proofs.Calls.{serve-at}
+use Rattle.service.proofs.Calls.{onWhole, serve-at}
 use Rattle.service.proofs.Like.{answered-state, Like, Same, same-next}
 use Rattle.service.proofs.After.{Wrote}
 
@@ -38,10 +38,17 @@ not-less a b e = rw (le-ltb a b (omega arith))
 less : (a b : ℕ) → b ≡ suc a → passes 0 a b ≡ wrote (suc a)
 less a b e = rw (e, lt-ltb a (suc a) (omega arith))
 
-pub step-taken : (r : Request) (n : ℕ) (o : Outcome) → onStep r n o .answer .taken ≡ n
+step-taken : (r : Request) (n : ℕ) (o : Outcome) → onStep r n o .answer .taken ≡ n
 unfolding onStep
 step-taken r n (map-step.refused k) = refl
 step-taken r n (answered a st) = refl
+
+pub whole-taken : (r : Request) (n : ℕ) (o : Outcome) (space : ℕ) → onWhole space r n o .answer .taken ≡ n
+whole-taken r n o space = go (ltb space (roomOf (r .op)))
+  where
+    go : (x : Bool) → cond x (effect n (refused 12) [] none) (onStep r n o) .answer .taken ≡ n
+    go true = refl
+    go false = step-taken r n o
 
 module _ (r : Request) (w : List ℕ) (len : length w ≡ length (r .args .value)) where
   -- what came of it: it took nothing; it took the request, whose step issued no version; or one
@@ -106,9 +113,9 @@ module _ (r : Request) (w : List ℕ) (len : length w ≡ length (r .args .value
     own rest t t′ c c′ d d′ g k l x y =
         let p = serve-at r v rest (isSound t) (stateOf t) (c .context) (length (c .buffer)) in
         let q : effectIn (request .enc (withValue w r) ++ rest) t′ c′
-        ≡ cond (ltb (length (c .buffer)) room) (still (refused 12)) (cond (isSound t) (onStep (withValue w r) n o′) (still (refused 13))) =
+        ≡ cond (ltb (length (c .buffer)) room) (still (refused 12)) (cond (isSound t) (onWhole (length (c .buffer)) (withValue w r) n o′) (still (refused 13))) =
         serve-at (withValue w r) vw rest (isSound t′) (stateOf t′) (c′ .context) (length (c′ .buffer)) ∙ rw (g .sounds, g .state, k, l, value-length r w v len) in
-        let z = go (ltb (length (c .buffer)) room) (isSound t) refl (subst (λ (f : Effect). Does f t (c .buffer) d) p x)
+        let z = go (ltb (length (c .buffer)) room) (isSound t) (ltb (length (c .buffer)) (roomOf (r .op))) refl (subst (λ (f : Effect). Does f t (c .buffer) d) p x)
         (subst (λ (f : Effect). Does f t′ (c′ .buffer) d′) q y) in
         (subst₂ (λ (f f′ : Effect). Like (r .args .value) w len (ahead 0) f f′) (sym p) (sym q) (z .0), z .1)
       where
@@ -121,20 +128,28 @@ module _ (r : Request) (w : List ℕ) (len : length w ≡ length (r .args .value
         o′ : Outcome
         o′ = step (c .context) (withValue w r) (stateOf t)
 
-        go : (a b : Bool) → isSound t ≡ b
-            → Does (cond a (still (refused 12)) (cond b (onStep r n o) (still (refused 13)))) t (c .buffer) d
-            → Does (cond a (still (refused 12)) (cond b (onStep (withValue w r) n o′) (still (refused 13)))) t′ (c′ .buffer) d′
-            → Like (r .args .value) w len (ahead 0) (cond a (still (refused 12)) (cond b (onStep r n o) (still (refused 13))))
-            (cond a (still (refused 12)) (cond b (onStep (withValue w r) n o′) (still (refused 13)))) × Own t d d′
-        go true b s x y = (
+        short : Effect
+        short = effect n (refused 12) [] none
+
+        go : (a b k : Bool) → isSound t ≡ b
+            → Does (cond a (still (refused 12)) (cond b (cond k short (onStep r n o)) (still (refused 13)))) t (c .buffer) d
+            → Does (cond a (still (refused 12)) (cond b (cond k short (onStep (withValue w r) n o′)) (still (refused 13)))) t′ (c′ .buffer) d′
+            → Like (r .args .value) w len (ahead 0) (cond a (still (refused 12)) (cond b (cond k short (onStep r n o)) (still (refused 13))))
+            (cond a (still (refused 12)) (cond b (cond k short (onStep (withValue w r) n o′)) (still (refused 13)))) × Own t d d′
+        go true b k s x y = (
           record { answer = refl; sent = refl; shows = refl },
           idle (ap (λ (f : Answer). f .taken) (x .answer)) (same-next t t′ none none (d .table) (d′ .table) g refl (x .table) (y .table)),
         )
-        go false false s x y = (
+        go false false k s x y = (
           record { answer = refl; sent = refl; shows = refl },
           idle (ap (λ (f : Answer). f .taken) (x .answer)) (same-next t t′ none none (d .table) (d′ .table) g refl (x .table) (y .table)),
         )
-        go false true s x y =
+        go false true true s x y = (
+          record { answer = refl; sent = refl; shows = refl },
+          past (ap (λ (f : Answer). f .taken) (x .answer)) (not-less (stateOf t .last) (stateOf (d .table) .last) (ap (λ (s : List ℕ). stateOf s .last) (x .table)))
+              (same-next t t′ none none (d .table) (d′ .table) g refl (x .table) (y .table)),
+        )
+        go false true false s x y =
             let next = suc (stateOf t .last) in
             let h = bounded t (is-sound t s) in
             let j : o′ ≡ outcomeState next w o = step-value w (c .context) r (stateOf t) h in (

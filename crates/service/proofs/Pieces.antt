@@ -11,6 +11,7 @@ use lib.Seq.{drop-length, drop-append-le, drop-append-add}
 use lib.Dec.{eqb, ltb}
 use borrow.Author.Tests.{ltb-true, ltb-false, lt-ltb, lt-leb}
 use Rattle.wire.proofs.Laws.{both}
+use Rattle.bytes.specs.Bytes.{indexOf, indexAfter}
 use Rattle.map.specs.State.{State}
 use Rattle.service.specs.Line.{longest, asks, Given, given, stateLeft, later, refused14, lineStep, linesStep}
 use Rattle.service.specs.Feed.{lineEnd, Turn, turn, ended, turnOf, longer, linesOf, joined, Feeds, took, read, end}
@@ -33,67 +34,67 @@ unfoldable pub restStep : Bool → List ℕ → State → Given
 restStep false s st = linesStep (linesOf s) st
 restStep true s st = linesStep (linesOf (drop (lineEnd s + 1) s)) st
 
-end-within : (s : List ℕ) → lineEnd s ≤ length s
-unfolding lineEnd
+pub end-within : (s : List ℕ) → lineEnd s ≤ length s
+unfolding indexOf indexAfter
 end-within [] = omega arith
 end-within (b ∷ s) = go (eqb b 0x0a) (end-within s)
   where
-    go : (t : Bool) → lineEnd s ≤ length s → cond t 0 (suc (lineEnd s)) ≤ suc (length s)
+    go : (t : Bool) → lineEnd s ≤ length s → indexAfter t (lineEnd s) ≤ suc (length s)
     go true h = omega arith
     go false h = omega arith
 
 -- a line with its end, whatever follows
 whole-end : (s t : List ℕ) → lineEnd s < length s → lineEnd (s ++ t) ≡ lineEnd s
-unfolding lineEnd
+unfolding indexOf indexAfter
 whole-end [] t h = absurd (omega arith)
 whole-end (b ∷ s) t h = go (eqb b 0x0a) (whole-end s t) h
   where
-    go : (x : Bool) → (lineEnd s < length s → lineEnd (s ++ t) ≡ lineEnd s) → cond x 0 (suc (lineEnd s)) < suc (length s)
-        → cond x 0 (suc (lineEnd (s ++ t))) ≡ cond x 0 (suc (lineEnd s))
+    go : (x : Bool) → (lineEnd s < length s → lineEnd (s ++ t) ≡ lineEnd s) → indexAfter x (lineEnd s) < suc (length s)
+        → indexAfter x (lineEnd (s ++ t)) ≡ indexAfter x (lineEnd s)
     go true ih h = refl
     go false ih h = ap suc (ih (omega arith))
 
 whole-line : (s t : List ℕ) → lineEnd s < length s → linesOf (s ++ t) ≡ take (lineEnd s) s ∷ linesOf (drop (suc (lineEnd s)) s ++ t)
-unfolding lineEnd linesOf
+unfolding indexOf indexAfter linesOf
 whole-line [] t h = absurd (omega arith)
 whole-line (b ∷ s) t h = go (eqb b 0x0a) (whole-line s t) h
   where
     go : (x : Bool) → (lineEnd s < length s → linesOf (s ++ t) ≡ take (lineEnd s) s ∷ linesOf (drop (suc (lineEnd s)) s ++ t))
-        → cond x 0 (suc (lineEnd s)) < suc (length s)
+        → indexAfter x (lineEnd s) < suc (length s)
         → cond x ([] ∷ linesOf (s ++ t)) (longer b (linesOf (s ++ t)))
-        ≡ take (cond x 0 (suc (lineEnd s))) (b ∷ s) ∷ linesOf (drop (suc (cond x 0 (suc (lineEnd s)))) (b ∷ s) ++ t)
+        ≡ take (indexAfter x (lineEnd s)) (b ∷ s) ∷ linesOf (drop (suc (indexAfter x (lineEnd s))) (b ∷ s) ++ t)
     go true ih h = refl
     go false ih h = ap (longer b) (ih (omega arith))
 
 -- a line without its end is the beginning of the first line, and of no other
 open-end : (s t : List ℕ) → lineEnd s ≡ length s → lineEnd (s ++ t) ≡ length s + lineEnd t
-unfolding lineEnd
+unfolding indexOf indexAfter
 open-end [] t h = omega arith
 open-end (b ∷ s) t h = go (eqb b 0x0a) (open-end s t) h
   where
-    go : (x : Bool) → (lineEnd s ≡ length s → lineEnd (s ++ t) ≡ length s + lineEnd t) → cond x 0 (suc (lineEnd s)) ≡ suc (length s)
-        → cond x 0 (suc (lineEnd (s ++ t))) ≡ suc (length s) + lineEnd t
+    go : (x : Bool) → (lineEnd s ≡ length s → lineEnd (s ++ t) ≡ length s + lineEnd t) → indexAfter x (lineEnd s) ≡ suc (length s)
+        → indexAfter x (lineEnd (s ++ t)) ≡ suc (length s) + lineEnd t
     go true ih h = absurd (omega arith)
     go false ih h = omega (arith, ih (omega arith))
 
 -- a byte that is no line end, in front of a file
 lead : (b : ℕ) (t : List ℕ) → longer b (linesOf t) ≡ (b ∷ take (lineEnd t) t) ∷ linesOf (drop (suc (lineEnd t)) t)
-unfolding lineEnd linesOf
+unfolding indexOf indexAfter linesOf
 lead b [] = refl
 lead b (c ∷ t) = go (eqb c 0x0a) (lead c t)
   where
     go : (x : Bool) → longer c (linesOf t) ≡ (c ∷ take (lineEnd t) t) ∷ linesOf (drop (suc (lineEnd t)) t)
         → longer b (cond x ([] ∷ linesOf t) (longer c (linesOf t)))
-        ≡ (b ∷ take (cond x 0 (suc (lineEnd t))) (c ∷ t)) ∷ linesOf (drop (suc (cond x 0 (suc (lineEnd t)))) (c ∷ t))
+        ≡ (b ∷ take (indexAfter x (lineEnd t)) (c ∷ t)) ∷ linesOf (drop (suc (indexAfter x (lineEnd t))) (c ∷ t))
     go true ih = refl
     go false ih = ap (longer b) ih
 
 open-line : (b : ℕ) (s t : List ℕ) → lineEnd (b ∷ s) ≡ length (b ∷ s)
     → linesOf ((b ∷ s) ++ t) ≡ ((b ∷ s) ++ take (lineEnd t) t) ∷ linesOf (drop (suc (lineEnd t)) t)
-unfolding lineEnd linesOf
+unfolding indexOf indexAfter linesOf
 open-line b [] t h = go (eqb b 0x0a) h
   where
-    go : (x : Bool) → _≡_ {A = ℕ} (cond x 0 1) 1
+    go : (x : Bool) → _≡_ {A = ℕ} (indexAfter x 0) 1
         → cond x ([] ∷ linesOf t) (longer b (linesOf t)) ≡ (b ∷ take (lineEnd t) t) ∷ linesOf (drop (suc (lineEnd t)) t)
     go true e = absurd (omega arith)
     go false e = lead b t
@@ -101,7 +102,7 @@ open-line b (c ∷ s) t h = go (eqb b 0x0a) (open-line c s t) h
   where
     go : (x : Bool)
         → (lineEnd (c ∷ s) ≡ suc (length s) → linesOf ((c ∷ s) ++ t) ≡ ((c ∷ s) ++ take (lineEnd t) t) ∷ linesOf (drop (suc (lineEnd t)) t))
-        → _≡_ {A = ℕ} (cond x 0 (suc (lineEnd (c ∷ s)))) (suc (suc (length s)))
+        → _≡_ {A = ℕ} (indexAfter x (lineEnd (c ∷ s))) (suc (suc (length s)))
         → cond x ([] ∷ linesOf ((c ∷ s) ++ t)) (longer b (linesOf ((c ∷ s) ++ t)))
         ≡ (b ∷ ((c ∷ s) ++ take (lineEnd t) t)) ∷ linesOf (drop (suc (lineEnd t)) t)
     go true ih e = absurd (omega arith)
@@ -125,7 +126,7 @@ unfolding linesOf
 no-lines = refl
 
 open-last : (s : List ℕ) → 0 < length s → lineEnd s ≡ length s → linesOf s ≡ s ∷ []
-unfolding linesOf lineEnd
+unfolding linesOf indexOf indexAfter
 open-last s l h =
     let e : linesOf (s ++ []) ≡ (s ++ []) ∷ [] = open-first s [] l h in
     rw (append-nil s) at e
@@ -205,7 +206,7 @@ some-taken false b s st = go (ltb (lineEnd (b ∷ s)) (suc (length s))) (ltb lon
 
 -- a turn on the last piece that takes nothing: there was nothing left
 nothing-left : (passing : Bool) (s : List ℕ) (st : State) → turnOf passing true s st .taken ≡ 0 → given [] none ≡ restStep passing (s ++ joined []) st
-unfolding joined restStep linesOf linesStep lineEnd
+unfolding joined restStep linesOf linesStep indexOf indexAfter
 nothing-left true [] st z = refl
 nothing-left false [] st z = refl
 nothing-left passing (b ∷ s) st z = absurd (omega (arith, some-taken passing b s st))

@@ -2,6 +2,7 @@
 use mathlib.Core.Path.{_≡_, refl, ap, ap₂, subst, _∙_}
 use mathlib.Core.List.{List, [], _∷_, _++_, map, append-assoc}
 use Prim.Native.Nat.{ℕ, _≤_}
+use native.Mathlib.Omega.{arith}
 use lib.ListN.{length, take, drop}
 use lib.Seq.{sets, drop-append-seam}
 use borrow.Author.Tests.{le-ltb}
@@ -17,12 +18,12 @@ use Rattle.map.specs.Step.{Outcome, answered, step, stateAfter}
 use Rattle.map.specs.Reply.{fixed, flat}
 use Rattle.map.proofs.Sent as sent
 use Rattle.table.specs.Memory.{stateOf, Sound}
-use Rattle.service.specs.Serve.{Answer, Effect, refused, onStep, room}
+use Rattle.service.specs.Serve.{Answer, Effect, refused, onStep, room, roomOf}
 use Rattle.service.specs.Stream.{Call, Done, Does, Serves, Run, run-end, run-call}
 use Rattle.service.specs.Demand3.{seen, seenOf, play, Roomy}
 use Rattle.service.proofs.Decides.{isSound}
 use Rattle.service.proofs.Sounds.{sound-is, does-in}
-use Rattle.service.proofs.Calls.{serve-at}
+use Rattle.service.proofs.Calls.{room-least, serve-at}
 
 nil-behind : (s : List ℕ) → s ++ [] ≡ s
 nil-behind [] = refl
@@ -59,15 +60,15 @@ one r table lent (answered a t) d s x =
       sounds = x .table .1;
     }
 
-first : (r : Request) → Valid request r → (t table : List ℕ) (c : Call) (d : Done) → Sound table → room ≤ length (c .buffer)
+first : (r : Request) → Valid request r → (t table : List ℕ) (c : Call) (d : Done) → Sound table → roomOf (r .op) ≤ length (c .buffer)
     → Serves (request .enc r ++ t) table c d → Kept r (c .buffer) (stateOf table) (step (c .context) r (stateOf table)) d
 first r v t table c d s h x =
     one r table (c .buffer) (step (c .context) r (stateOf table)) d s
     (subst (λ (e : Effect). Does e table (c .buffer) d)
-    (serve-at r v t (isSound table) (stateOf table) (c .context) (length (c .buffer)) ∙ rw (sound-is table s, le-ltb (length (c .buffer)) room h)) (does-in x))
+    (serve-at r v t (isSound table) (stateOf table) (c .context) (length (c .buffer)) ∙ rw (sound-is table s, le-ltb (length (c .buffer)) room (omega (arith, room-least (r .op))), le-ltb (length (c .buffer)) (roomOf (r .op)) h)) (does-in x))
 
 pub served-calls : (rs : List Request) (tail table : List ℕ) (calls : List Call) (dones : List Done) → WellFormed rs → Sound table
-    → Roomy (length rs) calls → Run (written rs ++ tail) table calls dones
+    → Roomy rs calls → Run (written rs ++ tail) table calls dones
     → take (length rs) (map (seen) dones) ≡ play rs calls (stateOf table)
 unfolding written play
 served-calls [] tail table calls dones v s h x = refl

@@ -19,7 +19,7 @@ use Rattle.map.specs.Revalue.{stateWith, piecesWith}
 use Rattle.map.specs.Reply.{Piece, flat, pieces}
 use Rattle.table.specs.Memory.{stateOf, Sound}
 use Rattle.table.specs.Found.{Tells}
-use Rattle.service.specs.Serve.{Answer, Effect, Verdict, served, refused, room}
+use Rattle.service.specs.Serve.{Answer, Effect, Verdict, served, refused, roomOf}
 use Rattle.service.specs.Stream.{Call, Done, effectOf, Run}
 
 -- what is seen of a call: its answer, the number of bytes sent and the buffer with them, and the state after it ("Of tables, the map's state is
@@ -58,11 +58,11 @@ play (r ∷ rs) [] st = []
 play (r ∷ rs) (c ∷ cs) st =
     seenOf r (c .buffer) st (step (c .context) r st) ∷ play rs cs (stateAfter st (step (c .context) r st))
 
--- the first n calls have "room enough, not refused 12"
-abbrev pub Roomy : ℕ → List Call → Type 0
-Roomy zero cs = Unit {0}
-Roomy (suc n) [] = Unit {0}
-Roomy (suc n) (c ∷ cs) = (room ≤ length (c .buffer)) × Roomy n cs
+-- the first calls, one for each request, have "room enough, not refused 12"
+abbrev pub Roomy : List Request → List Call → Type 0
+Roomy [] cs = Unit {0}
+Roomy (r ∷ rs) [] = Unit {0}
+Roomy (r ∷ rs) (c ∷ cs) = (roomOf (r .op) ≤ length (c .buffer)) × Roomy rs cs
 
 -- "at the same seconds and with the same reply room"
 pub data SameCalls : List Call → List Call → Type 0 where
@@ -123,7 +123,7 @@ pub data Independent (u w : List ℕ) : Progress → List ℕ → List ℕ → L
       → Independent u w p input table (c ∷ cs) (c′ ∷ cs′) (d ∷ ds) (d′ ∷ ds′)
 
 -- two rows that have u and w in one place, and else the same bytes
-pub record Changed (u w input input′ : List ℕ) : Type 0 where
+pub record SameBut (u w input input′ : List ℕ) : Type 0 where
   pub front : List ℕ
   pub back : List ℕ
   pub this : input ≡ front ++ (u ++ back)
@@ -136,11 +136,11 @@ pub record Demand3 : Type 0 where
   -- "The first calls, one for each request, read exactly that list in its order: each takes just its request's bytes, and its reply and the table
   -- after it are those of the simple map from that table."
   pub served : (rs : List Request) (tail table : List ℕ) (calls : List Call) (dones : List Done) → WellFormed rs → Sound table
-      → Roomy (length rs) calls → Run (written rs ++ tail) table calls dones
+      → Roomy rs calls → Run (written rs ++ tail) table calls dones
       → take (length rs) (map seen dones) ≡ play rs calls (stateOf table)
   -- "let bytes of one request's value in the row change, but not its length": the request with another value changes these bytes alone
   pub changed : (before behind : List Request) (r : Request) (w tail : List ℕ) → WellFormed (before ++ (r ∷ behind)) → length w ≡ length (r .args .value)
-      → Changed (r .args .value) w (written (before ++ (r ∷ behind)) ++ tail) (written (before ++ (withValue w r ∷ behind)) ++ tail)
+      → SameBut (r .args .value) w (written (before ++ (r ∷ behind)) ++ tail) (written (before ++ (withValue w r ∷ behind)) ++ tail)
   -- "Then for every list of calls, refused ones included, at the same seconds and with the same reply room, both give the same answers, every reply
   -- keeps all its bytes but those of that value, and after each call the tables differ at most in the entry that request wrote, and there in the
   -- value alone."

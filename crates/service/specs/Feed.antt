@@ -6,13 +6,13 @@ use mathlib.Core.Option.{Option, none}
 use Prim.Native.Nat.{ℕ, suc, _+_}
 use lib.ListN.{length, take, drop}
 use lib.Dec.{eqb, ltb, leb}
+use Rattle.bytes.specs.Bytes.{indexOf}
 use Rattle.map.specs.State.{State}
 use Rattle.service.specs.Line.{longest, Given, given, stateLeft, later, lineStep}
 
 -- how many bytes stand before the first line end; all of them where there is none
-unfoldable pub lineEnd : List ℕ → ℕ
-lineEnd [] = 0
-lineEnd (b ∷ s) = cond (eqb b 0x0a) 0 (suc (lineEnd s))
+abbrev pub lineEnd : List ℕ → ℕ
+lineEnd s = indexOf 0x0a s
 
 -- What one turn makes of a piece: the bytes taken, the line given if there is one, whether the rest of the line is still to be passed over, and the
 -- state that it leaves, or none where nothing changes. With nothing taken, more of the file is needed.

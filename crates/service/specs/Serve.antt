@@ -6,6 +6,7 @@ use Prim.Native.Nat.{ℕ}
 use lib.Dec.{ltb}
 use Rattle.wire.specs.Codec as wire
 use Rattle.wire.specs.Codec.{Read}
+use Rattle.message.specs.declared.Operation.{Operation}
 use Rattle.message.specs.Request.{Request, request}
 use Rattle.message.specs.Reply.{errorReply}
 use Rattle.message.specs.Refusal.{refusal}
@@ -59,7 +60,18 @@ onRead input c st (wire.refused k) = effect 0 (refused k) (errorPieces k (idIn i
 abbrev pub room : ℕ
 room = 512
 
+-- the reply room that a request of an operation asks for
+unfoldable pub roomOf : Operation → ℕ
+roomOf o = room
+
+-- a whole request that asks for more room than there is: it is taken, and nothing else is done
+unfoldable pub within : ℕ → Read Request → Effect → Effect
+within space (wire.whole r n) e = cond (ltb space (roomOf (r .op))) (effect n (refused 12) [] none) e
+within space wire.more e = e
+within space (wire.refused k) e = e
+
 -- "Serving: 12, 13, then 1 to 8 in field order, then 9, 10, 11." ok: the table is sound; space: the reply buffer's length.
 unfoldable pub serve : List ℕ → Bool → State → Context → ℕ → Effect
 serve input ok st c space =
-    cond (ltb space room) (still (refused 12)) (cond ok (onRead input c st (request .dec input)) (still (refused 13)))
+    cond (ltb space room) (still (refused 12))
+    (cond ok (within space (request .dec input) (onRead input c st (request .dec input))) (still (refused 13)))

@@ -27,16 +27,16 @@ pub record Done : Type 0 where
   pub table : List ℕ
 
 -- of a table that was changed, its state is known, and that it is sound; its bytes are the program's choice
-abbrev pub Left : List ℕ → Option State → List ℕ → Type 0
-Left old none new = new ≡ old
-Left old (some st) new = (stateOf new ≡ st) × Sound new
+abbrev pub Becomes : List ℕ → Option State → List ℕ → Type 0
+Becomes old none new = new ≡ old
+Becomes old (some st) new = (stateOf new ≡ st) × Sound new
 
 -- d is what the effect e makes of the table and of the buffer lent; behind the bytes sent the buffer keeps its bytes
 pub record Does (e : Effect) (old lent : List ℕ) (d : Done) : Type 0 where
   pub answer : d .answer ≡ e .answer
   pub size : d .size ≡ length (flat (e .sent))
   pub buffer : d .buffer ≡ sets lent 0 (flat (e .sent))
-  pub table : Left old (e .next) (d .table)
+  pub table : Becomes old (e .next) (d .table)
 
 -- ok: whether the table is sound
 abbrev pub effectOf : Bool → List ℕ → List ℕ → Call → Effect

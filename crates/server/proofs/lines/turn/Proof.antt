@@ -5,8 +5,9 @@ use native.Mathlib.Omega.{arith}
 use lib.ListN.{length}
 use lib.Seq.{length-take-le}
 use borrow.Author.Tests.{not-true, not-false}
+use Rattle.service.proofs.Pieces.{end-within}
 use Rattle.server.specs.Lines.{isDue}
-use Rattle.server.proofs.TurnLaws.{end-most, turn-passed, turn-passing, turn-line, turn-rest, turn-more, quiet, spoke}
+use Rattle.server.proofs.TurnLaws.{turn-passed, turn-passing, turn-line, turn-rest, turn-more, quiet, spoke}
 use borrow.Author.Needs.{needs}
 use Rattle.server.proofs.lines.turn.Statement.{statement}
 use Rattle.server.proofs.lines.turn.Tie as tie
@@ -40,7 +41,7 @@ due c = sym (c .before .is-due .ensures) ∙ not-false _ (c .if3 .left)
 slice-aggregate-line-sound : tie.Need-slice-aggregate-line-sound
 slice-aggregate-line-sound c =
     let l = c .before .before .before .before in
-    sym (length-take-le _ _ (omega (arith, l .line-end .ensures, end-most (begin l .args .s .now))))
+    sym (length-take-le _ _ (omega (arith, l .line-end .ensures, end-within (begin l .args .s .now))))
 
 returns-4 : tie.Need-returns-4
 returns-4 c =

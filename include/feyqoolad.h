@@ -17,7 +17,7 @@
    and a refused call changes neither a table nor a buffer, save for the error reply where fq_serve or fq_serve_stream sends one.
 
    Numbers told. `answer` is a list that the function fills from its front where it is done; fq_serve and fq_serve_stream always do. A list that is too
-   short is left as it was: the constants FQ_.._TOLD say how long it has to be. Starts and lengths that are told are those of parts of the input. */
+   short refuses the call, FQ_NO_ROOM, before anything is done: the constants FQ_.._TOLD say how long it has to be. Starts and lengths that are told are those of parts of the input. */
 #ifndef FEYQOOLAD_H
 #define FEYQOOLAD_H
 

@@ -163,6 +163,28 @@ static void stream(void) {
     SAME(fq_serve_lines(row, 0, other, sizeof other, out.at, FQ_LINES_ROOM, false, true, answer, FQ_LINES_TOLD), FQ_DONE);
 }
 
+/* A list for the answer that is one number too short: 12, and nothing is done. */
+static void short_lists(void) {
+    static const uint8_t put[] = {0xa0, 0x02, 0x0a, 0x01, 0, 0, 1, 0, 0, 2, 'b', '1', 0, 0, 1, 'x'}, pong[] = {0xa1, 0x01, 0x18, 0, 0};
+    static const uint8_t line[] = "00000000 a0020a01000001000002623100000178\n";
+    static uint8_t before[FQ_TABLE_SIZE], kept[FQ_LINES_ROOM];
+    uint64_t untold[FQ_REQUEST_TOLD];
+    SAME(fq_make(other, sizeof other), FQ_DONE);
+    memcpy(before, other, sizeof other);
+    memset(reply, 0x55, FQ_LINES_ROOM);
+    memset(kept, 0x55, sizeof kept);
+    memset(answer, 0x55, sizeof answer);
+    memcpy(untold, answer, sizeof answer);
+    SAME(fq_read_request(put, sizeof put, answer, FQ_REQUEST_TOLD - 1), FQ_NO_ROOM);
+    SAME(fq_read_reply(pong, sizeof pong, 0x17, false, answer, FQ_REPLY_TOLD - 1), FQ_NO_ROOM);
+    SAME(fq_serve(put, sizeof put, other, sizeof other, 0, reply, FQ_REPLY_ROOM, answer, FQ_SERVE_TOLD - 1), FQ_NO_ROOM);
+    SAME(fq_serve_stream(put, sizeof put, other, sizeof other, 0, reply, FQ_REPLY_ROOM, answer, FQ_STREAM_TOLD - 1), FQ_NO_ROOM);
+    SAME(fq_serve_lines(line, sizeof line - 1, other, sizeof other, reply, FQ_LINES_ROOM, false, true, answer, FQ_LINES_TOLD - 1), FQ_NO_ROOM);
+    same_bytes(__LINE__, answer, sizeof answer, untold, sizeof untold);
+    same_bytes(__LINE__, other, sizeof other, before, sizeof before);
+    same_bytes(__LINE__, reply, FQ_LINES_ROOM, kept, sizeof kept);
+}
+
 /* A table with the most and the longest entries gives the longest file. */
 static void longest_file(void) {
     static uint8_t key[FQ_KEY_LIMIT], value[FQ_VALUE_LIMIT], frame[FQ_LONGEST_REQUEST];
@@ -187,7 +209,8 @@ int main(int count, char **words) {
     by_file();
     messages();
     stream();
+    short_lists();
     longest_file();
-    printf("library: the paper's five requests from C, by calls, by lines and by a file; messages, streams and the longest file\n");
+    printf("library: the paper's five requests from C, by calls, by lines and by a file; messages, streams, lists that are too short and the longest file\n");
     return 0;
 }

@@ -7,7 +7,7 @@ use Prim.Native.Nat.{ℕ, _+_, _≤_, _<_, _^_}
 use native.Mathlib.Omega.{arith}
 use lib.ListN.{length, getD}
 use lib.Dec.{leb}
-use borrow.Author.Tests.{leb-true}
+use borrow.Author.Tests.{leb-true, le-leb, lt-leb}
 use Rattle.wire.specs.Codec.{whole, mapped, Codec}
 use Rattle.wire.specs.Write.{Sent, written, kept, sent, send}
 use Rattle.wire.proofs.Laws.{Laws, both, after-whole, sized}
@@ -15,7 +15,7 @@ use Rattle.table.specs.Memory.{stateOf}
 use Rattle.table.proofs.Lists.{lt-or-ge}
 use Rattle.stored.specs.File.{form1, file}
 use Rattle.stored.specs.Answer.{Storing}
-use Rattle.exports.specs.Codes.{sentCode, tell}
+use Rattle.exports.specs.Codes.{sentCode, tell, inRoom, IfRoom}
 use Rattle.exports.specs.Messages.{isHead, HeadFits, isReplyHead, ReplyHeadFits}
 
 pub head-fits : (ns : List ℕ) → isHead ns ≡ true → HeadFits ns
@@ -73,3 +73,21 @@ whole-fits c l s h f b n e =
 -- the third number told is another name of it
 pub told-third : (a b : ℕ) {p q : ℕ} (old : List ℕ) {new : List ℕ} → p ≡ q → new ≡ tell (a ∷ b ∷ p ∷ []) old → new ≡ tell (a ∷ b ∷ q ∷ []) old
 told-third a b old e h = h ∙ ap (λ x. tell (a ∷ b ∷ x ∷ []) old) e
+
+-- a list that is lent for an answer, with no room for its numbers and with room
+module _ (k : ℕ) (old : List ℕ) where
+  pub no-room : (x : ℕ × List ℕ) → length old < k → (12, old) ≡ inRoom k old x
+  unfolding inRoom
+  no-room x h = rw (lt-leb k (length old) h)
+
+  pub in-room : (x : ℕ × List ℕ) {y : ℕ × List ℕ} → k ≤ length old → y ≡ x → y ≡ inRoom k old x
+  unfolding inRoom
+  in-room x h e = rw (le-leb k (length old) h) e
+
+  pub if-none : (still done : Type 0) → length old < k → still → IfRoom k old still done
+  unfolding IfRoom
+  if-none still done h s = rw (lt-leb k (length old) h) s
+
+  pub if-room : (still done : Type 0) → k ≤ length old → done → IfRoom k old still done
+  unfolding IfRoom
+  if-room still done h d = rw (le-leb k (length old) h) d

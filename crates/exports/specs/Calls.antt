@@ -23,6 +23,13 @@ verdictCode more = 0
 verdictCode (refused k) = k
 verdictCode full = 257
 
+-- nothing is done, and each list lent is as it was: 12, since the list for the answer is too short
+pub record Untold (n : ℕ) (old new lent out t t' : List ℕ) : Type 0 where
+  pub code : n ≡ 12
+  pub told : new ≡ old
+  pub buffer : out ≡ lent
+  pub table : t' ≡ t
+
 -- the reply buffer and the table that a call leaves, the numbers of its answer told, and its code
 pub record TellsDone (input t : List ℕ) (c : Call) (out t' old new : List ℕ) (n : ℕ) : Type 0 where
   pub done : Done

@@ -1,13 +1,16 @@
-// The library for other languages: each function takes numbers and slices. One that answers a number answers 0 for more needed, a refusal's number,
-// or 256 for done with the count of the bytes read or written. A list of numbers that is lent too short is left as it was.
+// The library for other languages: each function takes numbers and slices, for any bytes and any lengths. What the number answered means:
+// fq_read_request, fq_read_reply: 256 and the count of the message's bytes, 0 for more needed, or the refusal 1 to 8;
+// fq_write_request, fq_write_reply: 256 and the count of the bytes written, or 16, 12;
+// fq_is_table: whether the memory is a sound table; fq_make: 256 for done, or 13;
+// fq_serve, fq_serve_stream: as the last call ended, 256 for served, 0 for more needed, or the refusal, and what else is said there;
+// fq_serve_lines: 256 for done, or 12, 13; fq_store: 256 and the count of the file's bytes, or 13, 12; fq_load: 256 for done, or 17.
+// Numbers are told at the front of the list `answer`. A list that has no room for them refuses the call before anything is done: 12.
+mod calls;
 mod given;
 mod tell;
 
 use message::Asked;
 use message::Found;
-use reply::ReplyRead;
-use request::RequestRead;
-use server::Served;
 ghost use mathlib.Core.Path.{_≡_};
 ghost use Rattle.wire.specs.Codec.{mapped};
 ghost use Rattle.message.specs.Request.{request};
@@ -18,42 +21,48 @@ ghost use Rattle.table.specs.Memory.{Sound};
 ghost use Rattle.table.specs.Found.{Tells as Says};
 ghost use Rattle.table.specs.Change.{Left, outcomeOf, made};
 ghost use Rattle.server.specs.Answer.{callOf, contextOf};
-ghost use Rattle.exports.specs.Calls.{TellsDone, TellsTotal, TellsServed, TellsStored, TellsLoaded, outcomeCode};
-ghost use Rattle.exports.specs.Codes.{coded, told};
+ghost use Rattle.exports.specs.Calls.{TellsDone, TellsTotal, TellsServed, TellsStored, TellsLoaded, outcomeCode, Untold};
+ghost use Rattle.exports.specs.Codes.{coded, told, inRoom, IfRoom};
 ghost use Rattle.exports.specs.Messages.{wholeRequest, wholeReply, sendRequest, sendReply};
+
+// How many numbers are told: of a request and of a reply that was read, of a call, of calls one after the other, and of lines.
+pub struct Told {}
+
+impl Told {
+    pub const REQUEST: usize = 16;
+
+    pub const REPLY: usize = 9;
+
+    pub const CALL: usize = 2;
+
+    pub const CALLS: usize = 3;
+
+    pub const LINES: usize = 3;
+}
 
 // The request at the front of the input. Numbers told: count of bytes, id, version, operation, flags, intelligence, topology, lifespan, max idle, entry
 // version, and the start and length of name, key and value.
 #[no_mangle]
 pub extern "C" fn fq_read_request(input: &[u8], answer: &mut [u64]) -> u64
-    ensures { λ r. ⌜ (r, now (answer .exit)) ≡ told wholeRequest (mapped requestAt (request .dec (now (input .entry)))) (now (answer .entry)) ⌝ }
+    ensures { λ r. ⌜ (r, now (answer .exit)) ≡ inRoom 16 (now (answer .entry)) (told wholeRequest (mapped requestAt (request .dec (now (input .entry)))) (now (answer .entry))) ⌝ }
 {
-    let a = request::read_request(input);
-    match a {
-        RequestRead::Whole(q, n) => {
-            tell::request(answer, q, n);
-            256 + n as u64
-        }
-        RequestRead::More => 0,
-        RequestRead::Refused(k) => k as u64,
+    if answer.len() < Told::REQUEST {
+        return 12;
     }
+    calls::read_request(input, answer)
 }
 
-// The reply at the front of the input, to an operation that was asked with flag 0x0001 or without. Numbers told: count of bytes, id, operation, status,
+// The reply at the front of the input, to an operation that was asked with flag 0x0001 or without (flag is this bit
+// alone, and not the number of the flags). Numbers told: count of bytes, id, operation, status,
 // entry version, and the start and length of value and text.
 #[no_mangle]
 pub extern "C" fn fq_read_reply(input: &[u8], op: u8, flag: bool, answer: &mut [u64]) -> u64
-    ensures { λ r. ⌜ (r, now (answer .exit)) ≡ told wholeReply (mapped replyAt (reply (asked op flag) .dec (now (input .entry)))) (now (answer .entry)) ⌝ }
+    ensures { λ r. ⌜ (r, now (answer .exit)) ≡ inRoom 9 (now (answer .entry)) (told wholeReply (mapped replyAt (reply (asked op flag) .dec (now (input .entry)))) (now (answer .entry))) ⌝ }
 {
-    let a = reply::read_reply(input, Asked { op: op, flag: flag });
-    match a {
-        ReplyRead::Whole(q, n) => {
-            tell::reply(answer, q, n);
-            256 + n as u64
-        }
-        ReplyRead::More => 0,
-        ReplyRead::Refused(k) => k as u64,
+    if answer.len() < Told::REPLY {
+        return 12;
     }
+    calls::read_reply(input, op, flag, answer)
 }
 
 // Writes a request at the front of `out`. Its numbers: id, version, operation, flags, intelligence, topology, lifespan, max idle and entry version.
@@ -122,12 +131,12 @@ pub extern "C" fn fq_serve(
     reply: &mut [u8],
     answer: &mut [u64],
 ) -> u64
-    ensures { λ r. ⌜ TellsDone (now (input .entry)) (now (table .entry)) (callOf second (now (reply .entry))) (now (reply .exit)) (now (table .exit)) (now (answer .entry)) (now (answer .exit)) r ⌝ }
+    ensures { λ r. ⌜ IfRoom 2 (now (answer .entry)) (Untold r (now (answer .entry)) (now (answer .exit)) (now (reply .entry)) (now (reply .exit)) (now (table .entry)) (now (table .exit))) (TellsDone (now (input .entry)) (now (table .entry)) (callOf second (now (reply .entry))) (now (reply .exit)) (now (table .exit)) (now (answer .entry)) (now (answer .exit)) r) ⌝ }
 {
-    let a = server::serve(input, table, second, reply);
-    tell::numbers(answer, &[a.taken as u64, a.size as u64]);
-    let v = a.verdict;
-    tell::verdict(v)
+    if answer.len() < Told::CALL {
+        return 12;
+    }
+    calls::serve(input, table, second, reply, answer)
 }
 
 // Serves the requests of the input one after the other, and answers as the last call does. Numbers told: bytes taken, bytes of the replies, and how
@@ -140,12 +149,12 @@ pub extern "C" fn fq_serve_stream(
     reply: &mut [u8],
     answer: &mut [u64],
 ) -> u64
-    ensures { λ r. ⌜ TellsTotal (contextOf second) (now (input .entry)) (now (table .entry)) (now (reply .entry)) (now (reply .exit)) (now (table .exit)) (now (answer .entry)) (now (answer .exit)) r ⌝ }
+    ensures { λ r. ⌜ IfRoom 3 (now (answer .entry)) (Untold r (now (answer .entry)) (now (answer .exit)) (now (reply .entry)) (now (reply .exit)) (now (table .entry)) (now (table .exit))) (TellsTotal (contextOf second) (now (input .entry)) (now (table .entry)) (now (reply .entry)) (now (reply .exit)) (now (table .exit)) (now (answer .entry)) (now (answer .exit)) r) ⌝ }
 {
-    let a = server::serve_stream(input, table, second, reply);
-    tell::numbers(answer, &[a.taken as u64, a.size as u64, a.calls as u64]);
-    let v = a.verdict;
-    tell::verdict(v)
+    if answer.len() < Told::CALLS {
+        return 12;
+    }
+    calls::serve_stream(input, table, second, reply, answer)
 }
 
 // Serves the lines of a piece of a file: 256 is served. Numbers told: bytes taken, bytes of the output, and 1 where the rest of a line is still to be
@@ -159,17 +168,12 @@ pub extern "C" fn fq_serve_lines(
     last: bool,
     answer: &mut [u64],
 ) -> u64
-    ensures { λ r. ⌜ TellsServed last passing (now (input .entry)) (now (table .entry)) (now (out .entry)) (now (out .exit)) (now (table .exit)) (now (answer .entry)) (now (answer .exit)) r ⌝ }
+    ensures { λ r. ⌜ IfRoom 3 (now (answer .entry)) (Untold r (now (answer .entry)) (now (answer .exit)) (now (out .entry)) (now (out .exit)) (now (table .entry)) (now (table .exit))) (TellsServed last passing (now (input .entry)) (now (table .entry)) (now (out .entry)) (now (out .exit)) (now (table .exit)) (now (answer .entry)) (now (answer .exit)) r) ⌝ }
 {
-    let r = server::serve_lines(input, table, out, passing, last);
-    match r {
-        Served::Fed(a) => {
-            let p = tell::bit(a.passing);
-            tell::numbers(answer, &[a.taken as u64, a.size as u64, p]);
-            256
-        }
-        Served::Refused(k) => k as u64,
+    if answer.len() < Told::LINES {
+        return 12;
     }
+    calls::serve_lines(input, table, out, passing, last, answer)
 }
 
 // Writes the stored file of a table.

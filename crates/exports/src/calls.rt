@@ -1,0 +1,95 @@
+// The functions behind those that are exported and tell numbers.
+use crate::tell;
+use message::Asked;
+use reply::ReplyRead;
+use request::RequestRead;
+use server::Served;
+ghost use mathlib.Core.Path.{_≡_};
+ghost use Rattle.wire.specs.Codec.{mapped};
+ghost use Rattle.message.specs.Request.{request};
+ghost use Rattle.message.specs.Reply.{asked, reply};
+ghost use Rattle.request.specs.RequestRead.{requestAt};
+ghost use Rattle.reply.specs.ReplyRead.{replyAt};
+ghost use Rattle.server.specs.Answer.{callOf, contextOf};
+ghost use Rattle.exports.specs.Calls.{TellsDone, TellsTotal, TellsServed};
+ghost use Rattle.exports.specs.Codes.{told};
+ghost use Rattle.exports.specs.Messages.{wholeRequest, wholeReply};
+
+pub(crate) fn read_request(input: &[u8], answer: &mut [u64]) -> u64
+    ensures { λ r. ⌜ (r, now (answer .exit)) ≡ told wholeRequest (mapped requestAt (request .dec (now (input .entry)))) (now (answer .entry)) ⌝ }
+{
+    let a = request::read_request(input);
+    match a {
+        RequestRead::Whole(q, n) => {
+            tell::request(answer, q, n);
+            256 + n as u64
+        }
+        RequestRead::More => 0,
+        RequestRead::Refused(k) => k as u64,
+    }
+}
+
+pub(crate) fn read_reply(input: &[u8], op: u8, flag: bool, answer: &mut [u64]) -> u64
+    ensures { λ r. ⌜ (r, now (answer .exit)) ≡ told wholeReply (mapped replyAt (reply (asked op flag) .dec (now (input .entry)))) (now (answer .entry)) ⌝ }
+{
+    let a = reply::read_reply(input, Asked { op: op, flag: flag });
+    match a {
+        ReplyRead::Whole(q, n) => {
+            tell::reply(answer, q, n);
+            256 + n as u64
+        }
+        ReplyRead::More => 0,
+        ReplyRead::Refused(k) => k as u64,
+    }
+}
+
+pub(crate) fn serve(
+    input: &[u8],
+    table: &mut [u8],
+    second: u32,
+    reply: &mut [u8],
+    answer: &mut [u64],
+) -> u64
+    ensures { λ r. ⌜ TellsDone (now (input .entry)) (now (table .entry)) (callOf second (now (reply .entry))) (now (reply .exit)) (now (table .exit)) (now (answer .entry)) (now (answer .exit)) r ⌝ }
+{
+    let a = server::serve(input, table, second, reply);
+    tell::numbers(answer, &[a.taken as u64, a.size as u64]);
+    let v = a.verdict;
+    tell::verdict(v)
+}
+
+pub(crate) fn serve_stream(
+    input: &[u8],
+    table: &mut [u8],
+    second: u32,
+    reply: &mut [u8],
+    answer: &mut [u64],
+) -> u64
+    ensures { λ r. ⌜ TellsTotal (contextOf second) (now (input .entry)) (now (table .entry)) (now (reply .entry)) (now (reply .exit)) (now (table .exit)) (now (answer .entry)) (now (answer .exit)) r ⌝ }
+{
+    let a = server::serve_stream(input, table, second, reply);
+    tell::numbers(answer, &[a.taken as u64, a.size as u64, a.calls as u64]);
+    let v = a.verdict;
+    tell::verdict(v)
+}
+
+pub(crate) fn serve_lines(
+    input: &[u8],
+    table: &mut [u8],
+    out: &mut [u8],
+    passing: bool,
+    last: bool,
+    answer: &mut [u64],
+) -> u64
+    ensures { λ r. ⌜ TellsServed last passing (now (input .entry)) (now (table .entry)) (now (out .entry)) (now (out .exit)) (now (table .exit)) (now (answer .entry)) (now (answer .exit)) r ⌝ }
+{
+    let r = server::serve_lines(input, table, out, passing, last);
+    match r {
+        Served::Fed(a) => {
+            let p = tell::bit(a.passing);
+            tell::numbers(answer, &[a.taken as u64, a.size as u64, p]);
+            256
+        }
+        Served::Refused(k) => k as u64,
+    }
+}

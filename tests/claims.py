@@ -45,6 +45,20 @@ def rows():
             yield f"| `{crate}` | {', '.join(f'`{e}`' for e in edits)} | {', '.join(f'`{f}` {n}' for f, n in wrong.items())} |\n"
 
 
+def stale_edits():
+    """The wrong programs whose line to be changed stands nowhere in its file."""
+    for path in sorted(glob.glob('tests/wrong/*.txt') + glob.glob('crates/*/must-fail/*.edit')):
+        crate = path.split('/')[1] if path.startswith('crates/') else os.path.basename(path)[:-4]
+        with open(path, encoding='utf-8') as lines:
+            for line in lines:
+                word, _, rest = line.rstrip('\n').partition(': ')
+                if word == 'file':
+                    with open(f'crates/{crate}/{rest}', encoding='utf-8') as file:
+                        text = file.read()
+                elif word == 'old' and rest not in text:
+                    yield f'{path}: no line has {rest!r}'
+
+
 def source(folder):
     text = ''
     for path in glob.glob(f'{folder}/**/*', recursive=True):
@@ -63,6 +77,7 @@ def main():
             file.write(text[:at] + ''.join(rows()))
         return []
     faults = [] if text[at:] == ''.join(rows()) else ['the table of public functions is not that of the files (tests/claims.py --write)']
+    faults += stale_edits()
     names = set(crates())
     for crate in crates():
         faults += [f'{crate}, {f}: fewer than two wrong programs' for f in public_functions(crate) if wrong_programs(crate)[f] < 2]

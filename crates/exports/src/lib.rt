@@ -2,7 +2,8 @@
 // fq_read_request, fq_read_reply: 256 and the count of the message's bytes, 0 for more needed, or the refusal 1 to 8;
 // fq_write_request, fq_write_reply: 256 and the count of the bytes written, or 16, 12;
 // fq_is_table: whether the memory is a sound table; fq_make: 256 for done, or 13;
-// fq_serve, fq_serve_stream: as the last call ended, 256 for served, 0 for more needed, or the refusal, and what else is said there;
+// fq_serve: 256 for served, 0 for more needed, or the refusal; fq_serve_stream: the same of the last call, or 257 where the reply buffer has no room
+// for another one;
 // fq_serve_lines: 256 for done, or 12, 13; fq_store: 256 and the count of the file's bytes, or 13, 12; fq_load: 256 for done, or 17.
 // Numbers are told at the front of the list `answer`. A list that has no room for them refuses the call before anything is done: 12.
 mod calls;

@@ -8,7 +8,7 @@ use crate::difference::{hold, same, Difference, Outcome};
 use crate::lent::{Lent, Words};
 use crate::make;
 use crate::memory;
-use crate::subject::{verdict_code, Subject, SERVE_WORDS};
+use crate::subject::{verdict_code, Subject, SERVE_WORDS, UNTOLD};
 use crate::trial::Trial;
 
 /// The table in memory, the same table of the reference, and the keys that
@@ -90,7 +90,21 @@ fn made<S: Subject>(
         call.second,
         expected.slice_mut(),
     );
-    let mut words = Words::about(&mut trial.chance, SERVE_WORDS);
+    // A call that has no room for its answer does nothing: the one behind it is
+    // compared as if it had not been made.
+    if trial.chance.below(16) == 0 {
+        let mut few = Words::new(trial.chance.below(SERVE_WORDS));
+        let code = trial.subject.serve(
+            input.slice(),
+            world.memory.slice_mut(),
+            call.second,
+            reply.slice_mut(),
+            few.slice_mut(),
+        );
+        same("the return code where the answer has no room", UNTOLD, code)?;
+        few.kept_behind(0)?;
+    }
+    let mut words = Words::enough(&mut trial.chance, SERVE_WORDS);
     let code = trial.subject.serve(
         input.slice(),
         world.memory.slice_mut(),

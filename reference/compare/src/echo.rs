@@ -16,7 +16,7 @@ use crate::memory::{self, number, put_number, row_at, COUNT, DEADLINE, LAST, SIZ
 use crate::messages::{reply_numbers, request_numbers};
 use crate::subject::{
     read_code, verdict_code, write_code, Asked, Piece, ReplyParts, RequestParts, ServesLines,
-    Stores, Subject, FULL, GOOD,
+    Stores, Subject, FULL, GOOD, REPLY_WORDS, REQUEST_WORDS, SERVE_WORDS, STREAM_WORDS, UNTOLD,
 };
 
 /// What is wrong with an `Echo`.
@@ -441,6 +441,12 @@ fn sort_rows(memory: &mut [u8], count: usize) {
 
 impl Subject for Echo {
     fn read_request(&mut self, input: &[u8], answer: &mut [u64]) -> u64 {
+        if answer.len() < REQUEST_WORDS {
+            if self.has(Fault::AnswersInShortBuffer) && answer.len() == 15 {
+                answer[0] = input.len() as u64;
+            }
+            return UNTOLD;
+        }
         let read = read_request(input);
         let code = self.faulty_read(read_code(&read), input);
         let Read::Whole(request, taken) = read else {
@@ -451,9 +457,6 @@ impl Subject for Echo {
         };
         if self.has(Fault::LengthOfOneByte) && request.value.len() > 127 {
             return 5;
-        }
-        if self.has(Fault::AnswersInShortBuffer) && answer.len() == 15 {
-            answer[0] = taken as u64;
         }
         let fields = of_request(&request);
         let off = usize::from(self.has(Fault::SpanOff));
@@ -489,6 +492,9 @@ impl Subject for Echo {
     }
 
     fn read_reply(&mut self, input: &[u8], asked: Asked, answer: &mut [u64]) -> u64 {
+        if answer.len() < REPLY_WORDS {
+            return UNTOLD;
+        }
         let flag = asked.flag || self.has(Fault::IgnoresFlag);
         let read = read_reply(asked.op, flag, input);
         let code = read_code(&read);
@@ -533,6 +539,9 @@ impl Subject for Echo {
         reply: &mut [u8],
         answer: &mut [u64],
     ) -> u64 {
+        if answer.len() < SERVE_WORDS {
+            return UNTOLD;
+        }
         let (code, taken, sent) = self.one_call(input, table, second, reply);
         fill(answer, &[taken as u64, sent as u64]);
         code
@@ -546,6 +555,9 @@ impl Subject for Echo {
         reply: &mut [u8],
         answer: &mut [u64],
     ) -> u64 {
+        if answer.len() < STREAM_WORDS {
+            return UNTOLD;
+        }
         let (mut taken, mut sent, mut calls) = (0, 0, 0);
         loop {
             let (code, more, length) =

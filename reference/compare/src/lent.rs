@@ -88,6 +88,14 @@ impl Words {
         }
     }
 
+    /// Mostly as long as needed; at times longer.
+    pub fn enough(chance: &mut Chance, needed: usize) -> Words {
+        match chance.below(16) {
+            0 => Words::new(needed + 1 + chance.below(4)),
+            _ => Words::new(needed),
+        }
+    }
+
     pub fn slice(&self) -> &[u64] {
         &self.words[WORD_MARGIN..self.words.len() - WORD_MARGIN]
     }

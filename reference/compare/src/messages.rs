@@ -10,7 +10,7 @@ use crate::difference::{hold, same, Difference, Outcome};
 use crate::fields::{join, of_reply, of_request, place, Field, Kind};
 use crate::lent::{Lent, Words};
 use crate::make;
-use crate::subject::{read_code, Asked, Subject, REPLY_WORDS, REQUEST_WORDS};
+use crate::subject::{read_code, Asked, Subject, REPLY_WORDS, REQUEST_WORDS, UNTOLD};
 use crate::trial::Trial;
 use crate::writers;
 
@@ -75,6 +75,9 @@ fn check_request<S: Subject>(trial: &mut Trial<S>, input: &[u8]) -> Outcome {
     let mut answer = Words::about(&mut trial.chance, REQUEST_WORDS);
     let code = trial.subject.read_request(lent.slice(), answer.slice_mut());
     trial.counts.message(code);
+    if answer.slice().len() < REQUEST_WORDS {
+        return untold(code, &answer);
+    }
     same("the return code", read_code(&expected), code)?;
     lent.same("the input is changed", &Lent::of(input))?;
     match expected {
@@ -83,10 +86,13 @@ fn check_request<S: Subject>(trial: &mut Trial<S>, input: &[u8]) -> Outcome {
     }
 }
 
+/// A list for the answer that is too short refuses the call, and is kept.
+fn untold(code: u64, answer: &Words) -> Outcome {
+    same("the return code where the answer has no room", UNTOLD, code)?;
+    answer.kept_behind(0)
+}
+
 fn request_is(request: &Request, taken: usize, answer: &Words, input: &[u8]) -> Outcome {
-    if answer.slice().len() < REQUEST_WORDS {
-        return answer.kept_behind(0);
-    }
     answer.kept_behind(REQUEST_WORDS)?;
     let numbers = request_numbers(request, taken);
     let names = "count, id, version, operation, flags, intelligence, topology, lifespan, \
@@ -123,6 +129,9 @@ fn check_reply<S: Subject>(trial: &mut Trial<S>, asked: Asked, input: &[u8]) -> 
         .subject
         .read_reply(lent.slice(), asked, answer.slice_mut());
     trial.counts.message(code);
+    if answer.slice().len() < REPLY_WORDS {
+        return untold(code, &answer);
+    }
     same("the return code", read_code(&expected), code)?;
     lent.same("the input is changed", &Lent::of(input))?;
     match expected {
@@ -132,9 +141,6 @@ fn check_reply<S: Subject>(trial: &mut Trial<S>, asked: Asked, input: &[u8]) -> 
 }
 
 fn reply_is(asked: Asked, reply: &Reply, taken: usize, answer: &Words, input: &[u8]) -> Outcome {
-    if answer.slice().len() < REPLY_WORDS {
-        return answer.kept_behind(0);
-    }
     answer.kept_behind(REPLY_WORDS)?;
     let numbers = reply_numbers(reply, taken);
     let names = "count, id, operation, status, entry version";

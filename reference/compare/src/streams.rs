@@ -11,7 +11,7 @@ use crate::fields::{join, of_request};
 use crate::lent::{Lent, Words};
 use crate::make;
 use crate::memory;
-use crate::subject::{verdict_code, Subject, FULL, GOOD, SERVE_WORDS, STREAM_WORDS};
+use crate::subject::{verdict_code, Subject, FULL, GOOD, SERVE_WORDS, STREAM_WORDS, UNTOLD};
 use crate::trial::Trial;
 
 /// What a stream of calls comes to.
@@ -270,7 +270,19 @@ fn whole_stream<S: Subject>(
 ) -> Outcome {
     let input = Lent::of(call.input);
     let total = total.told();
-    let mut words = Words::about(&mut trial.chance, STREAM_WORDS);
+    if trial.chance.below(16) == 0 {
+        let mut few = Words::new(trial.chance.below(STREAM_WORDS));
+        let code = trial.subject.serve_stream(
+            input.slice(),
+            world.memory.slice_mut(),
+            call.second,
+            replies.slice_mut(),
+            few.slice_mut(),
+        );
+        same("the return code where the answer has no room", UNTOLD, code)?;
+        few.kept_behind(0)?;
+    }
+    let mut words = Words::enough(&mut trial.chance, STREAM_WORDS);
     let code = trial.subject.serve_stream(
         input.slice(),
         world.memory.slice_mut(),

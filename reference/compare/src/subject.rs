@@ -10,6 +10,9 @@ pub const GOOD: u64 = 0x100;
 pub const FULL: u64 = 0x101;
 
 /// The words of an answer.
+/// The answer to a call whose list for the answer is too short: nothing is
+/// done.
+pub const UNTOLD: u64 = 12;
 pub const REQUEST_WORDS: usize = 16;
 pub const REPLY_WORDS: usize = 9;
 pub const SERVE_WORDS: usize = 2;

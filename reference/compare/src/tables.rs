@@ -136,7 +136,7 @@ fn refused<S: Subject>(
     let expected = if room < 512 { 12 } else { 13 };
     let mut reply = before.clone();
 
-    let mut words = Words::about(&mut trial.chance, SERVE_WORDS);
+    let mut words = Words::enough(&mut trial.chance, SERVE_WORDS);
     let (table, out) = (lent.slice_mut(), reply.slice_mut());
     let code = trial
         .subject
@@ -145,7 +145,7 @@ fn refused<S: Subject>(
     same("the return code of fq_serve", expected, code)?;
     words.are(&[0, 0])?;
 
-    let mut words = Words::about(&mut trial.chance, STREAM_WORDS);
+    let mut words = Words::enough(&mut trial.chance, STREAM_WORDS);
     let (table, out) = (lent.slice_mut(), reply.slice_mut());
     let code = trial
         .subject

@@ -1,6 +1,7 @@
 #!/usr/bin/env python3
 """Holds docs/CLAIMS.md to the files: each edit, file and function that it names is there, its table of public functions lists the edits and the
-wrong programs that there are, and each public function has two wrong programs or more. With --write, that table is written again."""
+wrong programs that there are, each public function has two wrong programs or more, and each public law that no other file cites is a claim. With
+--write, that table is written again."""
 import glob
 import os
 import re
@@ -59,6 +60,26 @@ def stale_edits():
                     yield f'{path}: no line has {rest!r}'
 
 
+def names_in(text):
+    """The names in a text of definitions, without its comments."""
+    return set(re.findall(r'[^\s(){};,.`]+', re.sub(r'--.*', '', text)))
+
+
+def unclaimed_laws(claimed):
+    """The public laws that no other file cites and docs/CLAIMS.md does not name."""
+    texts = {}
+    for path in glob.glob('crates/*/**/*', recursive=True):
+        if path.endswith(('.rt', '.antt')):
+            with open(path, encoding='utf-8') as file:
+                texts[path] = file.read()
+    cited = Counter(name for text in texts.values() for name in names_in(text))
+    for path in sorted(glob.glob('crates/*/proofs/*.antt')):
+        for indent, name in re.findall(r'^( *)(?:unfoldable |abbrev )?pub (\S+) :', texts[path], re.M):
+            defined = re.search(rf'^{indent}{re.escape(name)}(?: .*)?=', texts[path], re.M)
+            if defined and cited[name] == 1 and name not in claimed:
+                yield f'{path}: no other file cites {name}, and no claim names it'
+
+
 def source(folder):
     text = ''
     for path in glob.glob(f'{folder}/**/*', recursive=True):
@@ -78,6 +99,7 @@ def main():
         return []
     faults = [] if text[at:] == ''.join(rows()) else ['the table of public functions is not that of the files (tests/claims.py --write)']
     faults += stale_edits()
+    faults += unclaimed_laws(names_in(text))
     names = set(crates())
     for crate in crates():
         faults += [f'{crate}, {f}: fewer than two wrong programs' for f in public_functions(crate) if wrong_programs(crate)[f] < 2]

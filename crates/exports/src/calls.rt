@@ -1,15 +1,15 @@
 // The functions behind those that are exported and tell numbers.
 use crate::tell;
 use message::Asked;
-use reply::ReplyRead;
-use request::RequestRead;
+use reply_reader::ReplyRead;
+use request_reader::RequestRead;
 use server::Served;
 ghost use mathlib.Core.Path.{_≡_};
 ghost use Rattle.wire.specs.Codec.{mapped};
 ghost use Rattle.message.specs.Request.{request};
 ghost use Rattle.message.specs.Reply.{asked, reply};
-ghost use Rattle.request.specs.RequestRead.{requestAt};
-ghost use Rattle.reply.specs.ReplyRead.{replyAt};
+ghost use Rattle.request_reader.specs.RequestRead.{requestAt};
+ghost use Rattle.reply_reader.specs.ReplyRead.{replyAt};
 ghost use Rattle.server.specs.Answer.{callOf, contextOf};
 ghost use Rattle.exports.specs.Calls.{TellsDone, TellsTotal, TellsServed};
 ghost use Rattle.exports.specs.Codes.{told};
@@ -18,7 +18,7 @@ ghost use Rattle.exports.specs.Messages.{wholeRequest, wholeReply};
 pub(crate) fn read_request(input: &[u8], answer: &mut [u64]) -> u64
     ensures { λ r. ⌜ (r, now (answer .exit)) ≡ told wholeRequest (mapped requestAt (request .dec (now (input .entry)))) (now (answer .entry)) ⌝ }
 {
-    let a = request::read_request(input);
+    let a = request_reader::read_request(input);
     match a {
         RequestRead::Whole(q, n) => {
             tell::request(answer, q, n);
@@ -32,7 +32,7 @@ pub(crate) fn read_request(input: &[u8], answer: &mut [u64]) -> u64
 pub(crate) fn read_reply(input: &[u8], op: u8, flag: bool, answer: &mut [u64]) -> u64
     ensures { λ r. ⌜ (r, now (answer .exit)) ≡ told wholeReply (mapped replyAt (reply (asked op flag) .dec (now (input .entry)))) (now (answer .entry)) ⌝ }
 {
-    let a = reply::read_reply(input, Asked { op: op, flag: flag });
+    let a = reply_reader::read_reply(input, Asked { op: op, flag: flag });
     match a {
         ReplyRead::Whole(q, n) => {
             tell::reply(answer, q, n);

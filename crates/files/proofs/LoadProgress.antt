@@ -65,7 +65,7 @@ module _ (call : (buf t : List ℕ) (s : Window) → LoadAnswers buf t s) (c : C
       let a = call buf t s in
       after-answer c (λ file buf t s l w f h. run-on n file buf t s l w f h) file buf t s l w f h (a .buffer) (a .table) (a .answer) (a .does)
 
-  pub loadings-end : (file buf t : List ℕ) → longestStored < length buf → LoadRan file buf t begin
+  loadings-end : (file buf t : List ℕ) → longestStored < length buf → LoadRan file buf t begin
   loadings-end file buf t w =
       run-on (suc (togo file buf begin)) file buf t begin (record { order = omega arith; within = omega arith }) w (λ e. never (cc)) (omega arith)
 

@@ -162,7 +162,7 @@ module _ (call : (buf t out : List ℕ) (s : Window) → Answers buf t out s) (c
       let a = call buf t out s in
       after-answer c (λ file buf t out s r f h. run-on n file buf t out s r f h) file s r f h (a .buffer) (a .table) (a .output) (a .answer) (a .does)
 
-  pub runs-end : (file buf t out : List ℕ) → longest < length buf → lineRoom ≤ length out → Sound t → Ran file buf t begin
+  runs-end : (file buf t out : List ℕ) → longest < length buf → lineRoom ≤ length out → Sound t → Ran file buf t begin
   runs-end file buf t out l r d =
       run-on (suc (togo file buf begin)) file buf t out begin (record { lies = record { order = omega arith; within = omega arith }; long = l; room = r; sound = d })
       (λ e. never (cc)) (omega arith)

@@ -55,7 +55,7 @@ module _ (buf left : List ℕ) (h : length left ≤ length buf) where
 
 -- what is left, and what a read brings behind it
 module _ {buf buf′ p buf″ : List ℕ} {s s′ : Window} {n : ℕ} {c : Bool} (m : Moves buf s n c s′ buf′) (b : Brings buf′ (s′ .held) p buf″) where
-  pub left-long : length (drop n (inside buf s)) ≤ length buf
+  left-long : length (drop n (inside buf s)) ≤ length buf
   left-long = omega (arith, m .room, ap (λ (s : Window). s .held) (m .next))
 
   pub inside-more : inside buf″ (arrived s′ (length p)) ≡ drop n (inside buf s) ++ p

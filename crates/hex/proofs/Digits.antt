@@ -14,7 +14,7 @@ pub data Range (b : ℕ) : Type 0 where
   decimal : 0x30 ≤ b → b ≤ 0x39 → Range b
   letter : 0x61 ≤ b → b ≤ 0x66 → Range b
 
-pub digit-range : (b : ℕ) → isDigit b ≡ true → Range b
+digit-range : (b : ℕ) → isDigit b ≡ true → Range b
 unfolding isDigit
 digit-range b e = go (leb b 0x39) refl e
   where

@@ -81,7 +81,7 @@ before-none : (o : Option (List ℕ)) → before [] o ≡ o
 before-none none = refl
 before-none (some bs) = refl
 
-pub append-hex : (xs t : List ℕ) → Bytes xs → fromHex (toHex xs ++ t) ≡ before xs (fromHex t)
+append-hex : (xs t : List ℕ) → Bytes xs → fromHex (toHex xs ++ t) ≡ before xs (fromHex t)
 unfolding toHex fromHex
 append-hex [] t h = sym (before-none (fromHex t))
 append-hex (b ∷ xs) t h =

@@ -107,7 +107,7 @@ module _ (w : List ℕ) (c : Context) (r : Request) (st : State) (h : Each (λ e
       rw (act-value (answer r st) (planned r st .change), cond-of (outcomeState (suc (st .last)) w) (isEmpty (r .name)))
 
 -- the last version issued behind a change: only what is stored gets one
-abbrev pub lastBehind : Change → ℕ → ℕ
+abbrev lastBehind : Change → ℕ → ℕ
 lastBehind keep n = n
 lastBehind store n = suc n
 lastBehind drop n = n

@@ -39,7 +39,7 @@ module _ (v : ℕ) (w : List ℕ) where
   append-with (e ∷ a) b = rw (append-with a b)
 
   -- an entry of another version keeps its value
-  pub entry-other : (e : Entry) → (e .version ≡ v → ⊥) → entryWith v w e ≡ e
+  entry-other : (e : Entry) → (e .version ≡ v → ⊥) → entryWith v w e ≡ e
   entry-other e h = rw (ne-eqb (e .version) v h)
 
   -- and so do all, where each version is below v

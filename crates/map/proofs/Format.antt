@@ -139,7 +139,7 @@ shown-good t m.value (some e) h i = type-good _ _ _ _ refl (value-good e i)
 shown-good t m.versioned (some e) h i = type-good _ _ _ _ refl (seq-good _ _ (big-good 8 (e .version) (omega (arith, i .1))) (value-good e i))
 
 -- an old value
-abbrev pub oldOf : Option Entry → Shown
+abbrev oldOf : Option Entry → Shown
 oldOf none = noValue
 oldOf (some e) = value e
 

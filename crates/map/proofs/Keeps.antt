@@ -25,7 +25,7 @@ pub below : (st : State) → IsTable st → Each (λ e. e .version ≤ st .last)
 below st s = each-map (Issued (st .last)) (λ e. e .version ≤ st .last) (λ e h. h .1) (st .entries) (s .issued)
 
 -- the entry that a request writes is within the sizes
-pub entry-sizes : (c : Context) (r : Request) (n : ℕ) → Valid request r → c .second < 0x1_0000_0000 → Sizes (entry c r n)
+entry-sizes : (c : Context) (r : Request) (n : ℕ) → Valid request r → c .second < 0x1_0000_0000 → Sizes (entry c r n)
 unfolding entry deadline
 entry-sizes c r n v h =
     let s = small r v in
@@ -127,7 +127,7 @@ module _ (c : Context) (r : Request) (st : State) (s : IsTable st) where
     order-changed empty = tt
 
   module _ (a : Answer) (t : State) (e : step c r st ≡ answered a t) where
-    pub keeps-order : Ascending (st .entries) → Ascending (t .entries)
+    keeps-order : Ascending (st .entries) → Ascending (t .entries)
     keeps-order o = rw (did c r st a t e .state) (order-changed o (planned r st .change))
 
     pub keeps-table : Valid request r → c .second < 0x1_0000_0000 → IsTable t

@@ -14,18 +14,18 @@ use Rattle.map.specs.Order as spec
 use Rattle.map.specs.Order.{Same, cons, swap, then, SameState, SameOutcome}
 use Rattle.map.proofs.Laws.{same-true}
 
-pub same-self : (es : List Entry) → Same es es
+same-self : (es : List Entry) → Same es es
 same-self [] = spec.none
 same-self (e ∷ es) = cons (same-self es)
 
 -- what is said of each entry, or of each two in either order, is said of a list in any order
-pub same-each : (P : Entry → Type 0) {es fs : List Entry} → Same es fs → Each P es → Each P fs
+same-each : (P : Entry → Type 0) {es fs : List Entry} → Same es fs → Each P es → Each P fs
 same-each P spec.none h = tt
 same-each P (cons s) h = (h .0, same-each P s (h .1))
 same-each P swap h = (h .1 .0, (h .0, h .1 .1))
 same-each P (then s t) h = same-each P t (same-each P s h)
 
-pub same-pairs : (R : Entry → Entry → Type 0) → ((e f : Entry) → R e f → R f e) → {es fs : List Entry} → Same es fs → Pairs R es → Pairs R fs
+same-pairs : (R : Entry → Entry → Type 0) → ((e f : Entry) → R e f → R f e) → {es fs : List Entry} → Same es fs → Pairs R es → Pairs R fs
 same-pairs R turn spec.none h = tt
 same-pairs R turn (cons {e} s) h = (same-each (R e) s (h .0), same-pairs R turn s (h .1))
 same-pairs R turn (swap {e} {f}) h = ((turn e f (h .0 .0), h .1 .0), (h .0 .1, h .1 .1))
@@ -37,7 +37,7 @@ same-length (cons s) = ap suc (same-length s)
 same-length swap = refl
 same-length (then s t) = same-length s ∙ same-length t
 
-pub same-append : (x : List Entry) {es fs : List Entry} → Same es fs → Same (es ++ x) (fs ++ x)
+same-append : (x : List Entry) {es fs : List Entry} → Same es fs → Same (es ++ x) (fs ++ x)
 same-append x spec.none = same-self x
 same-append x (cons s) = cons (same-append x s)
 same-append x swap = swap
@@ -55,7 +55,7 @@ without-swap false true e f es = same-self (e ∷ es)
 without-swap false false e f es = swap
 
 module _ (p : Entry → Bool) where
-  pub same-without : {es fs : List Entry} → Same es fs → Same (without p es) (without p fs)
+  same-without : {es fs : List Entry} → Same es fs → Same (without p es) (without p fs)
   unfolding without
   same-without spec.none = spec.none
   same-without (cons {e} s) = without-cons (p e) e (same-without s)
@@ -77,7 +77,7 @@ module _ (k : List ℕ) where
       go false true p q = refl
       go false false p q = refl
 
-  pub same-find : {es fs : List Entry} → Same es fs → Pairs OtherKey es → find (hasKey k) es ≡ find (hasKey k) fs
+  same-find : {es fs : List Entry} → Same es fs → Pairs OtherKey es → find (hasKey k) es ≡ find (hasKey k) fs
   unfolding find
   same-find spec.none h = refl
   same-find (cons {e} s) h = ap (cond (hasKey k e) (some e)) (same-find s (h .1))

@@ -17,7 +17,7 @@ some-byte r v t e =
     never (cc request-starts)
 
 -- two written requests that begin the same list are one
-pub same-first : (r s : Request) (t u : List ℕ) → Valid request r → Valid request s → request .enc r ++ t ≡ request .enc s ++ u → (r ≡ s) × (t ≡ u)
+same-first : (r s : Request) (t u : List ℕ) → Valid request r → Valid request s → request .enc r ++ t ≡ request .enc s ++ u → (r ≡ s) × (t ≡ u)
 same-first r s t u v w e =
     let p = request-laws .round r t v in
     let q = request-laws .round s u w in

@@ -53,7 +53,7 @@ textBody-laws =
     type-laws (λ p. noEntry p && noValue p) (λ t. payload 0 [] t) (λ p. p .text) (limitedText textLimit) (text-laws textLimit)
     (λ p t. let x = both (noEntry p) (noValue p) t in same-payload p (is-zero _ (x .0)) (is-empty _ (x .1)) refl) (λ s v. (refl, refl))
 
-pub fieldsOf-laws : (f : Form) → Laws (fieldsOf f)
+fieldsOf-laws : (f : Form) → Laws (fieldsOf f)
 unfolding fieldsOf
 fieldsOf-laws form.Nothing = noBody-laws
 fieldsOf-laws (form.Value lim) = valueBody-laws lim
@@ -81,7 +81,7 @@ module _ (comes : ℕ → Bool) (rows : ℕ → List (ℕ × Body)) (flag : Bool
       let k = eqb-true (p .1 .1 .1 .1 .0) 0 (guard-valid (λ m. eqb m 0) 8 byte (p .1 .1 .1 .1 .0) (b .0) .0) in
       ap₂ {C = ℕ × Fields} (λ (m k : ℕ). (m, (p .1 .0, (p .1 .1 .0, (p .1 .1 .1 .0, (k, p .1 .1 .1 .1 .1)))))) (sym m) (sym k)
 
-  pub message-laws : Laws (message comes rows flag)
+  message-laws : Laws (message comes rows flag)
   unfolding message
   message-laws = type-laws all toReply fromReply (fields comes rows flag) fields-laws (λ r e. refl) (λ p v. (fields-back p v, refl))
 

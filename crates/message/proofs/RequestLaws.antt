@@ -49,7 +49,7 @@ coded n =
     or n Put (or n Get (or n PutIfAbsent (or n Replace (or n ReplaceIfUnmodified (or n Remove (or n RemoveIfUnmodified (or n ContainsKey (or n GetWithVersion
     (or n Clear (or n Ping (record { is = λ e. never (cc) })))))))))))
 
-pub known-code : (n : ℕ) → isKnown (findCode n) ≡ true → codeOf (known (findCode n)) ≡ n
+known-code : (n : ℕ) → isKnown (findCode n) ≡ true → codeOf (known (findCode n)) ≡ n
 known-code n = coded n .is
 
 pub operation-laws : (e : Edition) → Laws (operation e)
@@ -111,7 +111,7 @@ module _ (a : Args) where
   unfolding argsOf
   bare-is v = none (type-valid _ _ _ _ a v .0)
 
-pub args-laws : (s : Shape) → Laws (argsOf s)
+args-laws : (s : Shape) → Laws (argsOf s)
 unfolding argsOf
 args-laws keyed =
     type-laws (λ a. noTimes a && (noEntry a && noValue a)) (λ k. args k 0 0 0 []) (λ a. a .key) (limited keyLimit) (limited-laws keyLimit)

@@ -139,7 +139,7 @@ module _ (p : Payload) where
     put-value v h e =
         let w = put-wrote (limited lim) (p .value) _ _ (value-valid v) h _ _ e in record { next = w .next; list = w .list; long = w .long }
 
-  pub versioned-valid : Valid versionedBody p → Valid entryVersion (p .entryVersion) × Valid (limited valueLimit) (p .value)
+  versioned-valid : Valid versionedBody p → Valid entryVersion (p .entryVersion) × Valid (limited valueLimit) (p .value)
   unfolding versionedBody as-type seq
   versioned-valid v = both (entryVersion .ok (p .entryVersion)) (limited valueLimit .ok (p .value)) (both (noText p) (entryVersion .ok (p .entryVersion) && limited valueLimit .ok (p .value)) v .1)
 
@@ -161,7 +161,7 @@ module _ (p : Payload) where
       let y = put-wrote (limited valueLimit) (p .value) _ _ (g .1) (omega arith) _ _ f in
       wrote-type _ _ _ (seq entryVersion λ _. limited valueLimit) (wrote-seq entryVersion (λ _. limited valueLimit) x y)
 
-  pub text-valid : Valid textBody p → Valid (limitedText textLimit) (p .text)
+  text-valid : Valid textBody p → Valid (limitedText textLimit) (p .text)
   unfolding textBody as-type
   text-valid v = both (noEntry p && noValue p) (limitedText textLimit .ok (p .text)) v .1
 

@@ -35,7 +35,7 @@ int-least : (v : ℕ) → Valid vInt v → v ≤ 0xffff_ffff
 unfolding vInt
 int-least v g = omega (arith, valid 5 15 4 0 v g .1)
 
-pub int-good : (v : ℕ) → v ≤ 0xffff_ffff → Valid vInt v
+int-good : (v : ℕ) → v ≤ 0xffff_ffff → Valid vInt v
 unfolding vInt
 int-good v h = number-good 5 15 4 0 v (omega arith) (omega arith)
 
@@ -130,7 +130,7 @@ module _ (a : Args) where
         value = no-bytes (a .value) (e .1);
       }
 
-  pub within-good : (shape : Shape) → Bytes (a .key) → Bytes (a .value) → Within (limitsOf shape) a → Valid (argsOf shape) a
+  within-good : (shape : Shape) → Bytes (a .key) → Bytes (a .value) → Within (limitsOf shape) a → Valid (argsOf shape) a
   unfolding argsOf empty
   within-good keyed bk bv w =
       type-good _ _ _ _ (and (no-times (w .lifespan) (w .idle)) (and (is-zero (a .entryVersion) (w .entry)) (is-empty (a .value) (w .value))))

@@ -17,7 +17,7 @@ int-size : (v : ℕ) → v ≤ 0xffff_ffff → length (vInt .enc v) ≡ length (
 int-size v h = ap length (int-long v (omega arith))
 
 module _ (a : Args) where
-  pub args-size : (shape : Shape) → Within (limitsOf shape) a → length (argsOf shape .enc a) ≡ argsSize shape a
+  args-size : (shape : Shape) → Within (limitsOf shape) a → length (argsOf shape .enc a) ≡ argsSize shape a
   unfolding argsOf argsSize as-type seq empty
   args-size keyed w = limited-length keyLimit (a .key) (omega (arith, w .key))
   args-size writes w =

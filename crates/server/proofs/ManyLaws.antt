@@ -72,7 +72,7 @@ module _ (c : Context) (input table lent : List ℕ) where
     pub takes : taken + d .answer .taken ≤ length input
     takes = let k = known in omega (arith, g .within, k .within, length-drop taken input, ap (λ (a : serving.Answer). a .taken) (does-in x .answer))
 
-    pub sends : size + d .size ≤ length out
+    sends : size + d .size ≤ length out
     sends = let k = known in omega (arith, g .sized, k .size, does-in x .size, h, length-drop size out)
 
     abbrev filled : List ℕ
@@ -81,7 +81,7 @@ module _ (c : Context) (input table lent : List ℕ) where
     keeps : length (d .buffer) ≡ length (drop size out)
     keeps = ap length (does-in x .buffer) ∙ length-sets (drop size out) 0 (flat (effectIn (drop taken input) now (at c (drop size out)) .sent))
 
-    pub filled-long : length filled ≡ length lent
+    filled-long : length filled ≡ length lent
     filled-long = omega (arith, length-append (take size out) (d .buffer), length-take-le size out (g .sized), keeps, length-drop size out, g .sized, g .long)
 
     front : length (take size out) ≡ size
@@ -112,7 +112,7 @@ module _ (c : Context) (input table lent : List ℕ) where
     after-sound : Sound (d .table)
     after-sound = stays-sound (drop taken input) now (at c (drop size out)) d (g .sound) x
 
-    pub table-kept : length (d .table) ≡ length table
+    table-kept : length (d .table) ≡ length table
     table-kept = after-sound .form .long ∙ (sym (g .sound .form .long) ∙ g .kept)
 
     -- a call that goes on

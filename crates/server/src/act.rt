@@ -12,7 +12,7 @@ use message::Sent;
 use plan::Change;
 use plan::Held;
 use plan::Judged;
-use request::RequestRead;
+use request_reader::RequestRead;
 use table::Table;
 ghost use mathlib.Core.Path.{_≡_};
 ghost use mathlib.Core.List.{List};
@@ -216,10 +216,10 @@ pub(crate) fn serve_sound(input: &[u8], t: &mut [u8], second: Second, out: &mut 
     requires { ⌜ second .0 < 0x1_0000_0000 ⌝ }
     ensures { λ a. ⌜ Serves (now (input .entry)) (now (t .entry)) (callOf (second .0) (now (out .entry))) (doneOf a (now (out .exit)) (now (t .exit))) ⌝ }
 {
-    let q = request::read_request(input);
+    let q = request_reader::read_request(input);
     match q {
         RequestRead::Whole(r, n) => perform(input, r, n, t, second, out),
         RequestRead::More => still(Verdict::More),
-        RequestRead::Refused(k) => refuse(out, request::read_id(input), k, 0),
+        RequestRead::Refused(k) => refuse(out, request_reader::read_id(input), k, 0),
     }
 }

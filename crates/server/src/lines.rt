@@ -7,7 +7,7 @@ use field::put;
 use hex::Decoded;
 use hex::NumberRead;
 use message::Request;
-use request::RequestRead;
+use request_reader::RequestRead;
 ghost use mathlib.Core.Path.{_≡_};
 ghost use mathlib.Core.List.{[], _∷_, _++_};
 ghost use Prim.Native.Nat.{_+_, _*_, _≤_, _<_};
@@ -88,7 +88,7 @@ fn send_error(frame: &[u8], k: u8, out: &mut [u8], at: usize) -> usize
     ensures { λ r. ⌜ Puts (toHex (flat (errorPieces k (idIn (now (frame .entry))))) ++ (0x0a ∷ [])) (now (out .entry)) (now (out .exit)) at r ⌝ }
 {
     let mut reply = [0; 512];
-    let a = act::refuse(&mut reply, request::read_id(frame), k, 0);
+    let a = act::refuse(&mut reply, request_reader::read_id(frame), k, 0);
     put_reply(&reply[..a.size], out, at)
 }
 
@@ -119,7 +119,7 @@ fn serve_frame(frame: &[u8], t: &mut [u8], second: Second, out: &mut [u8], at: u
     requires { ⌜ second .0 < 0x1_0000_0000 ⌝ }
     ensures { λ r. ⌜ GivesFrame (asked (second .0) (now (frame .entry))) (now (out .entry)) (now (out .exit)) at r (now (t .entry)) (now (t .exit)) ⌝ }
 {
-    let q = request::read_request(frame);
+    let q = request_reader::read_request(frame);
     match q {
         RequestRead::Whole(r, n) => {
             if n != frame.len() {

@@ -30,7 +30,7 @@ use Rattle.service.proofs.Sounds.{is-sound, tells-sound, effectIn}
 use Rattle.service.proofs.Calls.{within-has}
 
 -- "Each call is given a second, 0 to 4,294,967,295."
-abbrev pub InRange : List Call → Type 0
+abbrev InRange : List Call → Type 0
 InRange [] = Unit {0}
 InRange (c ∷ cs) = (c .context .second < 0x1_0000_0000) × InRange cs
 

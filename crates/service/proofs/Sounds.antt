@@ -16,11 +16,11 @@ use Rattle.service.specs.Serve.{Effect}
 use Rattle.service.specs.Stream.{Call, Done, Does, effectOf, Serves, Run, run-end, run-call}
 use Rattle.service.proofs.Decides.{decSound, isYes, isSound}
 
-pub yes-it-is : {P : Type 0} (d : Dec P) → isYes d ≡ true → P
+yes-it-is : {P : Type 0} (d : Dec P) → isYes d ≡ true → P
 yes-it-is (yes p) e = p
 yes-it-is (no n) e = absurd (let z : _≡_ {A = ℕ} 0 1 = cc in omega arith)
 
-pub it-is-yes : {P : Type 0} (d : Dec P) → P → isYes d ≡ true
+it-is-yes : {P : Type 0} (d : Dec P) → P → isYes d ≡ true
 it-is-yes (yes p) q = refl
 it-is-yes (no n) q = absurd (n q)
 
@@ -35,7 +35,7 @@ sound-is t s = it-is-yes (decSound t) s
 pub tells-sound : (t : List ℕ) → Tells (isSound t) (Sound t)
 tells-sound t = (is-sound t, sound-is t)
 
-pub told-same : (a b : Bool) {P : Type 0} → Tells a P → Tells b P → a ≡ b
+told-same : (a b : Bool) {P : Type 0} → Tells a P → Tells b P → a ≡ b
 told-same true b p q = sym (q .1 (p .0 refl))
 told-same false true p q = p .1 (q .0 refl)
 told-same false false p q = refl

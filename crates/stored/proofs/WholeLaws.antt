@@ -221,7 +221,7 @@ all-loaded {u = u} g y st (a-line l o e c r) n q h =
     (i, z .0, z .1)
 
 -- the lines of a whole file
-pub whole-stores : {B t u : List ℕ} {p : Loading} → LoadsLines form1 false B t p u → p .begun ≡ true → p .taken ≡ length B → Sound u × Stores form1 B (stateOf u)
+whole-stores : {B t u : List ℕ} {p : Loading} → LoadsLines form1 false B t p u → p .begun ≡ true → p .taken ≡ length B → Sound u × Stores form1 B (stateOf u)
 whole-stores g b n = let x = loads-stores (g .loads) b in (x .0, rw (n, take-length) at (x .1))
 
 pub whole-loaded : {B t u : List ℕ} {p : Loading} (st : State) → LoadsLines form1 false B t p u → Stores form1 B st → length t ≡ size

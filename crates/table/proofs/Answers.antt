@@ -44,7 +44,7 @@ unfolding entryAt
 no-row t i l = List·getD-eq-default (stateOf t .entries) (entry [] [] 0 0) {n = i} l
 
 -- a number of a row, by where it stands
-pub field-is : (f : Entry → ℕ) (t : List ℕ) (i o r : ℕ) → ((a : ℕ) → f (entryOf t a) ≡ be8 t (a + o)) → f (entry [] [] 0 0) ≡ 0 → NumberAt t i o r
+field-is : (f : Entry → ℕ) (t : List ℕ) (i o r : ℕ) → ((a : ℕ) → f (entryOf t a) ≡ be8 t (a + o)) → f (entry [] [] 0 0) ≡ 0 → NumberAt t i o r
     → r ≡ f (entryAt t i)
 field-is f t i o r h z n =
     ⊎-elim

@@ -60,16 +60,16 @@ module _ {A : Type 0} where
       ∙ ap (λ (l : List A). l ++ (g n ∷ [])) (upto-ext f g n h) ∙ ap (λ (x : A). upto f n ++ (x ∷ [])) q
 
   module _ (i : ℕ) (xs : List A) (d : A) (h : i < length xs) where
-    pub length-removeAt : length (removeAt i xs) ≡ length xs - 1
+    length-removeAt : length (removeAt i xs) ≡ length xs - 1
     length-removeAt = simp (length-append, length-take, length-drop) (omega arith)
 
     lt : length (take i xs) ≡ i
     lt = length-take-le i xs (omega arith)
 
-    pub removeAt-before : (k : ℕ) → k < i → getD (removeAt i xs) k d ≡ getD xs k d
+    removeAt-before : (k : ℕ) → k < i → getD (removeAt i xs) k d ≡ getD xs k d
     removeAt-before k l = List·getD-append (take i xs) _ d k (omega (arith, lt)) ∙ getD-take i xs k d l
 
-    pub removeAt-after : (k : ℕ) → i ≤ k → getD (removeAt i xs) k d ≡ getD xs (k + 1) d
+    removeAt-after : (k : ℕ) → i ≤ k → getD (removeAt i xs) k d ≡ getD xs (k + 1) d
     removeAt-after k l =
         let e : k ≡ length (take i xs) + (k - i) = omega (arith, lt) in
         let e′ : suc i + (k - i) ≡ k + 1 = omega arith in

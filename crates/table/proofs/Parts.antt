@@ -57,7 +57,7 @@ module _ (xs : List ℕ) (a : ℕ) (vs : List ℕ) (fits : a + length vs ≤ len
       ∙ ap (λ (i : ℕ). getD xs i 0) (sym e′)
 
   -- one more element is laid over
-  pub put-more : (v : ℕ) → a + length vs < length xs → set (put xs a vs) (a + length vs) v ≡ put xs a (vs ++ (v ∷ []))
+  put-more : (v : ℕ) → a + length vs < length xs → set (put xs a vs) (a + length vs) v ≡ put xs a (vs ++ (v ∷ []))
   unfolding put
   put-more v h =
       let n : ℕ = a + length vs in
@@ -73,7 +73,7 @@ unfolding put
 put-none xs a = paste-zero xs a []
 
 -- one more element of a part
-pub part-more : (xs : List ℕ) (a n : ℕ) → a + n < length xs → part xs a (n + 1) ≡ part xs a n ++ (getD xs (a + n) 0 ∷ [])
+part-more : (xs : List ℕ) (a n : ℕ) → a + n < length xs → part xs a (n + 1) ≡ part xs a n ++ (getD xs (a + n) 0 ∷ [])
 unfolding part
 part-more xs a n h =
     let l : n < length (drop a xs) = omega (arith, length-drop a xs) in

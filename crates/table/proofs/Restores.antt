@@ -170,7 +170,7 @@ module _ (k v : List ℕ) (n d : ℕ) (t : List ℕ) where
   unfolding restored
   restored-yes u p q c = taken t u new may-restore (and p q) c
 
-  pub restored-is : fitting k v d ≡ true → next k n t ≡ true → restored k v n d t ≡ some new
+  restored-is : fitting k v d ≡ true → next k n t ≡ true → restored k v n d t ≡ some new
   unfolding restored
   restored-is p q = rw (p, q)
 
@@ -203,7 +203,7 @@ lacking k [] h = refl
 lacking k (e ∷ es) h = rw (same-other (e .key) k (h .0)) (lacking k es (h .1))
 
 -- what `restore` leaves is a table
-pub restored-table : (k v : List ℕ) (n d : ℕ) (t : List ℕ) (s : State) → Sound t → Bytes k → Bytes v → restored k v n d t ≡ some s
+restored-table : (k v : List ℕ) (n d : ℕ) (t : List ℕ) (s : State) → Sound t → Bytes k → Bytes v → restored k v n d t ≡ some s
     → IsTable s × Ascending (s .entries)
 unfolding entry
 restored-table k v n d t s h bk bv e =

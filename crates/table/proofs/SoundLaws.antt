@@ -46,18 +46,18 @@ climbs t n top r i (suc j) l h =
 
 -- the fields of a row that is held
 module _ (t : List ℕ) (h : length t ≡ size) (i : ℕ) (l : i < countOf t) where
-  pub key-is : entryAt t i .key ≡ entryOf t (rowAt i) .key
+  key-is : entryAt t i .key ≡ entryOf t (rowAt i) .key
   key-is = ap (λ (e : Entry). e .key) (entry-is t h i l)
 
   pub version-is : entryAt t i .version ≡ be8 t (rowAt i)
   unfolding entryOf entry
   version-is = ap (λ (e : Entry). e .version) (entry-is t h i l)
 
-  pub deadline-is : entryAt t i .deadline ≡ be8 t (rowAt i + 8)
+  deadline-is : entryAt t i .deadline ≡ be8 t (rowAt i + 8)
   unfolding entryOf entry
   deadline-is = ap (λ (e : Entry). e .deadline) (entry-is t h i l)
 
-  pub sizes-are : Bytes t → Within t (rowAt i) → Sizes (entryAt t i)
+  sizes-are : Bytes t → Within t (rowAt i) → Sizes (entryAt t i)
   unfolding entryOf entry
   sizes-are b w =
       let k : ℕ = min (be8 t (rowAt i + 16)) 64 in

@@ -58,7 +58,7 @@ module _ {t u : List ℕ} (s : Alike t u) where
   pub fit-alike : AllFit t → AllFit u
   fit-alike f i l = let m : i < countOf t = omega (arith, count-alike) in fit (row-alike i m) (f i m)
 
-  pub form-alike : Form t → Form u
+  form-alike : Form t → Form u
   form-alike f =
       record {
         long = s .long;
@@ -101,7 +101,7 @@ pub record Patched (t u : List ℕ) (a : ℕ) (vs : List ℕ) (m : ℕ) : Type 0
   pub laid : (k : ℕ) → k < length vs → getD u (a + k) 0 ≡ getD vs k 0
 
 module _ (t u : List ℕ) (a : ℕ) (vs : List ℕ) (m : ℕ) (p : Patched t u a vs m) where
-  pub row-before : (b : ℕ) → 16 ≤ b → b + 352 ≤ a → SameRow u b t b
+  row-before : (b : ℕ) → 16 ≤ b → b + 352 ≤ a → SameRow u b t b
   row-before b g h =
       row-same u t b b (omega (arith, p .long, p .fits)) (omega (arith, p .old, p .fits)) (λ k l. p .same (b + k) (omega arith) (omega arith))
 

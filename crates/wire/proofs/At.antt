@@ -57,7 +57,7 @@ module _ (s : List ℕ) (at : ℕ) where
   at-raw n = rw (at-cond, length-drop)
 
 -- what is read whole lies within the list
-pub at-spans : {A : Type 0} (c : Codec A) → Laws c → (s : List ℕ) (at : ℕ) (a : A) (j : ℕ) → at ≤ length s → readAt c s at ≡ whole a j → (at ≤ j) × (j ≤ length s)
+at-spans : {A : Type 0} (c : Codec A) → Laws c → (s : List ℕ) (at : ℕ) (a : A) (j : ℕ) → at ≤ length s → readAt c s at ≡ whole a j → (at ≤ j) × (j ≤ length s)
 unfolding readAt
 at-spans c l s at a j h e =
     let x = after-whole (c .dec (drop at s)) _ a j e in

@@ -48,15 +48,15 @@ big-good (suc n) v h =
 
 -- what the next byte makes of the number
 module _ (s : List ℕ) (at : ℕ) where
-  pub at-byte : at < length s → readAt byte s at ≡ whole (getD s at 0) (at + 1)
+  at-byte : at < length s → readAt byte s at ≡ whole (getD s at 0) (at + 1)
   unfolding readAt byte
   at-byte h = rw (drop-cons s at 0 h)
 
-  pub at-byte-end : length s ≤ at → readAt byte s at ≡ more
+  at-byte-end : length s ≤ at → readAt byte s at ≡ more
   unfolding readAt byte
   at-byte-end h = rw (drop-of-length-le s h)
 
-  pub at-big : (n : ℕ) → readAt (bigEndian (suc n)) s at ≡ after (readAt (bigEndian n) s at) (λ a j. after (readAt byte s j) (λ b k. whole (a * 256 + b) k))
+  at-big : (n : ℕ) → readAt (bigEndian (suc n)) s at ≡ after (readAt (bigEndian n) s at) (λ a j. after (readAt byte s j) (λ b k. whole (a * 256 + b) k))
   unfolding bigEndian
   at-big n = simp (at-type, at-seq, after-after)
 

@@ -1,7 +1,7 @@
 -- `exports::calls::read_reply` meets its contract, by each answer of the reader. Assumes nothing.
 use native.Mathlib.Omega.{arith}
 use Rattle.message.proofs.ReplyLaws.{reply-laws}
-use Rattle.reply.specs.ReplyRead.{replyAt}
+use Rattle.reply_reader.specs.ReplyRead.{replyAt}
 use Rattle.exports.specs.Codes.{told}
 use Rattle.exports.proofs.CodeLaws.{whole-fits}
 use borrow.Author.Needs.{needs}

@@ -1,7 +1,7 @@
 -- `exports::calls::read_request` meets its contract, by each answer of the reader. Assumes nothing.
 use native.Mathlib.Omega.{arith}
 use Rattle.message.proofs.RequestLaws.{request-laws}
-use Rattle.request.specs.RequestRead.{requestAt}
+use Rattle.request_reader.specs.RequestRead.{requestAt}
 use Rattle.exports.specs.Codes.{told}
 use Rattle.exports.proofs.CodeLaws.{whole-fits}
 use borrow.Author.Needs.{needs}

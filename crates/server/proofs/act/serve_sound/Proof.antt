@@ -5,7 +5,7 @@ use Rattle.wire.specs.Codec.{Bytes, whole, refused}
 use Rattle.message.specs.Request.{request, requestIn}
 use Rattle.message.proofs.RequestLaws.{request-laws}
 use Rattle.message.proofs.Refusals.{refusals}
-use Rattle.request.proofs.Spans.{request-in}
+use Rattle.request_reader.proofs.Spans.{request-in}
 use Rattle.service.specs.Serve.{onRead}
 use Rattle.server.proofs.SendLaws.{id-small}
 use Rattle.server.proofs.StepLaws.{does, does-still, serves-read}

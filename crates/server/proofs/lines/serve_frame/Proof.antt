@@ -5,7 +5,7 @@ use Rattle.wire.specs.Codec.{Bytes, whole, refused}
 use Rattle.message.specs.Request.{request, requestIn}
 use Rattle.message.proofs.RequestLaws.{request-laws}
 use Rattle.message.proofs.Refusals.{refusals}
-use Rattle.request.proofs.Spans.{request-in}
+use Rattle.request_reader.proofs.Spans.{request-in}
 use Rattle.server.proofs.LineLaws.{gives-as, gives-same, frame-more, frame-cut, frame-whole, frame-refused}
 use borrow.Author.Needs.{needs}
 use Rattle.server.proofs.lines.serve_frame.Statement.{statement}

@@ -1,0 +1,28 @@
+// The reader of a reply, for any bytes and whatever was asked.
+mod read;
+
+use message::Asked;
+use message::Found;
+use message::Reply;
+ghost use mathlib.Core.Path.{_≡_};
+ghost use Rattle.wire.specs.Codec.{mapped};
+ghost use Rattle.message.specs.Reply.{reply};
+ghost use Rattle.reply_reader.specs.ReplyRead.{asReply, replyAt};
+
+// What reading a reply finds: the reply with the count of its bytes, more needed, or a refusal by its number.
+pub enum ReplyRead {
+    Whole(Reply, usize),
+    More,
+    Refused(u8),
+}
+
+// The reply to what was asked.
+pub fn read_reply(s: &[u8], asked: Asked) -> ReplyRead
+    ensures { λ r. ⌜ asReply r ≡ mapped replyAt (reply asked .dec (now (s .entry))) ⌝ }
+{
+    let found = message::find(asked.op);
+    let Found::Known(o) = found else {
+        return ReplyRead::Refused(4);
+    };
+    read::read_message(s, o, asked.flag)
+}

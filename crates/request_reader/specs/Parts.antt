@@ -1,0 +1,80 @@
+-- What the readers of a request's parts answer, for their contracts.
+use mathlib.Core.Bool.{Bool, true, false}
+use Prim.Native.Nat.{ℕ, _+_}
+use lib.ListN.{length}
+use Rattle.wire.specs.Codec.{Read, whole, more, refused}
+use Rattle.wire.specs.Field.{limited}
+use Rattle.field.specs.FieldRead.{limitedText, spanTo}
+use Rattle.field.specs.declared.Span.{Span}
+use Rattle.message.specs.declared.Request.{Request}
+use Rattle.message.specs.Request.{Shape, keyed, writes, writesIf, keyedIf, Args, nameLimit, keyLimit}
+use Rattle.request_reader.specs.RequestRead as a
+use Rattle.request_reader.specs.declared.Front.{Front}
+use Rattle.request_reader.specs.declared.FrontRead.{FrontRead}
+use Rattle.request_reader.specs.declared.FrontRead.the-variants as f
+use Rattle.request_reader.specs.declared.Options.{Options}
+use Rattle.request_reader.specs.declared.OptionsRead.{OptionsRead}
+use Rattle.request_reader.specs.declared.OptionsRead.the-variants as o
+use Rattle.request_reader.specs.declared.Args as code-args
+use Rattle.request_reader.specs.declared.ArgsRead.{ArgsRead}
+use Rattle.request_reader.specs.declared.ArgsRead.the-variants as r
+
+abbrev pub asFront : FrontRead → Read Front
+asFront (f.Whole x c) = whole x (c .at)
+asFront f.More = more
+asFront (f.Refused k) = refused k
+
+abbrev pub asOptions : OptionsRead → Read Options
+asOptions (o.Whole x c) = whole x (c .at)
+asOptions o.More = more
+asOptions (o.Refused k) = refused k
+
+abbrev pub asArgs : ArgsRead → Read code-args.Args
+asArgs (r.Whole x c) = whole x (c .at)
+asArgs r.More = more
+asArgs (r.Refused k) = refused k
+
+-- the answers of parts that begin at a place and end at n
+unfoldable pub optionsAt : ℕ → a.Options → ℕ → Options
+optionsAt at x n =
+    record {
+      name = spanTo (x .0) (at + length (limitedText nameLimit .enc (x .0)));
+      flags = x .1 .0;
+      intelligence = x .1 .1 .0;
+      topology = x .1 .1 .1 .0;
+    }
+
+abbrev pub argsWith : Span → (lifespan idle entry : ℕ) → Span → code-args.Args
+argsWith key l i e value = record { key = key; lifespan = l; idle = i; entry = record { 0 = e }; value = value }
+
+unfoldable pub argsAt : ℕ → Args → ℕ → code-args.Args
+argsAt at x n =
+    argsWith (spanTo (x .key) (at + length (limited keyLimit .enc (x .key)))) (x .lifespan) (x .maxIdle) (x .entryVersion) (spanTo (x .value) n)
+
+abbrev pub togetherOf : Front → Options → code-args.Args → Request
+togetherOf f o a =
+    record {
+      head = record {
+        id = f .id;
+        version = f .version;
+        op = f .op;
+        flags = o .flags;
+        intelligence = o .intelligence;
+        topology = o .topology;
+        lifespan = a .lifespan;
+        idle = a .idle;
+        entry = a .entry;
+      };
+      name = o .name;
+      key = a .key;
+      value = a .value;
+    }
+
+-- the shapes with an entry version, where the operation is a conditional one, and without
+abbrev pub keyedBy : Bool → Shape
+keyedBy true = keyedIf
+keyedBy false = keyed
+
+abbrev pub writesBy : Bool → Shape
+writesBy true = writesIf
+writesBy false = writes

@@ -1,0 +1,340 @@
+// The reader of a request.
+use field::ByteRead;
+use field::Cursor;
+use field::EntryVersion;
+use field::Kind;
+use field::NumberRead;
+use field::Span;
+use field::SpanRead;
+use field::VersionRead;
+use message::Found;
+use message::Head;
+use message::Operation;
+use message::Request;
+use rules::Shape;
+ghost use mathlib.Core.Path.{_≡_};
+ghost use Rattle.wire.specs.Codec.{readAt, whole, after, mapped};
+ghost use Rattle.wire.specs.Field.{limited};
+ghost use Rattle.field.specs.FieldRead.{asNumber, nowhere, spanTo, stopped};
+ghost use Rattle.message.specs.Request.{request, shapeOf, argsOf, valueLimit};
+ghost use Rattle.message.specs.Start.{start, idIn};
+ghost use Rattle.request_reader.specs.RequestRead.{asRequest, requestAt, front, options};
+ghost use Rattle.request_reader.specs.Parts.{asFront, asOptions, asArgs, optionsAt, argsAt, argsWith, togetherOf, keyedBy, writesBy};
+
+// What reading a request finds: the request with the number of bytes it took, more needed, or a refusal by its number.
+pub enum RequestRead {
+    Whole(Request, usize),
+    More,
+    Refused(u8),
+}
+
+// The fields up to the operation, those from the name on, and the arguments. A number that the operation does not send is 0, and so is a part's start and
+// length.
+struct Front {
+    id: u64,
+    version: u8,
+    op: Operation,
+}
+
+struct Options {
+    name: Span,
+    flags: u64,
+    intelligence: u8,
+    topology: u64,
+}
+
+struct Args {
+    key: Span,
+    lifespan: u64,
+    idle: u64,
+    entry: EntryVersion,
+    value: Span,
+}
+
+// What reading each of them finds.
+enum FrontRead {
+    Whole(Front, Cursor),
+    More,
+    Refused(u8),
+}
+
+enum OptionsRead {
+    Whole(Options, Cursor),
+    More,
+    Refused(u8),
+}
+
+enum ArgsRead {
+    Whole(Args, Cursor),
+    More,
+    Refused(u8),
+}
+
+// The magic and the message id.
+fn read_start(s: &[u8]) -> NumberRead
+    ensures { λ r. ⌜ asNumber r ≡ start .dec (now (s .entry)) ⌝ }
+{
+    let r = field::read_between(s, Cursor { at: 0 }, 0xa0, 0xa0, 1);
+    let NumberRead::Whole(_, next) = r else {
+        return r;
+    };
+    field::read_number(s, next, Kind::VLong)
+}
+
+// The message id that an error reply answers to.
+pub fn read_id(s: &[u8]) -> u64
+    ensures { λ r. ⌜ r ≡ idIn (now (s .entry)) ⌝ }
+{
+    let r = read_start(s);
+    let NumberRead::Whole(id, _) = r else {
+        return 0;
+    };
+    id
+}
+
+fn read_front(s: &[u8]) -> FrontRead
+    ensures { λ r. ⌜ asFront r ≡ front .dec (now (s .entry)) ⌝ }
+{
+    let r1 = read_start(s);
+    let NumberRead::Whole(id, c1) = r1 else {
+        let NumberRead::Refused(k) = r1 else {
+            return FrontRead::More;
+        };
+        return FrontRead::Refused(k);
+    };
+    let r2 = field::read_byte(s, c1);
+    let ByteRead::Whole(version, c2) = r2 else {
+        return FrontRead::More;
+    };
+    if !rules::is_served(version) {
+        return FrontRead::Refused(3);
+    }
+    let r3 = field::read_byte(s, c2);
+    let ByteRead::Whole(code, c3) = r3 else {
+        return FrontRead::More;
+    };
+    let found = message::find(code);
+    let Found::Known(op) = found else {
+        return FrontRead::Refused(4);
+    };
+    FrontRead::Whole(
+        Front {
+            id: id,
+            version: version,
+            op: op,
+        },
+        c3,
+    )
+}
+
+// What a field that is not whole makes of the part that it stands in.
+fn stop_options(r: NumberRead) -> OptionsRead
+    ensures { λ h. ⌜ asOptions h ≡ stopped (asNumber r) ⌝ }
+{
+    match r {
+        NumberRead::Whole(_, _) => OptionsRead::More,
+        NumberRead::More => OptionsRead::More,
+        NumberRead::Refused(k) => OptionsRead::Refused(k),
+    }
+}
+
+fn stop_args(r: NumberRead) -> ArgsRead
+    ensures { λ h. ⌜ asArgs h ≡ stopped (asNumber r) ⌝ }
+{
+    match r {
+        NumberRead::Whole(_, _) => ArgsRead::More,
+        NumberRead::More => ArgsRead::More,
+        NumberRead::Refused(k) => ArgsRead::Refused(k),
+    }
+}
+
+fn read_options(s: &[u8], c: Cursor, version: u8) -> OptionsRead
+    ensures { λ r. ⌜ asOptions r ≡ mapped (optionsAt (c .at)) (readAt (options version) (now (s .entry)) (c .at)) ⌝ }
+{
+    let r1 = field::read_text(s, c, Request::NAME);
+    let SpanRead::Whole(name, c1) = r1 else {
+        return stop_options(r1.length());
+    };
+    let r2 = field::read_number(s, c1, Kind::VInt);
+    let NumberRead::Whole(flags, c2) = r2 else {
+        return stop_options(r2);
+    };
+    if rules::greatest_flags(version) < flags {
+        return OptionsRead::Refused(8);
+    }
+    let r3 = field::read_between(s, c2, 1, 3, 8);
+    let NumberRead::Whole(intelligence, c3) = r3 else {
+        return stop_options(r3);
+    };
+    let r4 = field::read_number(s, c3, Kind::VInt);
+    let NumberRead::Whole(topology, c4) = r4 else {
+        return stop_options(r4);
+    };
+    let r5 = field::read_between(s, c4, 0, 0, 8);
+    let NumberRead::Whole(_, c5) = r5 else {
+        return stop_options(r5);
+    };
+    OptionsRead::Whole(
+        Options {
+            name: name,
+            flags: flags,
+            intelligence: intelligence as u8,
+            topology: topology,
+        },
+        c5,
+    )
+}
+
+// The key, and the entry version where the operation is a conditional one.
+fn read_keyed(s: &[u8], c: Cursor, conditional: bool) -> ArgsRead
+    ensures { λ r. ⌜ asArgs r ≡ mapped (argsAt (c .at)) (readAt (argsOf (keyedBy conditional)) (now (s .entry)) (c .at)) ⌝ }
+{
+    let r1 = field::read_limited(s, c, Request::KEY);
+    let SpanRead::Whole(key, c1) = r1 else {
+        return stop_args(r1.length());
+    };
+    if !conditional {
+        return ArgsRead::Whole(keyed(key, EntryVersion(0)), c1);
+    }
+    let r2 = field::read_version(s, c1);
+    let VersionRead::Whole(entry, c2) = r2 else {
+        return ArgsRead::More;
+    };
+    ArgsRead::Whole(keyed(key, entry), c2)
+}
+
+// Arguments without times and value.
+fn keyed(key: Span, entry: EntryVersion) -> Args
+    ensures { λ r. ⌜ r ≡ argsWith key 0 0 (entry .0) nowhere ⌝ }
+{
+    Args {
+        key: key,
+        lifespan: 0,
+        idle: 0,
+        entry: entry,
+        value: Span { start: 0, len: 0 },
+    }
+}
+
+// The value, behind all other arguments.
+fn read_value(
+    s: &[u8],
+    c: Cursor,
+    key: Span,
+    lifespan: u64,
+    idle: u64,
+    entry: EntryVersion,
+) -> ArgsRead
+    ensures { λ r. ⌜ asArgs r ≡ after (mapped spanTo (readAt (limited valueLimit) (now (s .entry)) (c .at))) (λ p n. whole (argsWith key lifespan idle (entry .0) p) n) ⌝ }
+{
+    let r = field::read_limited(s, c, Request::VALUE);
+    let SpanRead::Whole(value, end) = r else {
+        return stop_args(r.length());
+    };
+    ArgsRead::Whole(
+        Args {
+            key: key,
+            lifespan: lifespan,
+            idle: idle,
+            entry: entry,
+            value: value,
+        },
+        end,
+    )
+}
+
+// Key, lifespan, max idle, the entry version where the operation is a conditional one, and the value.
+fn read_writes(s: &[u8], c: Cursor, conditional: bool) -> ArgsRead
+    ensures { λ r. ⌜ asArgs r ≡ mapped (argsAt (c .at)) (readAt (argsOf (writesBy conditional)) (now (s .entry)) (c .at)) ⌝ }
+{
+    let r1 = field::read_limited(s, c, Request::KEY);
+    let SpanRead::Whole(key, c1) = r1 else {
+        return stop_args(r1.length());
+    };
+    let r2 = field::read_number(s, c1, Kind::VInt);
+    let NumberRead::Whole(lifespan, c2) = r2 else {
+        return stop_args(r2);
+    };
+    let r3 = field::read_number(s, c2, Kind::VInt);
+    let NumberRead::Whole(idle, c3) = r3 else {
+        return stop_args(r3);
+    };
+    if !conditional {
+        return read_value(s, c3, key, lifespan, idle, EntryVersion(0));
+    }
+    let r4 = field::read_version(s, c3);
+    let VersionRead::Whole(entry, c4) = r4 else {
+        return ArgsRead::More;
+    };
+    read_value(s, c4, key, lifespan, idle, entry)
+}
+
+// The arguments, by the operation's shape.
+fn read_args(s: &[u8], c: Cursor, op: Operation) -> ArgsRead
+    ensures { λ r. ⌜ asArgs r ≡ mapped (argsAt (c .at)) (readAt (argsOf (shapeOf op)) (now (s .entry)) (c .at)) ⌝ }
+{
+    let shape = rules::shape_of(op);
+    match shape {
+        Shape::Keyed => read_keyed(s, c, false),
+        Shape::Writes => read_writes(s, c, false),
+        Shape::WritesIf => read_writes(s, c, true),
+        Shape::KeyedIf => read_keyed(s, c, true),
+        Shape::Bare => ArgsRead::Whole(keyed(Span { start: 0, len: 0 }, EntryVersion(0)), c),
+    }
+}
+
+// The request of its three parts.
+fn put_together(f: Front, o: Options, a: Args) -> Request
+    ensures { λ r. ⌜ r ≡ togetherOf f o a ⌝ }
+{
+    let op = f.op;
+    let entry = a.entry;
+    let name = o.name;
+    let key = a.key;
+    let value = a.value;
+    Request {
+        head: Head {
+            id: f.id,
+            version: f.version,
+            op: op,
+            flags: o.flags,
+            intelligence: o.intelligence,
+            topology: o.topology,
+            lifespan: a.lifespan,
+            idle: a.idle,
+            entry: entry,
+        },
+        name: name,
+        key: key,
+        value: value,
+    }
+}
+
+// The request at the front of the bytes.
+pub fn read_request(s: &[u8]) -> RequestRead
+    ensures { λ r. ⌜ asRequest r ≡ mapped requestAt (request .dec (now (s .entry))) ⌝ }
+{
+    let r1 = read_front(s);
+    let FrontRead::Whole(f, c1) = r1 else {
+        let FrontRead::Refused(k) = r1 else {
+            return RequestRead::More;
+        };
+        return RequestRead::Refused(k);
+    };
+    let r2 = read_options(s, c1, f.version);
+    let OptionsRead::Whole(o, c2) = r2 else {
+        let OptionsRead::Refused(k) = r2 else {
+            return RequestRead::More;
+        };
+        return RequestRead::Refused(k);
+    };
+    let op = f.op;
+    let r3 = read_args(s, c2, op);
+    let ArgsRead::Whole(a, c3) = r3 else {
+        let ArgsRead::Refused(k) = r3 else {
+            return RequestRead::More;
+        };
+        return RequestRead::Refused(k);
+    };
+    RequestRead::Whole(put_together(f, o, a), c3.at)
+}

@@ -1,6 +1,6 @@
 """Part 2: corners of request files, each compared with the second program, with and without a TABLE."""
-from board_frames import (CLEAR, CONTAINS_KEY, GET, GET_WITH_VERSION, LARGEST_SECOND, LARGEST_VERSION, MOST_KEYS, OPERATIONS, PING, PUT,
-                          PUT_IF_ABSENT, REMOVE, REMOVE_IF_UNMODIFIED, REPLACE, REPLACE_IF_UNMODIFIED, entry_line, frame, head_line,
+from board_frames import (CLEAR, CONTAINS_KEY, GET, GET_WITH_VERSION, LARGEST_SECOND, LARGEST_VERSION, LONGEST_SPAN, MOST_KEYS, OPERATIONS, PING,
+                          PUT, PUT_IF_ABSENT, REMOVE, REMOVE_IF_UNMODIFIED, REPLACE, REPLACE_IF_UNMODIFIED, entry_line, frame, head_line,
                           header, key_name, line, number, request)
 from board_run import ABSENT, Bench, demand, run_part
 
@@ -184,10 +184,27 @@ def values():
 def deadlines():
     """Deadlines are seen in the TABLE alone."""
     for second in (0, 1, 0x7fffffff, 0x80000000, LARGEST_SECOND):
-        for lifespan in (0, 1, 127, 128, 0x80000000, LARGEST_SECOND):
+        for lifespan in (0, 1, 127, 128, LONGEST_SPAN - 1, LONGEST_SPAN, LONGEST_SPAN + 1, LONGEST_SPAN + 2, 0x80000000, LARGEST_SECOND):
             for flags in (0, 2, 4):
                 yield (f'second {second}, lifespan {lifespan}, flags {flags}',
                        request(PUT, second, lifespan=lifespan, idle=5, version=12, flags=flags))
+
+
+# A lifespan, a second, and the deadline that they give without flag 0x0002, worked out by hand.
+DEADLINES = ((0, 0, 0), (1, 0, 1), (2_592_000, 0, 2_592_000), (2_592_001, 0, 2_592_001), (4_294_967_295, 0, 4_294_967_295),
+             (0, 4_294_967_295, 0), (1, 4_294_967_295, 4_294_967_296), (2_592_000, 4_294_967_295, 4_297_559_295),
+             (2_592_001, 4_294_967_295, 2_592_001), (4_294_967_295, 4_294_967_295, 4_294_967_295))
+
+
+def deadline_edges(bench):
+    """The edges between spans and dates, each with the TABLE that it leaves."""
+    for lifespan, second, deadline in DEADLINES:
+        for flags in range(8):
+            case = f'lifespan {lifespan} at second {second}, flags {flags}'
+            wanted = head_line(1) + entry_line(1, deadline=0 if flags & 2 else deadline)
+            got = bench.same(case, request(PUT, second, lifespan=lifespan, idle=5, version=12, flags=flags), ABSENT)
+            demand(got.table == wanted, case, f'the second program leaves {got.table!r}, the paper {wanted!r}')
+            bench.same(f'{case}, then a look', request(GET_WITH_VERSION, second), got.table)
 
 
 def many_keys():
@@ -239,6 +256,7 @@ def part():
         for case, requests in plain_files():
             bench.same(case, requests, ABSENT)
         last_versions(bench)
+        deadline_edges(bench)
         return f'{bench.count} files of corners, same replies and same tables'
 
 

@@ -7,12 +7,13 @@ import random
 import sys
 import threading
 
-from board_frames import (CLEAR, CONTAINS_KEY, GET, GET_WITH_VERSION, LARGEST_SECOND, LARGEST_VERSION, MOST_KEYS, PING, PUT,
-                          PUT_IF_ABSENT, REMOVE, REMOVE_IF_UNMODIFIED, REPLACE, REPLACE_IF_UNMODIFIED, entry_line, frame, head_line, line)
+from board_frames import (CLEAR, CONTAINS_KEY, GET, GET_WITH_VERSION, LARGEST_SECOND, LARGEST_VERSION, LONGEST_SPAN, MOST_KEYS, PING,
+                          PUT, PUT_IF_ABSENT, REMOVE, REMOVE_IF_UNMODIFIED, REPLACE, REPLACE_IF_UNMODIFIED, entry_line, frame, head_line, line)
 
 COMMON = (PUT, PUT, PUT, PUT_IF_ABSENT, PUT_IF_ABSENT, REPLACE, REPLACE, REPLACE_IF_UNMODIFIED, REPLACE_IF_UNMODIFIED, REMOVE,
           REMOVE_IF_UNMODIFIED, GET, GET, GET_WITH_VERSION, GET_WITH_VERSION, CONTAINS_KEY, PING)
 NUMBERS = (0, 1, 100, 127, 128, 16383, 16384, 2 ** 21, 2 ** 28, 2 ** 31, LARGEST_SECOND)
+LIFESPANS = (*NUMBERS, *4 * (LONGEST_SPAN, LONGEST_SPAN + 1), LONGEST_SPAN - 1, LONGEST_SPAN + 2)
 
 
 class Maker:
@@ -48,7 +49,7 @@ class Maker:
         operation = CLEAR if chance.random() < 0.001 else chance.choice(COMMON)
         key = chance.choice(self.keys)
         version = chance.choice((10, 11, 12))
-        data = frame(operation, key=key, value=self.value(), lifespan=chance.choice(NUMBERS), idle=chance.choice(NUMBERS),
+        data = frame(operation, key=key, value=self.value(), lifespan=chance.choice(LIFESPANS), idle=chance.choice(NUMBERS),
                      entry_version=self.entry_version(key), message=chance.choice((*NUMBERS, LARGEST_VERSION)), version=version,
                      flags=chance.randint(0, 7 if version == 12 else 1), intelligence=chance.randint(1, 3), topology=chance.choice(NUMBERS),
                      name=b'other' if chance.random() < 0.01 else b'')

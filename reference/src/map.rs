@@ -14,8 +14,12 @@ use crate::request::{keeps_rules, Request, FLAG_DEFAULT_LIFESPAN};
 pub const MOST_KEYS: usize = 128;
 /// The largest entry version that a table gives out.
 pub const LARGEST_VERSION: u64 = 9_223_372_036_854_775_807;
-/// The largest second plus the largest lifespan.
+/// The largest deadline that a table may hold, which is the largest second
+/// plus the largest lifespan. No call gives one so large.
 pub const LARGEST_DEADLINE: u64 = 8_589_934_590;
+/// 30 days, the longest lifespan that is added to the call's second. A longer
+/// one is a UNIX time.
+pub const LONGEST_SPAN: u32 = 2_592_000;
 
 #[derive(Clone, Debug, Default, PartialEq, Eq)]
 pub struct Entry {
@@ -87,10 +91,14 @@ fn effect(operation: u8, status: u8) -> Effect {
     }
 }
 
-/// The deadline of an entry that this request stores.
+/// The deadline of an entry that this request stores. One that a UNIX time
+/// gives may be past.
 fn deadline(request: &Request, second: u32) -> u64 {
     if request.lifespan == 0 || request.flags & FLAG_DEFAULT_LIFESPAN != 0 {
         return 0;
+    }
+    if request.lifespan > LONGEST_SPAN {
+        return u64::from(request.lifespan);
     }
     u64::from(second) + u64::from(request.lifespan)
 }

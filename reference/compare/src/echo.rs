@@ -3,7 +3,7 @@
 //! fault at a time into it, and the harness has to find it.
 
 use reference::lines::{LINE_END, LINE_LIMIT};
-use reference::map::{LARGEST_DEADLINE, LARGEST_VERSION, MOST_KEYS};
+use reference::map::{LARGEST_DEADLINE, LARGEST_VERSION, LONGEST_SPAN, MOST_KEYS};
 use reference::operation::{sends_entry_version, sends_value, CLEAR, REMOVE};
 use reference::serve::{answer_request, error_id, LEAST_ROOM};
 use reference::{
@@ -45,6 +45,9 @@ pub enum Fault {
     ClearRestarts,
     RemovalUsesVersion,
     DeadlineWraps,
+    DateAtThirtyDays,
+    DateIsAdded,
+    DateBeatsFlag,
     LastVersionEarly,
     RefusedTouchesMemory,
     ReplyTouchesBehind,
@@ -86,6 +89,26 @@ pub enum Fault {
     LoadsWithoutEnd,
     LoadTouchesOld,
     LoadsLateDeadline,
+}
+
+impl Fault {
+    fn is_of_deadlines(self) -> bool {
+        use Fault::*;
+        [DeadlineWraps, DateAtThirtyDays, DateIsAdded, DateBeatsFlag].contains(&self)
+    }
+}
+
+/// The deadline of an entry that was stored, wrong by this fault.
+fn wrong_deadline(fault: Fault, request: &Request, right: u64, second: u32) -> u64 {
+    let lifespan = u64::from(request.lifespan);
+    let is_date = request.lifespan > LONGEST_SPAN;
+    match fault {
+        Fault::DeadlineWraps => right & 0xffff_ffff,
+        Fault::DateAtThirtyDays if request.lifespan == LONGEST_SPAN && right > 0 => lifespan,
+        Fault::DateIsAdded if is_date && right > 0 => u64::from(second) + lifespan,
+        Fault::DateBeatsFlag if is_date => lifespan,
+        _ => right,
+    }
 }
 
 pub struct Echo {
@@ -292,7 +315,7 @@ impl Echo {
         self.change_request(&mut request, table);
         let before = table.clone();
         let answer = answer_request(&request, second, table);
-        self.change_table(&request, &before, table);
+        self.change_table(&request, second, &before, table);
         answer
     }
 
@@ -330,7 +353,7 @@ impl Echo {
         }
     }
 
-    fn change_table(&self, request: &Request, before: &Table, table: &mut Table) {
+    fn change_table(&self, request: &Request, second: u32, before: &Table, table: &mut Table) {
         let wrote = table.last > before.last;
         match self.fault {
             Some(Fault::ClearRestarts) if request.operation == CLEAR => table.last = 0,
@@ -339,9 +362,9 @@ impl Echo {
             {
                 table.last += 1;
             }
-            Some(Fault::DeadlineWraps) if wrote => {
-                for entry in table.entries.values_mut() {
-                    entry.deadline &= 0xffff_ffff;
+            Some(fault) if wrote && fault.is_of_deadlines() => {
+                if let Some(entry) = table.entries.get_mut(&request.key) {
+                    entry.deadline = wrong_deadline(fault, request, entry.deadline, second);
                 }
             }
             Some(Fault::ValueLeaksToOther) if wrote => {

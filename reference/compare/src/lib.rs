@@ -7,7 +7,7 @@
 //! can be put into it.
 //!
 //! The parts: `messages` (a), `serving` (b), `streams` (c), `tables` (d),
-//! `values` (e), `lines` (f), `stored` (g), `edges` (h).
+//! `values` (e), `lines` (f), `stored` (g), `edges` (h), `dates` (i).
 //!
 //! `cargo test --offline` tests the harness without the library. With it:
 //! `cargo run --release --offline --features library,lines,stored -- quick`;
@@ -19,6 +19,7 @@ pub mod bench;
 pub mod calls;
 pub mod chance;
 pub mod damage;
+pub mod dates;
 pub mod difference;
 pub mod echo;
 pub mod edges;

@@ -155,7 +155,8 @@ fn expected_output(world: &mut World, file: &[u8]) -> Vec<u8> {
     out
 }
 
-fn whole_file<S: ServesLines>(trial: &mut Trial<S>, world: &mut World, file: &[u8]) -> Outcome {
+/// The file in pieces through the subject, and by the reference.
+pub fn whole_file<S: ServesLines>(trial: &mut Trial<S>, world: &mut World, file: &[u8]) -> Outcome {
     let fresh = world.table == Table::default();
     let before = world.memory.clone();
     let expected = expected_output(world, file);

@@ -1,7 +1,7 @@
 //! Well-formed things by chance: numbers, texts, requests, replies, tables.
 
 use reference::fields::{KEY_LIMIT, NAME_LIMIT, TEXT_LIMIT, VALUE_LIMIT};
-use reference::map::{LARGEST_DEADLINE, LARGEST_VERSION, MOST_KEYS};
+use reference::map::{LARGEST_DEADLINE, LARGEST_VERSION, LONGEST_SPAN, MOST_KEYS};
 use reference::operation::{
     body, may_answer, sends_entry_version, sends_key, sends_value, Body, CLEAR, ERROR, PUT,
     PUT_IF_ABSENT, REMOVE, REMOVE_IF_UNMODIFIED, SERVED,
@@ -69,6 +69,16 @@ pub fn second(chance: &mut Chance) -> u32 {
     }
 }
 
+/// A lifespan, often about the border between spans and dates.
+pub fn lifespan(chance: &mut Chance) -> u32 {
+    match chance.below(5) {
+        0 => LONGEST_SPAN,
+        1 => LONGEST_SPAN + 1,
+        2 => LONGEST_SPAN - 2 + chance.below(6) as u32,
+        _ => int(chance),
+    }
+}
+
 /// Characters at the edges of the ranges of first and second bytes.
 const EDGES: [char; 20] = [
     '\0',
@@ -124,7 +134,7 @@ pub fn request_of(chance: &mut Chance, operation: u8) -> Request {
         ..Request::default()
     };
     if sends_value(operation) {
-        request.lifespan = int(chance);
+        request.lifespan = lifespan(chance);
         request.max_idle = int(chance);
     }
     request

@@ -7,7 +7,7 @@ use crate::chance::Chance;
 use crate::difference::{Difference, Outcome};
 use crate::subject::{ServesLines, Stores, Subject};
 use crate::trial::{Counts, Trial};
-use crate::{edges, lines, messages, serving, stored, streams, tables, values};
+use crate::{dates, edges, lines, messages, serving, stored, streams, tables, values};
 
 /// One part, and how many rounds of it a quick run plays. A long run plays
 /// the parts in the same proportion.
@@ -53,6 +53,11 @@ pub fn lines_part<S: ServesLines>() -> Part<S> {
 /// Part g, stored tables.
 pub fn stored_part<S: Stores>() -> Part<S> {
     part(6, "stored", 1_200, stored::round)
+}
+
+/// Part i, deadlines.
+pub fn dates_part<S: ServesLines + Stores>() -> Part<S> {
+    part(8, "dates", 12, dates::round)
 }
 
 /// Plays one round. The same seed, part and round are the same inputs.

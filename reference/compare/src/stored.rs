@@ -45,7 +45,7 @@ fn room(chance: &mut Chance, length: usize) -> usize {
 }
 
 /// A sound table is stored, or 12 is given.
-fn stored<S: Stores>(trial: &mut Trial<S>, world: &World) -> Outcome {
+pub fn stored<S: Stores>(trial: &mut Trial<S>, world: &World) -> Outcome {
     let file = store(&world.table);
     let room = room(&mut trial.chance, file.len());
     let lent = Lent::random(&mut trial.chance, room);
@@ -94,7 +94,7 @@ fn store_gives<S: Stores>(
 }
 
 /// Loads into memory of this length and compares.
-fn loaded<S: Stores>(trial: &mut Trial<S>, file: &[u8], table: usize) -> Outcome {
+pub fn loaded<S: Stores>(trial: &mut Trial<S>, file: &[u8], table: usize) -> Outcome {
     let expected = if table == SIZE { load(file) } else { None };
     let before = old_table(trial, table);
     load_gives(trial, file, &before, expected).map_err(|found| {

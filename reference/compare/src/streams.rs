@@ -16,8 +16,8 @@ use crate::trial::Trial;
 
 /// What a stream of calls comes to.
 #[derive(Clone, Copy, Debug, Default, PartialEq, Eq)]
-struct Total {
-    taken: usize,
+pub struct Total {
+    pub taken: usize,
     sent: usize,
     /// The calls made, the last one included.
     calls: usize,
@@ -169,7 +169,8 @@ fn subject_one_by_one<S: Subject>(
     }
 }
 
-fn compared_stream<S: Subject>(
+/// The stream on both, compared, and the calls one by one.
+pub fn compared_stream<S: Subject>(
     trial: &mut Trial<S>,
     world: &mut World,
     call: Call,

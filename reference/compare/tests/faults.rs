@@ -2,7 +2,7 @@
 //! and each fault is found by its part.
 
 use compare::echo::{Echo, Fault};
-use compare::run::{lines_part, parts, play, stored_part, Part};
+use compare::run::{dates_part, lines_part, parts, play, stored_part, Part};
 use compare::subject::GOOD;
 use compare::trial::Counts;
 
@@ -12,6 +12,7 @@ fn all_parts() -> Vec<Part<Echo>> {
     let mut all = parts();
     all.push(lines_part());
     all.push(stored_part());
+    all.push(dates_part());
     all
 }
 
@@ -101,6 +102,11 @@ fn stored_tables_are_alike() {
 }
 
 #[test]
+fn deadlines_are_those_worked_out_by_hand() {
+    all_given(&sound_rounds("dates", 1), &[GOOD, 0, 12]);
+}
+
+#[test]
 fn faults_of_readers_are_found() {
     use Fault::*;
     let faults = [
@@ -141,6 +147,9 @@ fn faults_of_serving_are_found() {
         ClearRestarts,
         RemovalUsesVersion,
         DeadlineWraps,
+        DateAtThirtyDays,
+        DateIsAdded,
+        DateBeatsFlag,
         LastVersionEarly,
         RefusedTouchesMemory,
         ReplyTouchesBehind,
@@ -157,6 +166,14 @@ fn faults_of_streams_are_found() {
     use Fault::*;
     are_found("streams", &[StopsAtNine, CountsReplies, HidesTwelve]);
     is_found("tables", ChecksOnce);
+}
+
+#[test]
+fn faults_of_deadlines_are_found() {
+    use Fault::*;
+    let faults = [DeadlineWraps, DateAtThirtyDays, DateIsAdded, DateBeatsFlag];
+    are_found("dates", &faults);
+    are_found("streams", &faults);
 }
 
 #[test]

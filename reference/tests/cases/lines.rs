@@ -1,6 +1,6 @@
 use crate::help::*;
 use reference::operation::*;
-use reference::{serve_line, serve_lines, serve_reader, store, Request, Table};
+use reference::{load, serve_line, serve_lines, serve_reader, store, Request, Table};
 use std::io::BufReader;
 
 fn line(text: &str) -> String {
@@ -29,6 +29,27 @@ fn the_five_lines() {
         assert_eq!(out, FIVE_REPLIES.as_bytes());
         assert_eq!(store(&table), FIVE_STORED.as_bytes());
     }
+}
+
+/// Puts for 2,592,000 and for 2,592,001 seconds at the last second: the first
+/// is a span, the second a date. The third has a date and flag 0x0002.
+#[test]
+fn a_span_and_a_date_at_the_last_second() {
+    let file = "\
+ffffffff a0010a0100000100000162809a9e01000100
+ffffffff a0010a0100000100000163819a9e01000100
+ffffffff a0010c0100020100000164819a9e01000100
+";
+    let stored = "\
+010000000000000003
+00000000000000010000000100278cff01620100
+00000000000000020000000000278d0101630100
+0000000000000003000000000000000001640100
+";
+    let (out, table) = streamed(file.as_bytes(), 100);
+    assert_eq!(out, b"a101020000\na101020000\na101020000\n");
+    assert_eq!(store(&table), stored.as_bytes());
+    assert_eq!(load(stored.as_bytes()), Some(table));
 }
 
 #[test]

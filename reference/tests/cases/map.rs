@@ -111,29 +111,82 @@ fn clear_keeps_the_last_version() {
     assert_eq!(table, table_with(b"v", 6, 6));
 }
 
+/// The deadline that a write with these numbers leaves.
+fn deadline(version: u8, flags: u32, lifespan: u32, second: u32) -> u64 {
+    let mut table = Table::default();
+    let given = Request {
+        version,
+        flags,
+        lifespan,
+        max_idle: 77,
+        ..request(PUT, b"k", b"")
+    };
+    step(&given, second, &mut table).unwrap();
+    table.entries[&b"k"[..]].deadline
+}
+
 #[test]
 fn deadlines() {
-    let deadline = |version, flags, lifespan, second| {
-        let mut table = Table::default();
-        let given = Request {
-            version,
-            flags,
-            lifespan,
-            max_idle: 77,
-            ..request(PUT, b"k", b"")
-        };
-        step(&given, second, &mut table).unwrap();
-        table.entries[&b"k"[..]].deadline
-    };
     assert_eq!(deadline(10, 0, 0, 50), 0);
     assert_eq!(deadline(10, 1, 7, 50), 57);
-    assert_eq!(deadline(10, 0, u32::MAX, u32::MAX), 8_589_934_590);
     assert_eq!(deadline(12, 2, 7, 50), 0);
     assert_eq!(deadline(12, 3, 7, 50), 0);
     assert_eq!(deadline(12, 7, 7, 50), 0);
     assert_eq!(deadline(12, 4, 7, 50), 57);
     assert_eq!(deadline(12, 5, 7, 50), 57);
-    assert_eq!(deadline(12, 4, 2_592_001, 1), 2_592_002);
+    assert_eq!(deadline(12, 4, 2_592_000, 1), 2_592_001);
+    assert_eq!(deadline(12, 4, 2_592_001, 1), 2_592_001);
+}
+
+/// "Up to and including 2,592,000 the lifespan is added to the call's second;
+/// above it, the lifespan itself is the deadline, even if that is past."
+#[test]
+fn a_lifespan_above_thirty_days_is_the_deadline() {
+    let edges = [
+        (0, 0, 0),
+        (1, 0, 1),
+        (2_592_000, 0, 2_592_000),
+        (2_592_001, 0, 2_592_001),
+        (4_294_967_295, 0, 4_294_967_295),
+        (0, 4_294_967_295, 0),
+        (1, 4_294_967_295, 4_294_967_296),
+        (2_592_000, 4_294_967_295, 4_297_559_295),
+        (2_592_001, 4_294_967_295, 2_592_001),
+        (4_294_967_295, 4_294_967_295, 4_294_967_295),
+    ];
+    for (lifespan, second, wanted) in edges {
+        for (version, flags) in [(10, 0), (10, 1), (11, 0), (12, 0), (12, 5)] {
+            assert_eq!(
+                deadline(version, flags, lifespan, second),
+                wanted,
+                "version {version}, flags {flags}, lifespan {lifespan}, second {second}"
+            );
+        }
+        for flags in [2, 3, 6, 7] {
+            assert_eq!(deadline(12, flags, lifespan, second), 0);
+        }
+    }
+}
+
+#[test]
+fn every_write_that_stores_takes_a_date() {
+    for operation in [PUT, PUT_IF_ABSENT, REPLACE, REPLACE_IF_UNMODIFIED] {
+        let mut table = table_with(b"old", 4, 9);
+        if operation == PUT_IF_ABSENT {
+            table.entries.clear();
+        }
+        let write = Request {
+            lifespan: 2_592_001,
+            entry_version: if operation == REPLACE_IF_UNMODIFIED {
+                4
+            } else {
+                0
+            },
+            ..request(operation, b"k", b"new")
+        };
+        step(&write, 4_000_000_000, &mut table).unwrap();
+        assert_eq!(table.entries[&b"k"[..]], entry(b"new", 10, 2_592_001));
+    }
 }
 
 #[test]

@@ -155,6 +155,17 @@ impl Setup {
         }
     }
 
+    /// Gets of the key in the last row.
+    fn gets_of_last(&mut self) -> Vec<Request> {
+        let last = self.keys[ENTRIES - 1].clone();
+        (0..REQUESTS)
+            .map(|_| Request {
+                key: last.clone(),
+                ..self.request(GET)
+            })
+            .collect()
+    }
+
     /// Requests of which so many in ten are puts.
     fn requests(&mut self, puts: usize) -> Vec<Request> {
         let operation = |at: usize| if at % 10 < puts { PUT } else { GET };
@@ -177,6 +188,7 @@ pub fn rows<S: Subject>(subject: &mut S) -> Vec<Row> {
     let gets = bytes_of(&setup.requests(0));
     let puts = bytes_of(&setup.requests(10));
     let mixed = bytes_of(&setup.requests(1));
+    let last = bytes_of(&setup.gets_of_last());
     vec![
         read_request(subject, &mut setup),
         write_request(subject, &mut setup),
@@ -190,6 +202,7 @@ pub fn rows<S: Subject>(subject: &mut S) -> Vec<Row> {
             "serve_stream, nine gets to one put",
             &mixed,
         ),
+        stream(subject, &setup, "serve_stream, get of the last key", &last),
         calls(subject, &mut setup, "serve, get", 0),
         calls(subject, &mut setup, "serve, put over a held key", 10),
         calls(subject, &mut setup, "serve, nine gets to one put", 1),

@@ -101,9 +101,9 @@ bool fq_is_table(const uint8_t *table, size_t table_len);
 /* Makes the memory a fresh table: FQ_DONE, or 13 where it has not FQ_TABLE_SIZE bytes. */
 uint64_t fq_make(uint8_t *table, size_t table_len);
 
-/* Serves the request at the front of the input, at this second, and writes the reply at the front of `reply`, which has FQ_REPLY_ROOM bytes or more.
-   FQ_DONE is served. Told: bytes taken of the input, and bytes of the reply. Nothing is taken where more is needed and at 1 to 8, 12 and 13; a stream
-   from a client ends after 1 to 8. At 9 to 11 the request is taken. At 1 to 11 the reply is the error reply. */
+/* Serves the request at the front of the input, at this second (UNIX time), and writes the reply at the front of `reply`, which has FQ_REPLY_ROOM bytes
+   or more. FQ_DONE is served. Told: bytes taken of the input, and bytes of the reply. Nothing is taken where more is needed and at 1 to 8, 12 and 13; a
+   stream from a client ends after 1 to 8. At 9 to 11 the request is taken. At 1 to 11 the reply is the error reply. */
 uint64_t fq_serve(const uint8_t *input, size_t input_len, uint8_t *table, size_t table_len, uint32_t second, uint8_t *reply, size_t reply_len,
                   uint64_t *answer, size_t answer_len);
 

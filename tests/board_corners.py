@@ -1,7 +1,7 @@
 """Part 2: corners of request files, each compared with the second program, with and without a TABLE."""
-from board_frames import (CLEAR, CONTAINS_KEY, GET, GET_WITH_VERSION, LARGEST_SECOND, LARGEST_VERSION, LONGEST_SPAN, MOST_KEYS, OPERATIONS, PING,
-                          PUT, PUT_IF_ABSENT, REMOVE, REMOVE_IF_UNMODIFIED, REPLACE, REPLACE_IF_UNMODIFIED, entry_line, frame, head_line,
-                          header, key_name, line, number, request)
+from board_frames import (CLEAR, CONTAINS_KEY, GET, GET_WITH_VERSION, LARGEST_SECOND, LARGEST_VERSION, MOST_KEYS, OPERATIONS, PING, PUT,
+                          PUT_IF_ABSENT, REMOVE, REMOVE_IF_UNMODIFIED, REPLACE, REPLACE_IF_UNMODIFIED, THIRTY_DAYS, entry_line, frame,
+                          head_line, header, key_name, line, number, request)
 from board_run import ABSENT, Bench, demand, run_part
 
 GOOD = request(PUT, key=b'good', value=b'line')
@@ -181,13 +181,22 @@ def values():
                                                + request(GET_WITH_VERSION) for bits in range(33))
 
 
-def deadlines():
+def deadline(second, lifespan, flags):
+    """The papers' deadline of a put: none for lifespan 0 or flag 0x0002, and a lifespan above 30 days is a date."""
+    if lifespan == 0 or flags & 2:
+        return 0
+    return second + lifespan if lifespan <= THIRTY_DAYS else lifespan
+
+
+def deadlines(bench):
     """Deadlines are seen in the TABLE alone."""
     for second in (0, 1, 0x7fffffff, 0x80000000, LARGEST_SECOND):
-        for lifespan in (0, 1, 127, 128, LONGEST_SPAN - 1, LONGEST_SPAN, LONGEST_SPAN + 1, LONGEST_SPAN + 2, 0x80000000, LARGEST_SECOND):
-            for flags in (0, 2, 4):
-                yield (f'second {second}, lifespan {lifespan}, flags {flags}',
-                       request(PUT, second, lifespan=lifespan, idle=5, version=12, flags=flags))
+        for lifespan in (0, 1, 127, 128, THIRTY_DAYS - 1, THIRTY_DAYS, THIRTY_DAYS + 1, THIRTY_DAYS + 2, 0x80000000, LARGEST_SECOND):
+            for flags in (0, 2, 4, 6):
+                case = f'second {second}, lifespan {lifespan}, flags {flags}'
+                got = bench.same(case, request(PUT, second, lifespan=lifespan, idle=5, version=12, flags=flags), ABSENT)
+                wanted = head_line(1) + entry_line(1, deadline=deadline(second, lifespan, flags))
+                demand(got.table == wanted, case, f'the second program stores {got.table!r}, the paper {wanted!r}')
 
 
 # A lifespan, a second, and the deadline that they give without flag 0x0002, worked out by hand.
@@ -240,7 +249,7 @@ def last_versions(bench):
 
 
 def plain_files():
-    for maker in (long_lines, sizes, odd_bytes, cut_frames, operations, values, deadlines, many_keys):
+    for maker in (long_lines, sizes, odd_bytes, cut_frames, operations, values, many_keys):
         yield from maker()
 
 
@@ -255,6 +264,7 @@ def part():
         refusal_files(bench)
         for case, requests in plain_files():
             bench.same(case, requests, ABSENT)
+        deadlines(bench)
         last_versions(bench)
         deadline_edges(bench)
         return f'{bench.count} files of corners, same replies and same tables'

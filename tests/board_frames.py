@@ -11,7 +11,7 @@ MOST_KEYS = 128
 LARGEST_VERSION = 2 ** 63 - 1
 LARGEST_DEADLINE = 8_589_934_590
 LARGEST_SECOND = 2 ** 32 - 1
-LONGEST_SPAN = 2_592_000  # a longer lifespan is a date
+THIRTY_DAYS = 2_592_000  # a longer lifespan is a date
 
 
 def number(value):

@@ -6,7 +6,7 @@ use mathlib.Core.Option.{some}
 use Prim.Native.Nat.{ℕ, suc, _≤_, _<_, zero-le, suc-le-suc}
 use native.Mathlib.Omega.{arith}
 use lib.ListN.{length, length-append}
-use lib.Dec.{eqb, leb}
+use lib.Dec.{leb}
 use borrow.Author.Tests.{leb-false}
 use Rattle.wire.specs.Codec.{Valid}
 use Rattle.wire.proofs.Laws.{never}
@@ -14,11 +14,12 @@ use Rattle.message.specs.Request.{Request, request}
 use Rattle.wire.proofs.Basics.{pick}
 use Rattle.message.proofs.Sizes.{small}
 use Rattle.map.specs.State.{Entry, State, find, without}
-use Rattle.map.specs.Step.{mostKeys, lastVersion, Context, Change, keep, store, drop, empty, Answer, answered, noLifespan, deadline, entry, stored, dropped, emptied, isNone, names, held, full, planned, step}
-use Rattle.map.specs.Table.{Each, lastDeadline, Sizes, OtherKey, OtherVersion, Issued, IsTable, Ascending}
+use Rattle.map.specs.Step.{mostKeys, lastVersion, Context, Change, keep, store, drop, empty, Answer, answered, entry, stored, dropped, emptied, isNone, names, held, full, planned, step}
+use Rattle.map.specs.Table.{Each, Sizes, OtherKey, OtherVersion, Issued, IsTable, Ascending}
 use Rattle.map.proofs.Each.{each-map, each-without, pairs-without, each-left, each-add, pairs-add}
 use Rattle.map.proofs.Answered.{changed, did}
 use Rattle.map.proofs.Laws.{other-differ}
+use Rattle.map.proofs.Deadline.{deadline-most}
 
 -- no entry is above the last version
 pub below : (st : State) → IsTable st → Each (λ e. e .version ≤ st .last) (st .entries)
@@ -26,7 +27,7 @@ below st s = each-map (Issued (st .last)) (λ e. e .version ≤ st .last) (λ e 
 
 -- the entry that a request writes is within the sizes
 entry-sizes : (c : Context) (r : Request) (n : ℕ) → Valid request r → c .second < 0x1_0000_0000 → Sizes (entry c r n)
-unfolding entry deadline
+unfolding entry
 entry-sizes c r n v h =
     let s = small r v in
     record {
@@ -34,11 +35,8 @@ entry-sizes c r n v h =
       value = s .value;
       keyBytes = s .keyBytes;
       valueBytes = s .valueBytes;
-      deadline = pick Within (eqb (r .args .lifespan) 0) (λ q. zero-le) (pick Within (noLifespan r) (λ q. zero-le) (omega (arith, s .lifespan)));
+      deadline = omega (arith, deadline-most c r h (s .lifespan));
     }
-  where
-    Within : ℕ → Type 0
-    Within n = n ≤ lastDeadline
 
 module _ (p : Entry → Bool) where
   fewer : (es : List Entry) → length (without p es) ≤ length es

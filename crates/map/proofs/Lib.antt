@@ -3,6 +3,7 @@ pub mod Finding
 pub mod Answered
 pub mod Commute
 pub mod Laws
+pub mod Deadline
 pub mod Keeps
 pub mod Order
 pub mod Sent

@@ -93,9 +93,16 @@ wantsOld r = eqb (r .flags % 2) 1
 abbrev pub noLifespan : Request → Bool
 noLifespan r = eqb (r .flags / 2 % 2) 1
 
--- "The deadline is that second plus the lifespan, or 0 (none) if the lifespan is 0 or flag 0x0002 is set."
+-- "a lifespan above 30 days is a UNIX time"
+abbrev pub thirtyDays : ℕ
+thirtyDays = 2_592_000
+
+-- "0 (none) if the lifespan is 0 or flag 0x0002 is set"; "Up to and including 2,592,000 the lifespan is added to the call's second; above it, the
+-- lifespan itself is the deadline, even if that is past."
 unfoldable pub deadline : Context → Request → ℕ
-deadline c r = cond (eqb (r .args .lifespan) 0) 0 (cond (noLifespan r) 0 (c .second + r .args .lifespan))
+deadline c r =
+    let lifespan = r .args .lifespan in
+    cond (eqb lifespan 0) 0 (cond (noLifespan r) 0 (cond (leb lifespan thirtyDays) (c .second + lifespan) lifespan))
 
 unfoldable pub entry : Context → Request → ℕ → Entry
 entry c r version = record { key = r .args .key; value = r .args .value; version = version; deadline = deadline c r }

@@ -139,7 +139,10 @@ fn drop_row(t: &mut [u8], held: Held)
     table::remove(t, i);
 }
 
-// "The deadline is that second plus the lifespan, or 0 if the lifespan is 0 or flag 0x0002 is set."
+// The longest lifespan that is counted from the call's second, in seconds.
+const THIRTY_DAYS: u64 = 2_592_000;
+
+// The deadline of what a request writes: none where it has no lifespan, the second plus a lifespan of at most 30 days, and a longer one as it is.
 fn deadline(h: Head, second: Second) -> Second
     requires { ⌜ second .0 + h .lifespan < 0x2_0000_0000 ⌝ }
     ensures { λ r. ⌜ ((name key value : List ℕ) → r .0 ≡ map.deadline (at (second .0)) (requestOf h name key value)) ⌝ }
@@ -150,7 +153,10 @@ fn deadline(h: Head, second: Second) -> Second
     if h.flags / 2 % 2 == 1 {
         return Second(0);
     }
-    Second(second.0 + h.lifespan)
+    if h.lifespan <= THIRTY_DAYS {
+        return Second(second.0 + h.lifespan);
+    }
+    Second(h.lifespan)
 }
 
 // Makes the change that is planned. A store adds the request's entry in place of the row held.

@@ -1,5 +1,6 @@
 -- `server::act::deadline` meets its contract. Assumes nothing.
-use borrow.Author.Tests.{eq-eqb, ne-eqb}
+use native.Mathlib.Omega.{arith}
+use borrow.Author.Tests.{eq-eqb, ne-eqb, le-leb, lt-leb}
 use Rattle.map.specs.Step as map
 use borrow.Author.Needs.{needs}
 use Rattle.server.proofs.act.deadline.Statement.{statement}
@@ -15,7 +16,20 @@ returns-2 c name key value = rw (ne-eqb _ _ (c .before .before .if1 .left), eq-e
 
 returns-3 : tie.Need-returns-3
 unfolding map.deadline
-returns-3 c name key value = let e = c .before .before in rw (ne-eqb _ _ (e .before .before .if1 .left), ne-eqb _ _ (e .if2 .left))
+returns-3 c name key value =
+    let s = c .before .before in
+    let e = s .before .before in
+    let o = e .before .before in
+    let n = o .before .before .args .h .lifespan in
+    rw (ne-eqb n 0 (o .if1 .left), ne-eqb _ _ (e .if2 .left), le-leb n map.thirtyDays (omega (arith, s .if3 .taken)))
+
+returns-4 : tie.Need-returns-4
+unfolding map.deadline
+returns-4 c name key value =
+    let e = c .before .before in
+    let o = e .before .before in
+    let n = o .before .before .args .h .lifespan in
+    rw (ne-eqb n 0 (o .if1 .left), ne-eqb _ _ (e .if2 .left), lt-leb n map.thirtyDays (omega (arith, c .if3 .left)))
 
 pub deadline-spec : {M : Type 1} → statement M
 deadline-spec =
@@ -24,4 +38,5 @@ deadline-spec =
     returns
     returns-2
     (λ c. search needs)
-    returns-3)
+    returns-3
+    returns-4)

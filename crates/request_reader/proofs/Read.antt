@@ -1,7 +1,7 @@
 -- What reading a request goes by, field by field, and what an answer that is not whole says. Assumes nothing.
 use mathlib.Core.Path.{_≡_, refl, sym, _∙_}
 use mathlib.Core.List.{List, [], _∷_}
-use mathlib.Core.Bool.{Bool, true, false, cond}
+use mathlib.Core.Bool.{cond}
 use Prim.Native.Nat.{ℕ, _+_}
 use native.Mathlib.Nat.{zero-add, add-zero}
 use lib.ListN.{length}
@@ -11,23 +11,22 @@ use types.Run.{OneOf}
 use denote.Enum.Declared.{tagOf}
 use Rattle.wire.specs.Codec.{Read, whole, more, refused, after, mapped, Bytes, readAt, byte, empty, all}
 use Rattle.wire.specs.Number.{vInt, vLong}
-use Rattle.wire.specs.Field.{entryVersion, limited}
+use Rattle.wire.specs.Field.{limited}
 use Rattle.wire.proofs.Laws.{Laws, after-after, after-on, seq-laws, guard-laws, type-laws, byte-laws, guard-valid, seq-valid}
 use Rattle.wire.proofs.At.{at-front, at-seq, at-guard, at-type, at-cond, at-exact}
 use Rattle.wire.proofs.FieldLaws.{limited-laws}
 use Rattle.wire.proofs.NumberLaws.{vInt-laws, vLong-laws}
-use Rattle.field.specs.FieldRead.{limitedText, between, nowhere, spanTo, asNumber}
-use Rattle.field.specs.declared.Span.{Span}
+use Rattle.field.specs.FieldRead.{limitedText, between, spanTo, asNumber}
 use Rattle.field.specs.declared.NumberRead.{NumberRead}
 use Rattle.field.specs.declared.NumberRead.the-variants as n
 use Rattle.field.proofs.NumberRead as number-read
 use Rattle.field.proofs.Parts.{only, at-between, not-whole, not-refused}
 use Rattle.message.specs.Operation.{findCode, isKnown, known}
-use Rattle.message.specs.Request.{bare, shapeOf, argsOf, operation, transaction, isVersion, editionAt, fields, toRequest, request, nameLimit, keyLimit, valueLimit}
+use Rattle.message.specs.Request.{Shape, keyed, writes, writesIf, keyedIf, bare, shapeOf, argsOf, operation, transaction, isVersion, editionAt, fields, toRequest, request, nameLimit, keyLimit, valueLimit}
 use Rattle.message.proofs.RequestLaws.{text-laws, operation-laws, transaction-laws}
 use Rattle.message.specs.Start.{start, idFound}
 use Rattle.request_reader.specs.RequestRead.{requestAt, front, options}
-use Rattle.request_reader.specs.Parts.{asFront, asOptions, asArgs, optionsAt, argsAt, argsWith, togetherOf, keyedBy, writesBy}
+use Rattle.request_reader.specs.Parts.{asFront, asOptions, asArgs, optionsAt, argsAt, argsWith, togetherOf, sendsOf, partIn, timeIn, entryIn}
 use Rattle.request_reader.specs.declared.Args as code
 use Rattle.request_reader.specs.declared.FrontRead.{FrontRead}
 use Rattle.request_reader.specs.declared.FrontRead.the-variants as f
@@ -90,18 +89,6 @@ module _ (s : List ℕ) where
   unfolding request fields front start options
   in-parts = sym (at-front request s) ∙ rw (← (at-front front s)) (simp (at-type, at-seq, at-guard, after-after, at-cond))
 
-  -- the arguments of each shape
-  unfoldable pub valueFrom : Span → (lifespan idle entry : ℕ) → ℕ → Read code.Args
-  valueFrom k l m e i = after (mapped spanTo (readAt (limited valueLimit) s i)) (λ p n. whole (argsWith k l m e p) n)
-
-  abbrev keyedFrom : Bool → Span → ℕ → Read code.Args
-  keyedFrom true k i = after (readAt entryVersion s i) (λ e j. whole (argsWith k 0 0 e nowhere) j)
-  keyedFrom false k i = whole (argsWith k 0 0 0 nowhere) i
-
-  abbrev writesFrom : Bool → Span → (lifespan idle : ℕ) → ℕ → Read code.Args
-  writesFrom true k l m i = after (readAt entryVersion s i) (λ e j. valueFrom k l m e j)
-  writesFrom false k l m i = valueFrom k l m 0 i
-
   -- the parts that hold bytes, by where those stand
   module _ (b : Bytes s) where
     pub at-options : (v at : ℕ) → mapped (optionsAt at) (readAt (options v) s at)
@@ -121,23 +108,23 @@ module _ (s : List ℕ) where
       exact : (bs : List ℕ) (n : ℕ) → readAt (limited keyLimit) s at ≡ whole bs n → n ≡ at + length (limited keyLimit .enc bs)
       exact bs n e = at-exact (limited keyLimit) (limited-laws keyLimit) s at bs n b e
 
-      pub at-keyed : (c : Bool) → mapped (argsAt at) (readAt (argsOf (keyedBy c)) s at) ≡ after (mapped spanTo (readAt (limited keyLimit) s at)) (λ k i. keyedFrom c k i)
-      unfolding mapped argsOf argsAt spanTo
-      at-keyed true =
-          simp (at-type, at-seq, after-after) (after-on (readAt (limited keyLimit) s at) (λ bs n e. rw (exact bs n e)))
-      at-keyed false = simp (at-type, after-after) (after-on (readAt (limited keyLimit) s at) (λ bs n e. rw (exact bs n e)))
+      at-none : readAt empty s at ≡ whole tt at
+      unfolding readAt empty
+      at-none = simp add-zero
 
-      pub at-writes : (c : Bool) → mapped (argsAt at) (readAt (argsOf (writesBy c)) s at)
-          ≡ after (mapped spanTo (readAt (limited keyLimit) s at)) (λ k i. after (readAt vInt s i) (λ l i. after (readAt vInt s i) (λ m i. writesFrom c k l m i)))
-      unfolding mapped argsOf argsAt valueFrom
-      at-writes true =
-          simp (at-type, at-seq, after-after) (after-on (readAt (limited keyLimit) s at) (λ bs n e. rw (exact bs n e)))
-      at-writes false =
-          simp (at-type, at-seq, after-after) (after-on (readAt (limited keyLimit) s at) (λ bs n e. rw (exact bs n e)))
-
-      pub at-bare : mapped (argsAt at) (readAt (argsOf bare) s at) ≡ whole (argsWith nowhere 0 0 0 nowhere) at
-      unfolding mapped argsOf argsAt readAt empty spanTo
-      at-bare = simp (at-type, add-zero)
+      -- each argument stands behind the one before, where the shape has it
+      pub at-args : (sh : Shape) → mapped (argsAt at) (readAt (argsOf sh) s at)
+          ≡ after (partIn s keyLimit (sendsOf sh .key) at) (λ k i.
+          after (timeIn s (sendsOf sh .write) i) (λ l i.
+          after (timeIn s (sendsOf sh .write) i) (λ m i.
+          after (entryIn s (sendsOf sh .version) i) (λ e i.
+          after (partIn s valueLimit (sendsOf sh .write) i) (λ v n. whole (argsWith k l m e v) n)))))
+      unfolding mapped argsOf argsAt partIn timeIn entryIn spanTo
+      at-args keyed = simp (at-type, after-after) (after-on (readAt (limited keyLimit) s at) (λ bs n e. rw (exact bs n e)))
+      at-args writes = simp (at-type, at-seq, after-after) (after-on (readAt (limited keyLimit) s at) (λ bs n e. rw (exact bs n e)))
+      at-args writesIf = simp (at-type, at-seq, after-after) (after-on (readAt (limited keyLimit) s at) (λ bs n e. rw (exact bs n e)))
+      at-args keyedIf = simp (at-type, at-seq, after-after) (after-on (readAt (limited keyLimit) s at) (λ bs n e. rw (exact bs n e)))
+      at-args bare = simp (at-type, at-none)
 
     -- a request is its three parts
     pub at-request : mapped requestAt (request .dec s)

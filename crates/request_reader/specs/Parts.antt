@@ -1,13 +1,15 @@
 -- What the readers of a request's parts answer, for their contracts.
-use mathlib.Core.Bool.{Bool, true, false}
+use mathlib.Core.List.{List}
+use mathlib.Core.Bool.{Bool, true, false, cond}
 use Prim.Native.Nat.{ℕ, _+_}
 use lib.ListN.{length}
-use Rattle.wire.specs.Codec.{Read, whole, more, refused}
-use Rattle.wire.specs.Field.{limited}
-use Rattle.field.specs.FieldRead.{limitedText, spanTo}
+use Rattle.wire.specs.Codec.{Read, whole, more, refused, mapped, readAt}
+use Rattle.wire.specs.Number.{vInt}
+use Rattle.wire.specs.Field.{limited, entryVersion}
+use Rattle.field.specs.FieldRead.{limitedText, nowhere, spanTo}
 use Rattle.field.specs.declared.Span.{Span}
 use Rattle.message.specs.declared.Request.{Request}
-use Rattle.message.specs.Request.{Shape, keyed, writes, writesIf, keyedIf, Args, nameLimit, keyLimit}
+use Rattle.message.specs.Request.{Shape, keyed, writes, writesIf, keyedIf, bare, Args, nameLimit, keyLimit}
 use Rattle.request_reader.specs.RequestRead as a
 use Rattle.request_reader.specs.declared.Front.{Front}
 use Rattle.request_reader.specs.declared.FrontRead.{FrontRead}
@@ -15,6 +17,7 @@ use Rattle.request_reader.specs.declared.FrontRead.the-variants as f
 use Rattle.request_reader.specs.declared.Options.{Options}
 use Rattle.request_reader.specs.declared.OptionsRead.{OptionsRead}
 use Rattle.request_reader.specs.declared.OptionsRead.the-variants as o
+use Rattle.request_reader.specs.declared.Sends.{Sends}
 use Rattle.request_reader.specs.declared.Args as code-args
 use Rattle.request_reader.specs.declared.ArgsRead.{ArgsRead}
 use Rattle.request_reader.specs.declared.ArgsRead.the-variants as r
@@ -70,11 +73,23 @@ togetherOf f o a =
       value = a .value;
     }
 
--- the shapes with an entry version, where the operation is a conditional one, and without
-abbrev pub keyedBy : Bool → Shape
-keyedBy true = keyedIf
-keyedBy false = keyed
+-- which arguments each shape has
+abbrev pub sends : (key write version : Bool) → Sends
+sends k w v = record { key = k; write = w; version = v }
 
-abbrev pub writesBy : Bool → Shape
-writesBy true = writesIf
-writesBy false = writes
+abbrev pub sendsOf : Shape → Sends
+sendsOf keyed = sends true false false
+sendsOf writes = sends true true false
+sendsOf writesIf = sends true true true
+sendsOf keyedIf = sends true false true
+sendsOf bare = sends false false false
+
+-- an argument that is not sent takes no bytes, and is blank: a part that stands nowhere, or 0
+unfoldable pub partIn : List ℕ → (lim : ℕ) → (sent : Bool) → ℕ → Read Span
+partIn s lim sent at = cond sent (mapped spanTo (readAt (limited lim) s at)) (whole nowhere at)
+
+unfoldable pub timeIn : List ℕ → (sent : Bool) → ℕ → Read ℕ
+timeIn s sent at = cond sent (readAt vInt s at) (whole 0 at)
+
+unfoldable pub entryIn : List ℕ → (sent : Bool) → ℕ → Read ℕ
+entryIn s sent at = cond sent (readAt entryVersion s at) (whole 0 at)

@@ -13,13 +13,12 @@ use message::Operation;
 use message::Request;
 use rules::Shape;
 ghost use mathlib.Core.Path.{_≡_};
-ghost use Rattle.wire.specs.Codec.{readAt, whole, after, mapped};
-ghost use Rattle.wire.specs.Field.{limited};
-ghost use Rattle.field.specs.FieldRead.{asNumber, nowhere, spanTo, stopped};
-ghost use Rattle.message.specs.Request.{request, shapeOf, argsOf, valueLimit};
+ghost use Rattle.wire.specs.Codec.{readAt, mapped};
+ghost use Rattle.field.specs.FieldRead.{asNumber, asVersion, asSpan, stopped};
+ghost use Rattle.message.specs.Request.{request, shapeOf, argsOf};
 ghost use Rattle.message.specs.Start.{start, idIn};
 ghost use Rattle.request_reader.specs.RequestRead.{asRequest, requestAt, front, options};
-ghost use Rattle.request_reader.specs.Parts.{asFront, asOptions, asArgs, optionsAt, argsAt, argsWith, togetherOf, keyedBy, writesBy};
+ghost use Rattle.request_reader.specs.Parts.{asFront, asOptions, asArgs, optionsAt, argsAt, togetherOf, sends, sendsOf, partIn, timeIn, entryIn};
 
 // What reading a request finds: the request with the number of bytes it took, more needed, or a refusal by its number.
 pub enum RequestRead {
@@ -185,51 +184,89 @@ fn read_options(s: &[u8], c: Cursor, version: u8) -> OptionsRead
     )
 }
 
-// The key, and the entry version where the operation is a conditional one.
-fn read_keyed(s: &[u8], c: Cursor, conditional: bool) -> ArgsRead
-    ensures { λ r. ⌜ asArgs r ≡ mapped (argsAt (c .at)) (readAt (argsOf (keyedBy conditional)) (now (s .entry)) (c .at)) ⌝ }
+// Which arguments an operation is sent: a key; the times and the value of a write; an entry version.
+struct Sends {
+    key: bool,
+    write: bool,
+    version: bool,
+}
+
+fn sent_by(op: Operation) -> Sends
+    ensures { λ r. ⌜ r ≡ sendsOf (shapeOf op) ⌝ }
 {
-    let r1 = field::read_limited(s, c, Request::KEY);
+    let shape = rules::shape_of(op);
+    match shape {
+        Shape::Keyed => these(true, false, false),
+        Shape::Writes => these(true, true, false),
+        Shape::WritesIf => these(true, true, true),
+        Shape::KeyedIf => these(true, false, true),
+        Shape::Bare => these(false, false, false),
+    }
+}
+
+fn these(key: bool, write: bool, version: bool) -> Sends
+    ensures { λ r. ⌜ r ≡ sends key write version ⌝ }
+{
+    Sends {
+        key: key,
+        write: write,
+        version: version,
+    }
+}
+
+// A key or a value, where it is sent.
+fn read_part(s: &[u8], c: Cursor, sent: bool, lim: u64) -> SpanRead
+    ensures { λ r. ⌜ asSpan r ≡ partIn (now (s .entry)) lim sent (c .at) ⌝ }
+{
+    if !sent {
+        return SpanRead::Whole(Span { start: 0, len: 0 }, c);
+    }
+    field::read_limited(s, c, lim)
+}
+
+// A lifespan or a max idle.
+fn read_time(s: &[u8], c: Cursor, sent: bool) -> NumberRead
+    ensures { λ r. ⌜ asNumber r ≡ timeIn (now (s .entry)) sent (c .at) ⌝ }
+{
+    if !sent {
+        return NumberRead::Whole(0, c);
+    }
+    field::read_number(s, c, Kind::VInt)
+}
+
+fn read_entry(s: &[u8], c: Cursor, sent: bool) -> VersionRead
+    ensures { λ r. ⌜ asVersion r ≡ entryIn (now (s .entry)) sent (c .at) ⌝ }
+{
+    if !sent {
+        return VersionRead::Whole(EntryVersion(0), c);
+    }
+    field::read_version(s, c)
+}
+
+// The arguments, each where the operation's shape has it.
+fn read_args(s: &[u8], c: Cursor, op: Operation) -> ArgsRead
+    ensures { λ r. ⌜ asArgs r ≡ mapped (argsAt (c .at)) (readAt (argsOf (shapeOf op)) (now (s .entry)) (c .at)) ⌝ }
+{
+    let sent = sent_by(op);
+    let r1 = read_part(s, c, sent.key, Request::KEY);
     let SpanRead::Whole(key, c1) = r1 else {
         return stop_args(r1.length());
     };
-    if !conditional {
-        return ArgsRead::Whole(keyed(key, EntryVersion(0)), c1);
-    }
-    let r2 = field::read_version(s, c1);
-    let VersionRead::Whole(entry, c2) = r2 else {
+    let r2 = read_time(s, c1, sent.write);
+    let NumberRead::Whole(lifespan, c2) = r2 else {
+        return stop_args(r2);
+    };
+    let r3 = read_time(s, c2, sent.write);
+    let NumberRead::Whole(idle, c3) = r3 else {
+        return stop_args(r3);
+    };
+    let r4 = read_entry(s, c3, sent.version);
+    let VersionRead::Whole(entry, c4) = r4 else {
         return ArgsRead::More;
     };
-    ArgsRead::Whole(keyed(key, entry), c2)
-}
-
-// Arguments without times and value.
-fn keyed(key: Span, entry: EntryVersion) -> Args
-    ensures { λ r. ⌜ r ≡ argsWith key 0 0 (entry .0) nowhere ⌝ }
-{
-    Args {
-        key: key,
-        lifespan: 0,
-        idle: 0,
-        entry: entry,
-        value: Span { start: 0, len: 0 },
-    }
-}
-
-// The value, behind all other arguments.
-fn read_value(
-    s: &[u8],
-    c: Cursor,
-    key: Span,
-    lifespan: u64,
-    idle: u64,
-    entry: EntryVersion,
-) -> ArgsRead
-    ensures { λ r. ⌜ asArgs r ≡ after (mapped spanTo (readAt (limited valueLimit) (now (s .entry)) (c .at))) (λ p n. whole (argsWith key lifespan idle (entry .0) p) n) ⌝ }
-{
-    let r = field::read_limited(s, c, Request::VALUE);
-    let SpanRead::Whole(value, end) = r else {
-        return stop_args(r.length());
+    let r5 = read_part(s, c4, sent.write, Request::VALUE);
+    let SpanRead::Whole(value, end) = r5 else {
+        return stop_args(r5.length());
     };
     ArgsRead::Whole(
         Args {
@@ -241,46 +278,6 @@ fn read_value(
         },
         end,
     )
-}
-
-// Key, lifespan, max idle, the entry version where the operation is a conditional one, and the value.
-fn read_writes(s: &[u8], c: Cursor, conditional: bool) -> ArgsRead
-    ensures { λ r. ⌜ asArgs r ≡ mapped (argsAt (c .at)) (readAt (argsOf (writesBy conditional)) (now (s .entry)) (c .at)) ⌝ }
-{
-    let r1 = field::read_limited(s, c, Request::KEY);
-    let SpanRead::Whole(key, c1) = r1 else {
-        return stop_args(r1.length());
-    };
-    let r2 = field::read_number(s, c1, Kind::VInt);
-    let NumberRead::Whole(lifespan, c2) = r2 else {
-        return stop_args(r2);
-    };
-    let r3 = field::read_number(s, c2, Kind::VInt);
-    let NumberRead::Whole(idle, c3) = r3 else {
-        return stop_args(r3);
-    };
-    if !conditional {
-        return read_value(s, c3, key, lifespan, idle, EntryVersion(0));
-    }
-    let r4 = field::read_version(s, c3);
-    let VersionRead::Whole(entry, c4) = r4 else {
-        return ArgsRead::More;
-    };
-    read_value(s, c4, key, lifespan, idle, entry)
-}
-
-// The arguments, by the operation's shape.
-fn read_args(s: &[u8], c: Cursor, op: Operation) -> ArgsRead
-    ensures { λ r. ⌜ asArgs r ≡ mapped (argsAt (c .at)) (readAt (argsOf (shapeOf op)) (now (s .entry)) (c .at)) ⌝ }
-{
-    let shape = rules::shape_of(op);
-    match shape {
-        Shape::Keyed => read_keyed(s, c, false),
-        Shape::Writes => read_writes(s, c, false),
-        Shape::WritesIf => read_writes(s, c, true),
-        Shape::KeyedIf => read_keyed(s, c, true),
-        Shape::Bare => ArgsRead::Whole(keyed(Span { start: 0, len: 0 }, EntryVersion(0)), c),
-    }
 }
 
 // The request of its three parts.

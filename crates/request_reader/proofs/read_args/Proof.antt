@@ -1,58 +1,109 @@
--- `request_reader::read_args` meets its contract: the shape decides. Assumes nothing.
+-- `request_reader::read_args` meets its contract: after each argument, the next one decides. Assumes nothing.
 use mathlib.Core.Path.{sym, _∙_}
 use native.Mathlib.Omega.{arith}
 use Rattle.wire.specs.Codec.{Bytes}
-use Rattle.request_reader.proofs.Read.{at-bare}
+use Rattle.field.proofs.Parts.{number-stops, span-stops, length-stops}
+use Rattle.request_reader.proofs.Read.{at-args}
 use borrow.Author.Needs.{needs}
 use Rattle.request_reader.proofs.read_args.Statement.{statement}
 use Rattle.request_reader.proofs.read_args.Tie as tie
 
-returns : tie.Need-returns
-returns c =
-    let e = c .before in
-    c .read-keyed .ensures ∙ rw (← (e .before .before .shape-of .ensures), e .enum-told .given .1)
-
-returns-2 : tie.Need-returns-2
-returns-2 c =
-    let e = c .before in
-    c .read-writes .ensures ∙ rw (← (e .before .before .shape-of .ensures), e .enum-told2 .given .1)
-
-returns-3 : tie.Need-returns-3
-returns-3 c =
-    let e = c .before in
-    c .read-writes2 .ensures ∙ rw (← (e .before .before .shape-of .ensures), e .enum-told3 .given .1)
-
-returns-4 : tie.Need-returns-4
-returns-4 c =
-    let e = c .before in
-    c .read-keyed2 .ensures ∙ rw (← (e .before .before .shape-of .ensures), e .enum-told4 .given .1)
-
 bytes : (c : tie.After-shared-slice-known) → Bytes (c .before .args .s .now)
 bytes c i = omega (arith, c .shared-slice-known .given i)
 
+returns : tie.Need-returns
+returns c =
+    let k = c .before .before .before in
+    let s = k .before in
+    let r = k .read-part in
+    c .stop-args .ensures ∙ length-stops (r .result) (c .before .length .result) (c .before .length .ensures)
+    ∙ sym (at-args _ (bytes (s .before)) _ _ ∙ rw (← (s .sent-by .ensures), ← (r .ensures)) (span-stops (r .result) (c .before .before .match .keys2) _))
+
+returns-2 : tie.Need-returns-2
+returns-2 c =
+    let l = c .before .before in
+    let r1 = l .before .before in
+    let k = r1 .before .before in
+    let s = k .before in
+    c .stop-args2 .ensures ∙ sym (at-args _ (bytes (s .before)) _ _ ∙ rw (← (s .sent-by .ensures), ← (k .read-part .ensures), r1 .r1 .given .1, ← (l .read-time .ensures)) (number-stops (l .read-time .result) (c .before .match2 .keys2) _))
+
+returns-3 : tie.Need-returns-3
+returns-3 c =
+    let m = c .before .before in
+    let r2 = m .before .before in
+    let l = r2 .before .before in
+    let r1 = l .before .before in
+    let k = r1 .before .before in
+    let s = k .before in
+    c .stop-args3 .ensures ∙ sym (at-args _ (bytes (s .before)) _ _ ∙ rw (← (s .sent-by .ensures), ← (k .read-part .ensures), r1 .r1 .given .1, ← (l .read-time .ensures), r2 .r2 .given .1, ← (m .read-time2 .ensures)) (number-stops (m .read-time2 .result) (c .before .match3 .keys2) _))
+
+returns-4 : tie.Need-returns-4
+returns-4 c =
+    let e = c .before .before in
+    let r3 = e .before .before in
+    let m = r3 .before .before in
+    let r2 = m .before .before in
+    let l = r2 .before .before in
+    let r1 = l .before .before in
+    let k = r1 .before .before in
+    let s = k .before in
+    sym (at-args _ (bytes (s .before)) _ _ ∙ rw (← (s .sent-by .ensures), ← (k .read-part .ensures), r1 .r1 .given .1, ← (l .read-time .ensures), r2 .r2 .given .1, ← (m .read-time2 .ensures), r3 .r3 .given .1, ← (e .read-entry .ensures), c .enum-told .given .1))
+
 returns-5 : tie.Need-returns-5
 returns-5 c =
-    let e = c .before in
-    let s = e .before .before .before in
-    sym (rw (← (e .before .before .shape-of .ensures), e .enum-told5 .given .1, at-bare _ (bytes s), c .keyed .ensures))
+    let v = c .before .before .before in
+    let r4 = v .before .before in
+    let e = r4 .before .before in
+    let r3 = e .before .before in
+    let m = r3 .before .before in
+    let r2 = m .before .before in
+    let l = r2 .before .before in
+    let r1 = l .before .before in
+    let k = r1 .before .before in
+    let s = k .before in
+    c .stop-args4 .ensures ∙ length-stops (v .read-part2 .result) (c .before .length2 .result) (c .before .length2 .ensures)
+    ∙ sym (at-args _ (bytes (s .before)) _ _ ∙ rw (← (s .sent-by .ensures), ← (k .read-part .ensures), r1 .r1 .given .1, ← (l .read-time .ensures), r2 .r2 .given .1, ← (m .read-time2 .ensures), r3 .r3 .given .1, ← (e .read-entry .ensures), r4 .r4 .given .1, ← (v .read-part2 .ensures)) (span-stops (v .read-part2 .result) (c .before .before .match5 .keys2) _))
+
+returns-6 : tie.Need-returns-6
+returns-6 c =
+    let r5 = c .before in
+    let v = r5 .before .before in
+    let r4 = v .before .before in
+    let e = r4 .before .before in
+    let r3 = e .before .before in
+    let m = r3 .before .before in
+    let r2 = m .before .before in
+    let l = r2 .before .before in
+    let r1 = l .before .before in
+    let k = r1 .before .before in
+    let s = k .before in
+    sym (at-args _ (bytes (s .before)) _ _ ∙ rw (← (s .sent-by .ensures), ← (k .read-part .ensures), r1 .r1 .given .1, ← (l .read-time .ensures), r2 .r2 .given .1, ← (m .read-time2 .ensures), r3 .r3 .given .1, ← (e .read-entry .ensures), r4 .r4 .given .1, ← (v .read-part2 .ensures), r5 .r5 .given .1))
 
 pub read-args-spec : {M : Type 1} → statement M
 read-args-spec =
     tie.close
     (tie.spec
     (λ c κs. search needs)
-    (λ c. search needs)
     (λ c κs. search needs)
     (λ c. search needs)
     (λ c κs. search needs)
-    (λ c. search needs)
-    (λ c κs. search needs)
-    (λ c. search needs)
-    (λ c κs. search needs)
-    (λ c. search needs)
     (λ c κs. search needs)
     returns
+    (λ c κs. search needs)
+    (λ c. search needs)
+    (λ c κs. search needs)
     returns-2
+    (λ c κs. search needs)
+    (λ c. search needs)
+    (λ c κs. search needs)
     returns-3
+    (λ c κs. search needs)
+    (λ c. search needs)
+    (λ c. search needs)
     returns-4
-    returns-5)
+    (λ c κs. search needs)
+    (λ c. search needs)
+    (λ c κs. search needs)
+    (λ c κs. search needs)
+    returns-5
+    returns-6)

@@ -1,4 +1,5 @@
 """Part 3: clients that behave badly: one that never reads, a slow one, too many, idle ones, and connections one after another."""
+import resource
 import socket
 import struct
 import time
@@ -24,6 +25,13 @@ def stuff(caller, data, case):
     return sent
 
 
+def demand_rest(host, case):
+    """The server waits, and does not turn in vain."""
+    before = host.busy()
+    time.sleep(0.5)
+    demand(host.busy() - before < 0.1, case, f'it is busy for {host.busy() - before} of 0.5 seconds')
+
+
 def never_reads(bench):
     """It stops being read from, the server does not grow, others are served at once; when it reads, all its replies are there."""
     with Host(bench.table('never')) as host, host.connect() as good, host.connect() as bad:
@@ -34,6 +42,7 @@ def never_reads(bench):
         sent = stuff(bad, one * 1000, 'never reads')
         grown = host.memory() - before
         demand(grown < 1000, 'never reads', f'the server grew by {grown} kB')
+        demand_rest(host, 'never reads')
         begin = time.monotonic()
         for _ in range(100):
             demand(good.call(GET, key=b'k').value == VALUE, 'beside one that never reads', 'another value')
@@ -47,11 +56,11 @@ def never_reads(bench):
         bad.end()
         came = wanted[:50] + bad.rest('a slow client')
         demand(came == wanted * count, 'a slow client', f'{len(came)} bytes came to {count} requests, {short(came[-300:])} at the end')
-        until(lambda: host.files() == files_of(host, 1), 'a client that left', f'{host.files()} files are open')
+        until(lambda: host.files() == files_of(1), 'a client that left', f'{host.files()} files are open')
     return count
 
 
-def files_of(host, connections):
+def files_of(connections):
     """Files that a server has with so many connections: three, and folder, two polls, signals and listener."""
     return 8 + connections
 
@@ -63,7 +72,7 @@ def gone(bench):
             caller = host.connect()
             caller.send(frame(PUT, value=VALUE) + frame(GET) * (at % 50) + frame(PUT)[:at % 12])
             reset(caller)
-        until(lambda: host.files() == files_of(host, 0), 'clients that are gone', f'{host.files()} files are open')
+        until(lambda: host.files() == files_of(0), 'clients that are gone', f'{host.files()} files are open')
         with host.connect() as caller:
             demand(caller.call(PING).status == 0, 'clients that are gone', 'no ping is answered')
     return 200
@@ -90,16 +99,36 @@ def too_many(bench):
                 demand((reply.operation, reply.status, reply.message, reply.text) == (0x50, 0x85, 0, b'too many connections'), 'too many', vars(reply))
                 demand(more.rest('too many') == b'', 'too many', 'more came')
         crowd = [host.connect() for _ in range(100)]  # most of them are closed at once
-        demand(host.files() <= files_of(host, 4 + 16), 'a crowd', f'{host.files()} files are open')
+        demand(host.files() <= files_of(4 + 16), 'a crowd', f'{host.files()} files are open')
         for caller in callers:
             demand(caller.call(PING).status == 0, 'too many', 'those within the limit are not served')
         for caller in crowd + callers:
             caller.socket.close()
-        until(lambda: host.files() == files_of(host, 0), 'a crowd', f'{host.files()} files are open')
+        until(lambda: host.files() == files_of(0), 'a crowd', f'{host.files()} files are open')
         with host.connect() as caller:
             demand(caller.call(PING).operation == PING + 1, 'too many', 'a free place is not given again')
         demand(host.words().count('4 connections are open, which is the limit') == 1, 'too many', f'it says {host.words()}')
     return 103
+
+
+def no_files(bench):
+    """The system gives no more files: callers wait without being lost, and get the places that become free."""
+    limit = (files_of(6), files_of(6))
+    with Host(bench.table('files'), preexec_fn=lambda: resource.setrlimit(resource.RLIMIT_NOFILE, limit)) as host:
+        callers = [host.connect() for _ in range(10)]
+        for caller in callers:
+            caller.send(frame(PING))
+        for caller in callers[:6]:
+            caller.reply(PING)
+        demand_rest(host, 'no files left')
+        callers[9].silent('no files left')
+        for caller in callers[:6]:
+            caller.socket.close()
+        for caller in callers[6:]:
+            caller.reply(PING)
+            caller.socket.close()
+        demand(host.words().count('Too many open files') == 1, 'no files left', f'it says {host.words()}')
+    return 4
 
 
 def idle(bench):
@@ -132,7 +161,7 @@ def in_a_row(bench):
                 reset(caller)  # leaves no waiting state in the system
             else:
                 caller.socket.close()
-        until(lambda: host.files() == files_of(host, 0), 'in a row', f'{host.files()} files are open')
+        until(lambda: host.files() == files_of(0), 'in a row', f'{host.files()} files are open')
         demand(host.memory() - before < 1000, 'in a row', f'the server grew by {host.memory() - before} kB')
     return ROW
 
@@ -140,7 +169,7 @@ def in_a_row(bench):
 def part():
     with Bench() as bench:
         return (f'{never_reads(bench)} requests of a client that does not read, {gone(bench)} gone in the middle, {too_many(bench)} too many, '
-                f'{idle(bench)} idle, {in_a_row(bench)} in a row')
+                f'{no_files(bench)} without a file, {idle(bench)} idle, {in_a_row(bench)} in a row')
 
 
 if __name__ == '__main__':

@@ -116,6 +116,11 @@ class Host:
         """Kilobytes of memory that it has."""
         return int(re.search(r'^VmRSS:\s+(\d+)', read_file(f'/proc/{self.run.pid}/status').decode(), re.M)[1])
 
+    def busy(self):
+        """Seconds of processor time that it has used."""
+        words = read_file(f'/proc/{self.run.pid}/stat').rsplit(b')', 1)[1].split()
+        return (int(words[11]) + int(words[12])) / os.sysconf('SC_CLK_TCK')
+
     def files(self):
         """How many files it has open."""
         return len(os.listdir(f'/proc/{self.run.pid}/fd'))
@@ -285,6 +290,6 @@ def run_part(name, part):
     """Runs a part and prints its line; ends the program at the first difference."""
     try:
         print(f'host: {name}: {part()}', flush=True)
-    except (Difference, ConnectionError, TimeoutError) as found:
+    except (Difference, ConnectionError, TimeoutError, subprocess.TimeoutExpired) as found:
         print(f'host: {name}: DIFFERENT\n  {type(found).__name__}: {found}\n  HOST={HOST}', flush=True)
         sys.exit(1)

@@ -1,5 +1,7 @@
 """Part 1: streams. Every cut of a stream, many requests in one write, refusals that end a stream and refusals that do not, noise, an end in the middle."""
 import random
+import selectors
+import socket
 import time
 
 from board_frames import (CLEAR, CONTAINS_KEY, GET, GET_WITH_VERSION, OPERATIONS, PING, PUT, PUT_IF_ABSENT, REMOVE, REMOVE_IF_UNMODIFIED, REPLACE,
@@ -71,8 +73,7 @@ def pipelined(bench):
 
 
 def feed(callers, data, wanted):
-    """Writes all to each connection and reads as it comes."""
-    import selectors
+    """Writes all to each connection and ends it, and reads as it comes."""
     waiting = selectors.DefaultSelector()
     state = {}
     for caller in callers:
@@ -87,6 +88,7 @@ def feed(callers, data, wanted):
             if events & selectors.EVENT_WRITE:
                 place[0] += key.fileobj.send(data[place[0]:place[0] + 100_000])
                 if place[0] == len(data):
+                    key.fileobj.shutdown(socket.SHUT_WR)
                     waiting.modify(key.fileobj, selectors.EVENT_READ)
             if events & selectors.EVENT_READ:
                 came = key.fileobj.recv(65536)
@@ -114,10 +116,12 @@ def refusals(bench):
                     with host.connect() as one, host.connect() as other:
                         other.send(good)  # so that two are served together
                         one.send(good * before + bad)
-                        try:
-                            one.send(behind)
-                        except ConnectionError as error:
-                            raise Difference(f'{case}: {error}') from error
+                        for piece in (behind[:len(behind) // 2], behind[len(behind) // 2:], behind and b'end'):
+                            try:
+                                one.send(piece)
+                            except ConnectionError as error:
+                                raise Difference(f'{case}: {error}') from error
+                            time.sleep(0.005)
                         demand(one.rest(case) == b''.join(wanted), case, f'the replies are not {wanted}')
                         other.reply(PUT)
         with host.connect() as caller:

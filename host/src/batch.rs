@@ -124,9 +124,12 @@ impl Batch {
                 gathered.push((connection, count, rest));
             }
         }
-        let served = table.serve_stream(&self.requests, second, &mut self.replies);
-        self.used = served.replied;
-        self.share_out(&gathered, served.calls);
+        let mut calls = 0;
+        if !self.waiting.is_empty() {
+            let served = table.serve_stream(&self.requests, second, &mut self.replies);
+            (self.used, calls) = (served.replied, served.calls);
+        }
+        self.share_out(&gathered, calls);
         for (connection, input) in refused {
             self.serve_alone(connection, input, table, second);
         }

@@ -6,7 +6,7 @@ use std::os::unix::ffi::OsStringExt;
 
 use crate::border::library::write_request;
 use crate::failure::Failure;
-use crate::limits::LONGEST_REQUEST;
+use crate::limits::{KEY_LIMIT, LONGEST_REQUEST, VALUE_LIMIT};
 use crate::options::Words;
 
 pub const PUT: u8 = 0x01;
@@ -170,7 +170,7 @@ impl Command {
         ];
         let size = write_request(&mut out, &numbers, &self.key, &self.value).map_err(|number| {
             format!(
-                "refused {number}: a key has at most 64 bytes, and a value at most 256; these have {} and {}",
+                "refused {number}: a key has at most {KEY_LIMIT} bytes, and a value at most {VALUE_LIMIT}; these have {} and {}",
                 self.key.len(),
                 self.value.len()
             )

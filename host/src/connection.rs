@@ -121,9 +121,10 @@ impl Connection {
         self.pending && self.leaving.is_none() && self.output.is_empty()
     }
 
-    /// Whether nothing is left to be done.
+    /// Whether nothing is left to be done. The client's end is read when all
+    /// before it was served.
     pub fn is_over(&self) -> bool {
-        self.ended && !self.pending && self.output.is_empty()
+        self.ended && self.output.is_empty()
     }
 
     /// Whether it has to go: nothing moved for so long, or it was left.

@@ -23,6 +23,8 @@ pub struct Keeper {
     stored: Option<Table>,
     /// How many files were made beside the table.
     made: u32,
+    /// Whether it was told that the group can't be kept.
+    told: bool,
 }
 
 impl Keeper {
@@ -36,6 +38,7 @@ impl Keeper {
             folder,
             stored: None,
             made: 0,
+            told: false,
         };
         keeper.clean();
         let table = match keeper.rights()? {
@@ -99,13 +102,17 @@ impl Keeper {
 
     /// Writes the whole file, and waits until it is on the disk.
     fn write(
-        &self,
+        &mut self,
         mut file: &File,
         rights: Option<&Metadata>,
         table: &Table,
     ) -> std::io::Result<()> {
         if let Some(rights) = rights {
-            give_rights(file, rights);
+            let given = give_rights(file, rights);
+            if given.is_err() && !self.told {
+                self.told = true;
+                say("the table's group can't be kept: the file belongs to you alone");
+            }
         }
         file.write_all(&table.store())?;
         file.sync_all()
@@ -219,13 +226,10 @@ fn lock(path: &Path) -> Result<File, Failure> {
 
 /// Gives the file the owner, the group and the rights of the one that it
 /// replaces. Where owner or group can't be given, it stays its owner's alone.
-fn give_rights(file: &File, rights: &Metadata) {
-    let owned = fchown(file, Some(rights.uid()), Some(rights.gid()))
-        .or_else(|_| fchown(file, None, Some(rights.gid())));
-    let mode = fs::Permissions::from_mode(rights.mode() & RIGHTS);
-    if owned.and_then(|()| file.set_permissions(mode)).is_err() {
-        say("the table's group can't be kept: it belongs to you alone");
-    }
+fn give_rights(file: &File, rights: &Metadata) -> std::io::Result<()> {
+    fchown(file, Some(rights.uid()), Some(rights.gid()))
+        .or_else(|_| fchown(file, None, Some(rights.gid())))?;
+    file.set_permissions(fs::Permissions::from_mode(rights.mode() & RIGHTS))
 }
 
 /// Says which line of a file is not good: the first one with which its

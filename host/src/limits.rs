@@ -3,6 +3,10 @@
 
 /// Bytes of a table.
 pub const TABLE_SIZE: usize = 45072;
+/// Bytes of a key at most.
+pub const KEY_LIMIT: usize = 64;
+/// Bytes of a value at most.
+pub const VALUE_LIMIT: usize = 256;
 /// Bytes of a request at most.
 pub const LONGEST_REQUEST: usize = 394;
 /// Bytes of a reply at most.
@@ -47,6 +51,8 @@ mod tests {
     fn numbers_are_those_of_the_header() {
         let numbers = [
             ("FQ_TABLE_SIZE", TABLE_SIZE as u64),
+            ("FQ_KEY_LIMIT", KEY_LIMIT as u64),
+            ("FQ_VALUE_LIMIT", VALUE_LIMIT as u64),
             ("FQ_LONGEST_REQUEST", LONGEST_REQUEST as u64),
             ("FQ_LONGEST_REPLY", LONGEST_REPLY as u64),
             ("FQ_REPLY_ROOM", REPLY_ROOM as u64),

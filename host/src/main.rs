@@ -1,5 +1,7 @@
 //! The program: `serve` is the server, the other commands are for people.
 
+#![forbid(unsafe_code)]
+
 use std::ffi::OsString;
 use std::io::{self, Write};
 use std::path::Path;

@@ -70,8 +70,8 @@ pub struct Server {
     next_tick: Instant,
     /// Whether the listener waits for the next tick.
     deaf: bool,
-    /// When the limit of connections may be told again.
-    tell_full: Instant,
+    /// When a limit that is met may be told again.
+    tell_at: Instant,
 }
 
 /// The system's UNIX time, as far as the library's seconds go.
@@ -110,7 +110,7 @@ impl Server {
             failing: false,
             next_tick: now,
             deaf: false,
-            tell_full: now,
+            tell_at: now,
         })
     }
 
@@ -292,7 +292,7 @@ impl Server {
                 Err(error) if error.kind() == io::ErrorKind::ConnectionAborted => {}
                 Err(error) if is_later(&error) => return,
                 Err(error) => {
-                    say(because("can't take a connection", error));
+                    self.tell_limit(now, &plain(&error));
                     self.listen(false);
                     return;
                 }
@@ -311,7 +311,7 @@ impl Server {
     fn take_in(&mut self, stream: TcpStream, now: Instant) {
         let full = self.count() >= self.settings.connections;
         if full {
-            self.say_full(now);
+            self.tell_limit(now, "--connections");
         }
         if self.count() >= self.settings.connections + TOLD {
             return;
@@ -335,12 +335,13 @@ impl Server {
         self.settle(index);
     }
 
-    fn say_full(&mut self, now: Instant) {
-        if now >= self.tell_full {
-            self.tell_full = now + TELL_EVERY;
+    /// Tells that a limit is met, at most once a minute.
+    fn tell_limit(&mut self, now: Instant, limit: &str) {
+        if now >= self.tell_at {
+            self.tell_at = now + TELL_EVERY;
             say(format!(
-                "{} connections are open, which is the limit (--connections); others are turned away",
-                self.settings.connections
+                "{} connections are open, which is the limit ({limit}); others wait or are turned away",
+                self.count()
             ));
         }
     }

@@ -8,6 +8,8 @@
 //! is nine gets to a put. It prints requests a second, and the median and the
 //! 99th percentile of the time from the write to a reply in microseconds.
 
+#![forbid(unsafe_code)]
+
 use std::io::{self, Read, Write};
 use std::net::TcpStream;
 use std::process::ExitCode;

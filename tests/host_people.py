@@ -111,6 +111,17 @@ def lines(bench):
     return len(ENCODED) + 4
 
 
+def documents():
+    """README's commands are among those tried above, with the words that README shows."""
+    readme = read_file(os.path.join(TOP, 'README.md')).decode()
+    shown = {'put b1 Ida --lifespan 100': 'stored', 'getwithversion b1': 'version 1: Ida'}
+    for words, said in shown.items():
+        demand((words, said, 0) in TALK and f'./feyqoolad {words}\n' in readme and f'`{said}`' in readme, 'README', f'it does not show {words}')
+    for word in ('./feyqoolad serve table.txt', '127.0.0.1:11222', 'tested and not proved', *{f'`{one.split()[0]}`' for one, _, _ in TALK}):
+        demand(word in readme, 'README', f'it does not tell {word}')
+    return len(shown)
+
+
 def outputs():
     """Standard output that takes nothing is an error and no silence; help tells the commands and the statuses."""
     for words in (['--version'], ['encode', 'ping']):
@@ -126,7 +137,7 @@ def outputs():
 
 def part():
     with Bench() as bench:
-        return f'{talk(bench)} commands, {strange_servers()} strange servers, {lines(bench)} lines, {outputs()} outputs'
+        return f'{talk(bench)} commands, {strange_servers()} strange servers, {lines(bench)} lines, {outputs()} outputs, {documents()} commands of README'
 
 
 if __name__ == '__main__':

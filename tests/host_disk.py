@@ -9,7 +9,7 @@ import subprocess
 import time
 
 from board_frames import GET, PUT, entry_line, frame, head_line
-from host_run import Bench, Difference, Host, demand, read_file, run_part, short, until, write_file
+from host_run import Bench, Host, demand, read_file, run_part, short, until, write_file
 
 OLD = head_line(4) + entry_line(4, b'k', b'old')
 NEW = head_line(5) + entry_line(5, b'k', b'new')
@@ -22,10 +22,6 @@ def limit_size(most):
         signal.signal(signal.SIGXFSZ, signal.SIG_IGN)
         resource.setrlimit(resource.RLIMIT_FSIZE, (most, NONE))
     return limit
-
-
-def full(host):
-    resource.prlimit(host.run.pid, resource.RLIMIT_FSIZE, (10, NONE))
 
 
 def lift(host):
@@ -52,8 +48,8 @@ def second(bench):
     with Limited(bench.table('second', OLD)) as host, host.connect() as caller:
         demand(caller.call(PUT, key=b'k', value=b'new').status == 0, 'a full disk', 'the put is not served')
         until(lambda: "can't store the table" in host.words(), 'a full disk', 'nothing is said')
-        time.sleep(1.2)  # it is tried again meanwhile
         demand(caller.call(GET, key=b'k').value == b'new', 'a full disk', 'the put was not done')
+        time.sleep(1.2)  # it is tried again meanwhile
         tidy(host, 'a full disk')
         lift(host)
         until(lambda: read_file(host.table) == NEW, 'room again', 'the table is not stored', 3)
@@ -62,13 +58,13 @@ def second(bench):
 
 
 def always(bench):
-    """With --sync always: no reply, to anybody, until there is room; then all of them."""
-    with Limited(bench.table('always', OLD), '--sync', 'always') as host, host.connect() as one, host.connect() as other:
+    """With --sync always: no reply, to anybody, until there is room; then all of them, and nobody was idle meanwhile."""
+    with Limited(bench.table('always', OLD), '--sync', 'always', '--idle', '1') as host, host.connect() as one, host.connect() as other:
         demand(other.call(GET, key=b'k').value == b'old', 'a full disk', 'a get is not served, though nothing is to be stored')
         one.send(frame(PUT, key=b'k', value=b'new'))
         until(lambda: "can't store the table" in host.words(), 'a full disk', 'nothing is said')
         other.send(frame(GET, key=b'k'))
-        one.silent('a put on a full disk', 1.3)
+        one.silent('a put on a full disk', 2.3)
         other.silent('a get behind a put on a full disk')
         tidy(host, 'a full disk')
         lift(host)

@@ -6,7 +6,7 @@ import subprocess
 import threading
 
 from board_frames import CLEAR, CONTAINS_KEY, GET, GET_WITH_VERSION, PING, PUT, PUT_IF_ABSENT, REMOVE, REMOVE_IF_UNMODIFIED, REPLACE, REPLACE_IF_UNMODIFIED, frame
-from host_run import BOARD, Bench, HOST, Host, SECONDS, TOP, demand, read_file, run_part, short, write_file
+from host_run import BOARD, Bench, HOST, Host, SECONDS, TOP, demand, read_file, run_part, write_file
 
 CONTROL, BYTES = b'a\nb', b'\xff\x00'.replace(b'\x00', b'\x80')
 # Words, what is printed, and the status.

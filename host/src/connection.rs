@@ -52,6 +52,12 @@ impl Connection {
         }
     }
 
+    /// Lets reads and writes not wait, and replies go out at once.
+    pub fn make_ready(&self) -> io::Result<()> {
+        self.stream.set_nonblocking(true)?;
+        self.stream.set_nodelay(true)
+    }
+
     /// Reads what has come, as far as there is room. What was read before is
     /// served first, so that a client that sends much waits for its turn.
     pub fn receive(&mut self, now: Instant) -> io::Result<()> {

@@ -14,7 +14,8 @@ use feyqoolad::failure::{because, say, Failure};
 use feyqoolad::keeper::Keeper;
 use feyqoolad::lines::{decode, encode};
 use feyqoolad::options::Words;
-use feyqoolad::server::{listen, Server, Settings, Sync};
+use feyqoolad::saver::{Saver, Sync};
+use feyqoolad::server::{listen, Limits, Server};
 use feyqoolad::words::Went;
 
 const USAGE: &str = include_str!("usage.txt");
@@ -89,14 +90,15 @@ fn serve(given: &[OsString]) -> Result<ExitCode, Failure> {
     let [table] = words.words() else {
         return Err("serve is followed by TABLE and options".to_string());
     };
-    let settings = settings(&words)?;
+    let sync = sync(&words)?;
+    let limits = limits(&words)?;
     let address = words.text("listen")?.unwrap_or(ADDRESS);
     let (keeper, loaded) = Keeper::open(Path::new(table))?;
     let listener = listen(address)?;
     let at = listener
         .local_addr()
         .map_err(|error| because("can't listen", error))?;
-    let server = Server::new(listener, keeper, loaded, settings)
+    let server = Server::new(listener, loaded, Saver::new(keeper, sync), limits)
         .map_err(|error| because("can't serve", error))?;
     say(format!("serves {} on {at}", table.to_string_lossy()));
     server.run()?;
@@ -104,16 +106,18 @@ fn serve(given: &[OsString]) -> Result<ExitCode, Failure> {
     Ok(ExitCode::SUCCESS)
 }
 
-fn settings(words: &Words) -> Result<Settings, Failure> {
-    let sync = match words.text("sync")? {
-        None | Some("second") => Sync::Second,
-        Some("always") => Sync::Always,
-        Some(_) => return Err("--sync is second or always".to_string()),
-    };
+fn sync(words: &Words) -> Result<Sync, Failure> {
+    match words.text("sync")? {
+        None | Some("second") => Ok(Sync::Second),
+        Some("always") => Ok(Sync::Always),
+        Some(_) => Err("--sync is second or always".to_string()),
+    }
+}
+
+fn limits(words: &Words) -> Result<Limits, Failure> {
     let idle = words.number("idle", u64::from(u32::MAX))?.unwrap_or(600);
     let connections = words.number("connections", 100_000)?.unwrap_or(1000);
-    Ok(Settings {
-        sync,
+    Ok(Limits {
         connections: connections as usize,
         idle: (idle > 0).then_some(Duration::from_secs(idle)),
     })

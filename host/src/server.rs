@@ -1,5 +1,5 @@
 //! The event loop: one thread that waits for all connections, serves what came
-//! in one call of the library, keeps the table's file, and sends the replies.
+//! in one call of the library, has the table stored, and sends the replies.
 
 use std::io;
 use std::net::{TcpListener, TcpStream};
@@ -11,8 +11,9 @@ use crate::border::system::{Event, Poll, Signals, READABLE};
 use crate::command::PING;
 use crate::connection::{is_later, Connection};
 use crate::failure::{because, plain, say, Failure};
-use crate::keeper::Keeper;
 use crate::limits::REPLY_ROOM;
+use crate::places::Places;
+use crate::saver::Saver;
 
 /// The numbers under which the poll knows the listener and the signals; those
 /// of the connections follow.
@@ -26,47 +27,28 @@ const EVENTS: usize = 256;
 const ACCEPTS: usize = 64;
 /// Connections above the limit that are told so; further ones are closed.
 const TOLD: usize = 16;
-/// After a change the table is stored within a second: the wait, and the
-/// storing.
-const STORE_AFTER: Duration = Duration::from_millis(500);
-/// How often a store is tried again, and late connections are looked for.
+/// How often connections that are late are looked for.
 const TICK: Duration = Duration::from_secs(1);
 /// How often a limit that is met is told.
 const TELL_EVERY: Duration = Duration::from_secs(60);
 
-/// When a change is stored.
-#[derive(Clone, Copy, Debug, PartialEq, Eq)]
-pub enum Sync {
-    /// Within a second.
-    Second,
-    /// Before the replies of the turn go out.
-    Always,
-}
-
-pub struct Settings {
-    pub sync: Sync,
+pub struct Limits {
     pub connections: usize,
     /// How long a connection may be idle; none is for ever.
     pub idle: Option<Duration>,
 }
 
 pub struct Server {
-    settings: Settings,
+    limits: Limits,
     poll: Poll,
     signals: Signals,
     listener: TcpListener,
-    connections: Vec<Option<Connection>>,
-    /// The places of closed ones.
-    free: Vec<usize>,
-    /// Those that are to be served next.
+    places: Places,
+    /// The connections that are to be served next.
     queue: Vec<usize>,
     batch: Batch,
     table: Table,
-    keeper: Keeper,
-    /// When the table is to be compared with its file.
-    look_at: Option<Instant>,
-    /// Whether the last store failed.
-    failing: bool,
+    saver: Saver,
     next_tick: Instant,
     /// Whether the listener waits for the next tick.
     deaf: bool,
@@ -85,9 +67,9 @@ pub fn second() -> u32 {
 impl Server {
     pub fn new(
         listener: TcpListener,
-        keeper: Keeper,
         table: Table,
-        settings: Settings,
+        saver: Saver,
+        limits: Limits,
     ) -> io::Result<Server> {
         let poll = Poll::new()?;
         let signals = Signals::new()?;
@@ -96,18 +78,15 @@ impl Server {
         poll.add(&signals, SIGNALS, READABLE)?;
         let now = Instant::now();
         Ok(Server {
-            settings,
+            limits,
             poll,
             signals,
             listener,
-            connections: Vec::new(),
-            free: Vec::new(),
+            places: Places::default(),
             queue: Vec::new(),
             batch: Batch::default(),
             table,
-            keeper,
-            look_at: None,
-            failing: false,
+            saver,
             next_tick: now,
             deaf: false,
             tell_at: now,
@@ -124,7 +103,7 @@ impl Server {
                 .wait(&mut events, wait)
                 .map_err(|error| because("can't wait for connections", error))?;
             if !self.turn(&events[..count]) {
-                return self.finish();
+                return self.saver.finish(&self.table, &mut self.signals);
             }
         }
     }
@@ -134,8 +113,8 @@ impl Server {
         if !self.queue.is_empty() {
             return Some(Duration::ZERO);
         }
-        let tick = (self.count() > 0 || self.deaf).then_some(self.next_tick);
-        let due = [tick, self.look_at].into_iter().flatten().min()?;
+        let tick = (self.places.count() > 0 || self.deaf).then_some(self.next_tick);
+        let due = [tick, self.saver.due()].into_iter().flatten().min()?;
         Some(due.saturating_duration_since(now))
     }
 
@@ -151,6 +130,7 @@ impl Server {
                 token => self.move_bytes(token - FIRST, event, now),
             }
         }
+        // Places that became free are given again only when all events were seen.
         if callers {
             self.accept(now);
         }
@@ -158,15 +138,13 @@ impl Server {
         if now >= self.next_tick {
             self.tick(now);
         }
-        if self.look_at.is_some_and(|due| now >= due) {
-            self.store_later(now);
-        }
+        self.saver.look(&self.table, now);
         !ended
     }
 
     /// Reads from a connection and writes to it, as it is ready.
     fn move_bytes(&mut self, index: usize, event: &Event, now: Instant) {
-        let Some(connection) = &mut self.connections[index] else {
+        let Some(connection) = self.places.get_mut(index) else {
             return;
         };
         let mut moved = Ok(());
@@ -178,19 +156,19 @@ impl Server {
         }
         match moved {
             Ok(()) => self.settle(index),
-            Err(_) => self.close(index),
+            Err(_) => self.places.close(index),
         }
     }
 
     /// Sees to what a connection needs next: to be served, to be waited for, or
     /// to be closed.
     fn settle(&mut self, index: usize) {
-        let Some(connection) = &mut self.connections[index] else {
+        let Some(connection) = self.places.get_mut(index) else {
             return;
         };
         connection.shut();
         if connection.is_over() {
-            self.close(index);
+            self.places.close(index);
             return;
         }
         if connection.can_be_served() && !connection.queued {
@@ -202,60 +180,46 @@ impl Server {
             connection.interest = wanted;
             let changed = self.poll.change(&connection.stream, index + FIRST, wanted);
             if changed.is_err() {
-                self.close(index);
+                self.places.close(index);
             }
         }
     }
 
-    fn close(&mut self, index: usize) {
-        if self.connections[index].take().is_some() {
-            self.free.push(index);
-        }
-    }
-
-    /// How many connections are open.
-    fn count(&self) -> usize {
-        self.connections.len() - self.free.len()
-    }
-
-    /// Serves the queue in one call, stores the table first where that is
-    /// asked for, and sends the replies. False where a signal came meanwhile.
+    /// Serves the queue in one call, and sends the replies when they may go
+    /// out. False where a signal came before.
     fn serve(&mut self, now: Instant) -> bool {
         if self.queue.is_empty() {
             return true;
         }
         self.serve_queue();
-        let mut goes_on = true;
-        match self.settings.sync {
-            Sync::Always => goes_on = self.store_first(),
-            Sync::Second => _ = self.look_at.get_or_insert(now + STORE_AFTER),
+        if !self.saver.served(&self.table, &mut self.signals, now) {
+            return false;
         }
-        if goes_on {
-            self.send_replies(now);
+        let sent = Instant::now();
+        if sent.duration_since(now) >= TICK {
+            // Storing was waited for, which is nobody's idleness.
+            self.places.begin_anew(sent);
         }
-        goes_on
+        self.send_replies(sent);
+        true
     }
 
     fn serve_queue(&mut self) {
         let second = second();
         self.batch.begin();
-        let connections = &mut self.connections;
         for index in &self.queue {
-            if let Some(connection) = &mut connections[*index] {
+            if let Some(connection) = self.places.get_mut(*index) {
                 connection.queued = false;
             }
         }
-        let mut inputs = self
-            .queue
-            .iter()
-            .filter_map(|index| Some((*index, connections[*index].as_ref()?.input.held())));
-        if let [_] = self.queue[..] {
-            if let Some((index, input)) = inputs.next() {
-                self.batch
-                    .serve_alone(index, input, &mut self.table, second);
-            }
-        } else {
+        let places = &self.places;
+        let input = |index: &usize| Some((*index, places.get(*index)?.input.held()));
+        let mut inputs = self.queue.iter().filter_map(input);
+        if self.queue.len() > 1 {
             self.batch.serve_together(inputs, &mut self.table, second);
+        } else if let Some((index, input)) = inputs.next() {
+            self.batch
+                .serve_alone(index, input, &mut self.table, second);
         }
         self.queue.clear();
     }
@@ -264,7 +228,7 @@ impl Server {
     fn send_replies(&mut self, now: Instant) {
         let shares = std::mem::take(&mut self.batch.shares);
         for share in &shares {
-            let Some(connection) = &mut self.connections[share.connection] else {
+            let Some(connection) = self.places.get_mut(share.connection) else {
                 continue;
             };
             connection.input.take(share.taken);
@@ -278,7 +242,7 @@ impl Server {
             }
             match sent {
                 Ok(()) => self.settle(share.connection),
-                Err(_) => self.close(share.connection),
+                Err(_) => self.places.close(share.connection),
             }
         }
         self.batch.shares = shares;
@@ -308,31 +272,28 @@ impl Server {
         }
     }
 
+    /// Takes one connection; above the limit it is told so, or closed.
     fn take_in(&mut self, stream: TcpStream, now: Instant) {
-        let full = self.count() >= self.settings.connections;
+        let full = self.places.count() >= self.limits.connections;
         if full {
             self.tell_limit(now, "--connections");
         }
-        if self.count() >= self.settings.connections + TOLD {
-            return;
-        }
-        let ready = stream
-            .set_nonblocking(true)
-            .and_then(|()| stream.set_nodelay(true));
-        let index = self.free.pop().unwrap_or_else(|| {
-            self.connections.push(None);
-            self.connections.len() - 1
-        });
-        if ready.is_err() || self.poll.add(&stream, index + FIRST, READABLE).is_err() {
-            self.free.push(index);
+        if self.places.count() >= self.limits.connections + TOLD {
             return;
         }
         let mut connection = Connection::new(stream, now);
+        let mut ready = connection.make_ready();
         if full {
             turn_away(&mut connection, now);
         }
-        self.connections[index] = Some(connection);
-        self.settle(index);
+        let index = self.places.add(connection);
+        if let Some(connection) = self.places.get(index) {
+            ready = ready.and(self.poll.add(&connection.stream, index + FIRST, READABLE));
+        }
+        match ready {
+            Ok(()) => self.settle(index),
+            Err(_) => self.places.close(index),
+        }
     }
 
     /// Tells that a limit is met, at most once a minute.
@@ -341,7 +302,7 @@ impl Server {
             self.tell_at = now + TELL_EVERY;
             say(format!(
                 "{} connections are open, which is the limit ({limit}); others wait or are turned away",
-                self.count()
+                self.places.count()
             ));
         }
     }
@@ -352,82 +313,12 @@ impl Server {
         if self.deaf {
             self.listen(true);
         }
-        let mut idle = 0;
-        for index in 0..self.connections.len() {
-            let Some(connection) = &self.connections[index] else {
-                continue;
-            };
-            if connection.is_late(now, self.settings.idle) {
-                idle += usize::from(!connection.is_leaving());
-                self.close(index);
-            }
-        }
+        let idle = self.places.close_late(now, self.limits.idle);
         if idle > 0 {
             say(format!(
                 "{idle} connections were closed, since nothing moved there for the time of --idle"
             ));
         }
-    }
-
-    /// Stores the table if the file has another one. Where that fails, it is
-    /// tried again a tick later.
-    fn store_later(&mut self, now: Instant) {
-        self.look_at = (!self.store()).then_some(now + TICK);
-    }
-
-    /// Stores the table before the replies of this turn go out. Where that
-    /// fails, nobody is served until it works. False where a signal came first.
-    fn store_first(&mut self) -> bool {
-        while !self.store() {
-            if self.signals.wait(TICK) {
-                return false;
-            }
-        }
-        true
-    }
-
-    /// Whether the file has the table, after storing it where it has not.
-    fn store(&mut self) -> bool {
-        if self.keeper.has(&self.table) {
-            return true;
-        }
-        let result = self.keeper.store(&self.table);
-        match &result {
-            Ok(()) if self.failing => say("the table is stored again"),
-            Err(failure) if !self.failing => self.say_failing(failure),
-            _ => {}
-        }
-        self.failing = result.is_err();
-        !self.failing
-    }
-
-    fn say_failing(&self, failure: &Failure) {
-        let meanwhile = match self.settings.sync {
-            Sync::Always => "Nobody is answered until it can be stored.",
-            Sync::Second => "Requests are served meanwhile, and their changes are in memory alone.",
-        };
-        say(format!(
-            "{failure}\nThe file is as it was. Storing is tried again each second. {meanwhile}"
-        ));
-    }
-
-    /// Stores the table at the end, and tries until that works or a further
-    /// signal comes.
-    fn finish(mut self) -> Result<(), Failure> {
-        while !self.store() {
-            if self.signals.wait(TICK) {
-                return Err(self.lost());
-            }
-        }
-        Ok(())
-    }
-
-    fn lost(&self) -> Failure {
-        let lost = match self.settings.sync {
-            Sync::Always => "Every write that was answered is in the file.",
-            Sync::Second => "The changes since the last store are lost.",
-        };
-        format!("ended before the table could be stored; the file is as it was.\n{lost}")
     }
 }
 

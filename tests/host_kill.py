@@ -1,7 +1,7 @@
 """Part 5: kills under load. Behind each kill the file is one whole table; with --sync always it has every write that was answered.
 
-Each connection puts its own keys, each with a count that ascends, and remembers the last count that was answered and the last one that was sent. The
-kills come at random moments, and at every system call between a request and its reply (tests/kill_at.c).
+Each connection puts its own keys, each with a count that ascends, and remembers the order of its puts and how many were answered. The file has to be what some
+beginning of each connection's puts leaves. The kills come at random moments, and at every system call between a request and its reply (tests/kill_at.c).
 """
 import os
 import random
@@ -10,7 +10,7 @@ import threading
 import time
 
 from board_frames import GET, PUT, entry_line, frame, head_line
-from host_run import Bench, Difference, Host, LONG, PROGRAM, SECONDS, demand, read_file, read_sized, reference, run_part, short
+from host_run import Bench, Difference, Host, LONG, PROGRAM, SECONDS, can_trace, demand, read_file, read_sized, reference, run_part, short
 
 CONNECTIONS, KEYS = 6, 4
 ROUNDS = 60 if LONG else 12
@@ -22,8 +22,9 @@ class Writer(threading.Thread):
     def __init__(self, host, number, start):
         super().__init__()
         self.caller, self.number = host.connect(), number
-        self.sent = dict(start)
-        self.answered = dict(start)
+        self.counts = dict(start)
+        self.sent = []
+        self.answered = 0
         self.fault = None
 
     def run(self):
@@ -32,12 +33,13 @@ class Writer(threading.Thread):
                 burst = []
                 for _ in range(random.randrange(1, 4)):
                     key = b'w%d/%d' % (self.number, random.randrange(KEYS))
-                    self.sent[key] = self.sent.get(key, 0) + 1
-                    burst.append((key, self.sent[key]))
+                    self.counts[key] = self.counts.get(key, 0) + 1
+                    burst.append((key, self.counts[key]))
+                self.sent += burst
                 self.caller.send(b''.join(frame(PUT, key=key, value=b'%d' % count) for key, count in burst))
-                for key, count in burst:
+                for _ in burst:
                     demand(self.caller.reply(PUT).status == 0, 'a put', 'it is not stored')
-                    self.answered[key] = count
+                    self.answered += 1
         except (ConnectionError, Difference):
             pass  # the server is gone
         except Exception as fault:  # shown by the caller
@@ -66,7 +68,7 @@ def random_kills(bench, sync):
     for at in range(ROUNDS):
         case = f'--sync {sync}, kill {at}'
         with Host(table, '--sync', sync) as host:
-            own = [{key: int(value) for key, value in held.items() if key.startswith(b'w%d/' % number)} for number in range(CONNECTIONS)]
+            own = [of_writer(number, held) for number in range(CONNECTIONS)]
             writers = [Writer(host, number, own[number]) for number in range(CONNECTIONS)]
             for writer in writers:
                 writer.start()
@@ -77,21 +79,31 @@ def random_kills(bench, sync):
                 writer.join(SECONDS)
                 demand(writer.fault is None and not writer.is_alive(), case, f'{writer.fault}')
         held = entries(read_file(table), case)
-        answered += check(writers, own, held, sync, case)
+        for writer, start in zip(writers, own):
+            least = writer.answered if sync == 'always' else 0
+            place = place_of(writer, start, of_writer(writer.number, held))
+            demand(place is not None, case, f'connection {writer.number}: no beginning of its puts leaves {of_writer(writer.number, held)}')
+            demand(place >= least, case, f'connection {writer.number}: {place} of its puts are stored, and {least} were answered')
+            answered += writer.answered
     demand(answered > 100, f'--sync {sync}', f'only {answered} writes were answered')
     return answered
 
 
-def check(writers, own, held, sync, case):
-    """Each key has a count between the last one answered, or with --sync second the one at the start, and the last one sent."""
-    answered = 0
-    for writer, start in zip(writers, own):
-        for key, last in writer.sent.items():
-            least = (writer.answered if sync == 'always' else start).get(key, 0)
-            now = int(held.get(key, b'0'))
-            demand(least <= now <= last, case, f'{key}: {now} is stored, {least} is the least and {last} was sent last')
-        answered += sum(writer.answered.values()) - sum(start.values())
-    return answered
+def of_writer(number, held):
+    """The counts of a connection's keys."""
+    return {key: int(value) for key, value in held.items() if key.startswith(b'w%d/' % number)}
+
+
+def place_of(writer, start, held):
+    """How many of its puts leave these counts, or nothing."""
+    state = dict(start)
+    if state == held:
+        return 0
+    for at, (key, count) in enumerate(writer.sent):
+        state[key] = count
+        if state == held:
+            return at + 1
+    return None
 
 
 OLD = head_line(4) + entry_line(4, b'k', b'old')
@@ -99,8 +111,10 @@ NEW = head_line(5) + entry_line(5, b'k', b'new')
 
 
 def every_call(bench):
-    """With --sync always, killed at each stop from the request on, until one run answers it and ends before: the file is the old or the new table, and the
-    new one where the reply came."""
+    """With --sync always, killed at each stop from the request on, until it is answered before: the file is the old or the new table, and the new one where
+    the reply came. Nothing is tried where tracing is refused."""
+    if not can_trace():
+        return 0
     seen = {OLD: 0, NEW: 0}
     environment = {key: value for key, value in os.environ.items() if key != 'PROGRAM'}
     stop, answered = first_stop(bench, environment), 0

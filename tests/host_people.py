@@ -1,6 +1,7 @@
 """Part 7: the commands for people, encode and decode, and what README shows."""
 import os
 import re
+import shutil
 import socket
 import subprocess
 import threading
@@ -111,6 +112,39 @@ def lines(bench):
     return len(ENCODED) + 4
 
 
+TOOLS = ('bash', 'cat', 'find', 'flock', 'mkdir', 'readlink', 'touch')
+
+
+def script(bench):
+    """The script through a link and from elsewhere; help without a program; what it says where it can't build, with stand-ins for the tools."""
+    if HOST != os.path.join(TOP, 'feyqoolad'):
+        return 0
+    link, at = os.path.join(bench.top, 'link'), os.path.join(bench.top, 'clone')
+    os.symlink(HOST, link)
+    done = subprocess.run(['bash', '-c', 'cd / && CDPATH=/tmp: PATH=$0:$PATH link --version', bench.top], capture_output=True, check=False)
+    demand(done.returncode == 0 and done.stdout.startswith(b'feyqoolad 1.0') and not done.stderr, 'through a link', f'{done}')
+    os.makedirs(os.path.join(at, 'host/src'))
+    os.makedirs(os.path.join(at, 'crates/exports/src'))
+    os.makedirs(os.path.join(at, 'bin'))
+    shutil.copy(HOST, at)
+    shutil.copy(os.path.join(TOP, 'host/src/usage.txt'), os.path.join(at, 'host/src'))
+    for tool in TOOLS:
+        os.symlink(shutil.which(tool), os.path.join(at, 'bin', tool))
+    steps = [('help', None, b''), ('ping', None, b'the Rattle toolchain (rt) is not there'), ('ping', ('rt', 'exit 1'), b'the library was not built'),
+             ('ping', ('rt', 'mkdir -p target/staticlib && touch target/staticlib/libexports.a'), b'the Rust compiler (cargo) is not there'),
+             ('ping', ('cargo', 'exit 1'), b'the program was not built')]
+    for word, tool, wanted in steps:
+        if tool:
+            path = os.path.join(at, 'bin', tool[0])
+            write_file(path, f'#!{os.path.join(at, "bin/bash")}\n{tool[1]}\n'.encode())
+            os.chmod(path, 0o755)
+        done = subprocess.run([os.path.join(at, 'bin/bash'), os.path.join(at, 'feyqoolad'), word], env={'PATH': os.path.join(at, 'bin')},
+                              capture_output=True, check=False)
+        demand(done.returncode == (1 if wanted else 0) and wanted in done.stderr, f'{word} with {tool}', f'{done}')
+        demand((b'Nothing was done.' in done.stderr) == bool(wanted), f'{word} with {tool}', f'{done}')
+    return len(steps) + 1
+
+
 def documents():
     """README's commands are among those tried above, with the words that README shows."""
     readme = read_file(os.path.join(TOP, 'README.md')).decode()
@@ -137,7 +171,7 @@ def outputs():
 
 def part():
     with Bench() as bench:
-        return f'{talk(bench)} commands, {strange_servers()} strange servers, {lines(bench)} lines, {outputs()} outputs, {documents()} commands of README'
+        return f'{talk(bench)} commands, {strange_servers()} strange servers, {lines(bench)} lines, {outputs()} outputs, {script(bench)} of the script, {documents()} commands of README'
 
 
 if __name__ == '__main__':

@@ -13,7 +13,7 @@ import tempfile
 import threading
 import time
 
-from board_frames import (CONTAINS_KEY, GET, GET_WITH_VERSION, PUT, PUT_IF_ABSENT, REMOVE, REMOVE_IF_UNMODIFIED, REPLACE, REPLACE_IF_UNMODIFIED, line)
+from board_frames import (GET, GET_WITH_VERSION, PUT, PUT_IF_ABSENT, REMOVE, REMOVE_IF_UNMODIFIED, REPLACE, REPLACE_IF_UNMODIFIED, frame, line)
 
 TOP = os.path.dirname(os.path.dirname(os.path.abspath(__file__)))
 HOST = os.path.abspath(os.environ.get('HOST', os.path.join(TOP, 'feyqoolad')))
@@ -191,7 +191,6 @@ class Caller:
 
     def call(self, operation, **fields):
         """Sends a request and reads its reply."""
-        from board_frames import frame
         self.send(frame(operation, **fields))
         return self.reply(operation, fields.get('flags', 0))
 
@@ -264,6 +263,11 @@ def reference(frames, table=None):
         done = subprocess.run([REFERENCE, 'serve', requests, path], check=True, capture_output=True)
         lines = done.stdout.splitlines()
         return [one if one.startswith(b'refused') else bytes.fromhex(one.decode()) for one in lines], read_file(path)
+
+
+def can_trace():
+    """Whether system calls can be traced here (tests/kill_at.c)."""
+    return subprocess.run([os.environ['KILL_AT'], 'list', shutil.which('true')], stdout=subprocess.DEVNULL, check=False).returncode == 0
 
 
 class Bench:

@@ -5,7 +5,7 @@ import socket
 import time
 
 from board_frames import (CLEAR, CONTAINS_KEY, GET, GET_WITH_VERSION, OPERATIONS, PING, PUT, PUT_IF_ABSENT, REMOVE, REMOVE_IF_UNMODIFIED, REPLACE,
-                          REPLACE_IF_UNMODIFIED, frame, header, key_name)
+                          frame, header, key_name)
 from host_run import Bench, Difference, Host, LONG, demand, reference, run_part, short
 
 LONG_KEY, LONG_VALUE = b'k' * 64, bytes(range(256))

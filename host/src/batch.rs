@@ -193,3 +193,102 @@ impl Batch {
         }
     }
 }
+
+#[cfg(test)]
+mod tests {
+    use super::*;
+    use crate::border::library::write_request;
+    use crate::command::OPERATIONS;
+
+    /// Numbers that look like chance, the same each time.
+    struct Chance(u64);
+
+    impl Chance {
+        fn below(&mut self, most: usize) -> usize {
+            self.0 ^= self.0 << 13;
+            self.0 ^= self.0 >> 7;
+            self.0 ^= self.0 << 17;
+            (self.0 >> 11) as usize % most
+        }
+
+        /// A few requests; the last may be cut or have a byte changed.
+        fn input(&mut self) -> Vec<u8> {
+            let mut input = Vec::new();
+            for _ in 0..self.below(60) {
+                input.extend(self.request());
+            }
+            match self.below(3) {
+                0 => input.extend(&self.request()[..5]),
+                1 if !input.is_empty() => {
+                    let most = [input.len(), 9][self.below(2)].min(input.len());
+                    let at = self.below(most);
+                    input[at] = self.below(256) as u8;
+                }
+                _ => {}
+            }
+            input
+        }
+
+        fn request(&mut self) -> Vec<u8> {
+            let key = [b'k', self.below(5) as u8];
+            let value = vec![b'v'; self.below(257)];
+            let (flag, version) = (self.below(2) as u64, self.below(9) as u64);
+            let mut out = vec![0; 394];
+            loop {
+                let code = OPERATIONS[self.below(OPERATIONS.len())].code;
+                // Of these some is written, whatever fields the operation sends.
+                for (key, version, value) in [
+                    (&key[..], version, &value[..]),
+                    (&key[..], 0, &value[..]),
+                    (&key[..], version, &[][..]),
+                    (&key[..], 0, &[][..]),
+                    (&[][..], 0, &[][..]),
+                ] {
+                    let numbers = [7, 12, u64::from(code), flag, 1, 0, 0, 0, version];
+                    if let Ok(size) = write_request(&mut out, &numbers, key, value) {
+                        return out[..size].to_vec();
+                    }
+                }
+            }
+        }
+    }
+
+    /// What a share says is what serving just its bytes gives.
+    fn check(batch: &Batch, share: &Share, input: &[u8], table: &mut Table) {
+        let mut replies = vec![0; REPLIES];
+        let bytes = match share.rest {
+            Rest::Ended => input,
+            _ => &input[..share.taken],
+        };
+        let served = table.serve_stream(bytes, 5, &mut replies);
+        assert_eq!(served.taken, share.taken);
+        assert_eq!(&replies[..served.replied], batch.replies_of(share));
+        let left = read_request(&input[share.taken..]);
+        match share.rest {
+            Rest::More => assert!(matches!(left, Found::More)),
+            Rest::Ended => assert!(matches!(left, Found::Refused(_))),
+            Rest::Again => assert!(!matches!(left, Found::More)),
+        }
+    }
+
+    #[test]
+    fn together_is_one_after_the_other() {
+        let mut chance = Chance(99);
+        let (mut table, mut other) = (Table::fresh(), Table::fresh());
+        let mut batch = Batch::default();
+        let mut seen = [0; 3];
+        for _ in 0..200 {
+            let inputs: Vec<Vec<u8>> = (0..chance.below(20)).map(|_| chance.input()).collect();
+            let lent = inputs.iter().map(Vec::as_slice).enumerate();
+            batch.begin();
+            batch.serve_together(lent, &mut table, 5);
+            assert_eq!(batch.shares.len(), inputs.len());
+            for share in &batch.shares {
+                check(&batch, share, &inputs[share.connection], &mut other);
+                seen[share.rest as usize] += 1;
+            }
+            assert!(table == other);
+        }
+        assert!(seen.iter().all(|count| *count > 50), "{seen:?}");
+    }
+}

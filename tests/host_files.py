@@ -76,6 +76,22 @@ def loads(bench):
     return 2
 
 
+def seconds(bench):
+    """The second of a call is the system's UNIX time: it and the lifespan are the deadline that is stored."""
+    with Host(bench.table('seconds'), '--sync', 'always') as host, host.connect() as caller, host.connect() as other:
+        for count in range(3):
+            before = int(time.time())
+            other.send(frame(PUT, key=b'other'))  # so that some are served together
+            caller.call(PUT, key=b'k', lifespan=1000)
+            other.reply(PUT)
+            after = int(time.time())
+            line = next(one for one in read_file(host.table).splitlines() if one.endswith(b'016b0176'))
+            deadline = int(line[16:32], 16)
+            demand(before + 1000 <= deadline <= after + 1000, 'the second', f'the deadline is {deadline}, and it is {before} to {after}')
+            time.sleep(0.7)
+    return count + 1
+
+
 def soon(bench):
     """A change is in the file a second later, and without a change the file is left alone."""
     with Host(bench.table('soon', OLD)) as host, host.connect() as caller:
@@ -187,7 +203,7 @@ def order(bench):
 
 def part():
     with Bench() as bench:
-        return (f'{loads(bench)} tables loaded, {broken(bench)} broken, {names(bench)} wrong names and options, {soon(bench)} changes in a second, '
+        return (f'{loads(bench)} tables loaded, {seconds(bench)} deadlines, {broken(bench)} broken, {names(bench)} wrong names and options, {soon(bench)} changes in a second, '
                 f'{signals(bench)} signals, {locked(bench)} locks, {rights(bench)} rights, {order(bench)} order of calls')
 
 

@@ -78,7 +78,7 @@ impl Connection {
         Ok(())
     }
 
-    /// Sends these replies, and keeps what the client does not take now.
+    /// Sends these replies, and keeps what the client does not take.
     pub fn send(&mut self, replies: &[u8], now: Instant) -> io::Result<()> {
         self.flush(now)?;
         let mut sent = 0;
@@ -154,7 +154,7 @@ impl Connection {
     }
 }
 
-/// Writes as much as is taken now.
+/// Writes as much as is taken without waiting.
 fn write_some(mut stream: &TcpStream, bytes: &[u8]) -> io::Result<usize> {
     match stream.write(bytes) {
         Ok(count) => Ok(count),

@@ -75,7 +75,7 @@ impl Saver {
             Sync::Second => "The changes since the last store are lost.",
         };
         Err(format!(
-            "ended before the table could be stored; the file is as it was.\n{lost}"
+            "ended before the table could be stored; the file is one whole table.\n{lost}"
         ))
     }
 
@@ -111,7 +111,7 @@ impl Saver {
             Sync::Second => "Requests are served meanwhile, and their changes are in memory alone.",
         };
         say(format!(
-            "{failure}\nThe file is as it was. Storing is tried again each second. {meanwhile}"
+            "{failure}\nThe file is one whole table. Storing is tried again each second. {meanwhile}"
         ));
     }
 }

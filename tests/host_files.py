@@ -55,10 +55,11 @@ def names(bench):
                            (('more',), 'followed by TABLE')):
         refuses(table, f'options {options}', words, *options)
     with Host(bench.table('other')) as host:
-        refuses(table, 'an address in use', "can't listen", '--listen', f'127.0.0.1:{host.port}')
+        for name in (table, os.path.join(folder, 'none')):
+            refuses(name, 'an address in use', "can't listen", '--listen', f'127.0.0.1:{host.port}')
     os.chmod(table, 0o444)
     refuses(table, 'a read-only table', 'is read-only')
-    return 10
+    return 11
 
 
 def loads(bench):

@@ -93,11 +93,12 @@ fn serve(given: &[OsString]) -> Result<ExitCode, Failure> {
     let sync = sync(&words)?;
     let limits = limits(&words)?;
     let address = words.text("listen")?.unwrap_or(ADDRESS);
-    let (keeper, loaded) = Keeper::open(Path::new(table))?;
+    // The address first, so that no fresh table is left where it is in use.
     let listener = listen(address)?;
     let at = listener
         .local_addr()
         .map_err(|error| because("can't listen", error))?;
+    let (keeper, loaded) = Keeper::open(Path::new(table))?;
     let server = Server::new(listener, loaded, Saver::new(keeper, sync), limits)
         .map_err(|error| because("can't serve", error))?;
     say(format!("serves {} on {at}", table.to_string_lossy()));

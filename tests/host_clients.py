@@ -2,6 +2,7 @@
 import resource
 import socket
 import struct
+import threading
 import time
 
 from board_frames import GET, PING, PUT, frame
@@ -63,6 +64,40 @@ def never_reads(bench):
 def files_of(connections):
     """Files that a server has with so many connections: three, and folder, two polls, signals and listener."""
     return 8 + connections
+
+
+def greedy(bench):
+    """One that sends without end, and reads as fast, does not keep another from being served; gives how many calls the other made meanwhile."""
+    with Host(bench.table('greedy')) as host, host.connect() as many, host.connect() as one:
+        one.call(PUT, value=VALUE)
+        many.socket.settimeout(None)
+        data, room, read = frame(GET) * 20_000, bytearray(1 << 20), [0]
+
+        def write():
+            try:
+                while True:
+                    many.socket.sendall(data)
+            except OSError:
+                pass  # it is shut
+
+        def take():
+            while count := many.socket.recv_into(room):
+                read[0] += count
+
+        threads = [threading.Thread(target=target) for target in (write, take)]
+        for thread in threads:
+            thread.start()
+        calls, begin = [], time.monotonic()
+        while time.monotonic() < begin + 1:
+            before = time.monotonic()
+            one.call(PING)
+            calls.append(time.monotonic() - before)
+        many.socket.shutdown(socket.SHUT_RDWR)
+        for thread in threads:
+            thread.join(SECONDS)
+        demand(max(calls) < 0.5, 'beside a greedy one', f'a call took {max(calls)} seconds')
+        demand(read[0] > 1_000_000, 'a greedy one', f'only {read[0]} bytes were read')
+    return len(calls)
 
 
 def gone(bench):
@@ -168,7 +203,7 @@ def in_a_row(bench):
 
 def part():
     with Bench() as bench:
-        return (f'{never_reads(bench)} requests of a client that does not read, {gone(bench)} gone in the middle, {too_many(bench)} too many, '
+        return (f'{never_reads(bench)} requests of a client that does not read, {greedy(bench)} beside a greedy one, {gone(bench)} gone in the middle, {too_many(bench)} too many, '
                 f'{no_files(bench)} without a file, {idle(bench)} idle, {in_a_row(bench)} in a row')
 
 

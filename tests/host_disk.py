@@ -14,6 +14,7 @@ from host_run import Bench, Host, demand, read_file, run_part, short, until, wri
 OLD = head_line(4) + entry_line(4, b'k', b'old')
 NEW = head_line(5) + entry_line(5, b'k', b'new')
 NONE = resource.RLIM_INFINITY
+CROWD = 400  # more connections than the server looks at in one turn
 
 
 def limit_size(most):
@@ -61,16 +62,20 @@ def always(bench):
     """With --sync always: no reply, to anybody, until there is room; then all of them, and nobody was idle meanwhile."""
     with Limited(bench.table('always', OLD), '--sync', 'always', '--idle', '1') as host, host.connect() as one, host.connect() as other:
         demand(other.call(GET, key=b'k').value == b'old', 'a full disk', 'a get is not served, though nothing is to be stored')
+        crowd = [host.connect() for _ in range(CROWD)]
         one.send(frame(PUT, key=b'k', value=b'new'))
         until(lambda: "can't store the table" in host.words(), 'a full disk', 'nothing is said')
-        other.send(frame(GET, key=b'k'))
+        for caller in [other, *crowd]:
+            caller.send(frame(GET, key=b'k'))
         one.silent('a put on a full disk', 2.3)
         other.silent('a get behind a put on a full disk')
         tidy(host, 'a full disk')
         lift(host)
         demand(one.reply(PUT).status == 0 and read_file(host.table) == NEW, 'room again', f'the file is {short(read_file(host.table))} at the reply')
-        demand(other.reply(GET).value == b'new', 'room again', 'another value')
-    return 1
+        for caller in [other, *crowd]:
+            demand(caller.reply(GET).value == b'new', 'room again', 'another value')
+            caller.socket.close()
+    return 2 + CROWD
 
 
 def ends(bench):

@@ -81,8 +81,11 @@ def greedy(bench):
                 pass  # it is shut
 
         def take():
-            while count := many.socket.recv_into(room):
-                read[0] += count
+            try:
+                while count := many.socket.recv_into(room):
+                    read[0] += count
+            except OSError:
+                pass
 
         threads = [threading.Thread(target=target) for target in (write, take)]
         for thread in threads:

@@ -60,14 +60,14 @@ def second(bench):
 
 def always(bench):
     """With --sync always: no reply, to anybody, until there is room; then all of them, and nobody was idle meanwhile."""
-    with Limited(bench.table('always', OLD), '--sync', 'always', '--idle', '1') as host, host.connect() as one, host.connect() as other:
+    with Limited(bench.table('always', OLD), '--sync', 'always', '--idle', '3') as host, host.connect() as one, host.connect() as other:
         demand(other.call(GET, key=b'k').value == b'old', 'a full disk', 'a get is not served, though nothing is to be stored')
         crowd = [host.connect() for _ in range(CROWD)]
         one.send(frame(PUT, key=b'k', value=b'new'))
         until(lambda: "can't store the table" in host.words(), 'a full disk', 'nothing is said')
         for caller in [other, *crowd]:
             caller.send(frame(GET, key=b'k'))
-        one.silent('a put on a full disk', 2.3)
+        one.silent('a put on a full disk', 4)
         other.silent('a get behind a put on a full disk')
         tidy(host, 'a full disk')
         lift(host)

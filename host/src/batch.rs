@@ -1,0 +1,294 @@
+//! Serving many connections in one call of the library.
+//!
+//! The library checks the whole table at each call, which takes longer than a
+//! request. So the whole requests of all connections that are ready are written
+//! end to end and served as one stream: each takes just its own bytes, whatever
+//! follows it, and each gives one reply. Where a request ends is told by the
+//! library's reader of requests, and where its reply ends by the reader of
+//! replies; nothing here looks into either.
+
+use std::ops::Range;
+
+use crate::border::library::{read_reply, read_request, End, Found, Table};
+use crate::limits::REPLY_ROOM;
+
+/// Bytes of the requests served in one call.
+const REQUESTS: usize = 65536;
+/// Bytes of the replies given in one turn.
+pub const REPLIES: usize = 65536;
+
+/// What one connection got.
+pub struct Share {
+    pub connection: usize,
+    /// Bytes taken of its input.
+    pub taken: usize,
+    /// Where its replies are.
+    pub replies: Range<usize>,
+    pub rest: Rest,
+}
+
+/// What is left in the input of a connection.
+#[derive(Clone, Copy, Debug, PartialEq, Eq)]
+pub enum Rest {
+    /// No whole request.
+    More,
+    /// Bytes that are to be served in another turn.
+    Again,
+    /// The stream has ended by a refusal.
+    Ended,
+}
+
+/// A request that waits in the batch.
+struct Waiting {
+    size: usize,
+    operation: u8,
+    flag: bool,
+}
+
+/// The turn's requests and replies, in memory of a fixed size.
+pub struct Batch {
+    requests: Vec<u8>,
+    waiting: Vec<Waiting>,
+    replies: Box<[u8]>,
+    used: usize,
+    pub shares: Vec<Share>,
+}
+
+impl Default for Batch {
+    fn default() -> Batch {
+        Batch {
+            requests: Vec::with_capacity(REQUESTS),
+            waiting: Vec::new(),
+            replies: vec![0; REPLIES].into_boxed_slice(),
+            used: 0,
+            shares: Vec::new(),
+        }
+    }
+}
+
+impl Batch {
+    /// Begins a turn: replies and shares of the one before are dropped.
+    pub fn begin(&mut self) {
+        self.used = 0;
+        self.shares.clear();
+    }
+
+    pub fn replies_of(&self, share: &Share) -> &[u8] {
+        &self.replies[share.replies.clone()]
+    }
+
+    /// Whether a further call has room for its reply.
+    fn has_room(&self) -> bool {
+        REPLIES - self.used >= REPLY_ROOM
+    }
+
+    /// Serves the input of one connection as it is.
+    pub fn serve_alone(&mut self, connection: usize, input: &[u8], table: &mut Table, second: u32) {
+        let start = self.used;
+        let (mut taken, mut rest) = (0, Rest::Again);
+        if self.has_room() {
+            let served = table.serve_stream(input, second, &mut self.replies[start..]);
+            self.used += served.replied;
+            taken = served.taken;
+            rest = match served.end {
+                End::More => Rest::More,
+                End::Full => Rest::Again,
+                End::Refused(_) => Rest::Ended,
+            };
+        }
+        self.shares.push(Share {
+            connection,
+            taken,
+            replies: start..self.used,
+            rest,
+        });
+    }
+
+    /// Serves the inputs of many connections: their whole requests in one call,
+    /// and then those that begin with bytes that are refused, each alone.
+    pub fn serve_together<'a>(
+        &mut self,
+        inputs: impl Iterator<Item = (usize, &'a [u8])>,
+        table: &mut Table,
+        second: u32,
+    ) {
+        self.requests.clear();
+        self.waiting.clear();
+        let mut gathered = Vec::new();
+        let mut refused = Vec::new();
+        for (connection, input) in inputs {
+            let (count, rest) = self.gather(input);
+            if count == 0 && rest == Rest::Ended {
+                refused.push((connection, input));
+            } else {
+                gathered.push((connection, count, rest));
+            }
+        }
+        let mut calls = 0;
+        if !self.waiting.is_empty() {
+            let served = table.serve_stream(&self.requests, second, &mut self.replies);
+            (self.used, calls) = (served.replied, served.calls);
+        }
+        self.share_out(&gathered, calls);
+        for (connection, input) in refused {
+            self.serve_alone(connection, input, table, second);
+        }
+    }
+
+    /// Adds the whole requests at the front of the input, as far as there is
+    /// room; answers how many, and what stands behind them.
+    fn gather(&mut self, input: &[u8]) -> (usize, Rest) {
+        let (mut at, mut count) = (0, 0);
+        loop {
+            let request = match read_request(&input[at..]) {
+                Found::Whole(request) => request,
+                Found::More => return (count, Rest::More),
+                Found::Refused(_) => return (count, Rest::Ended),
+            };
+            if self.requests.len() + request.size > REQUESTS {
+                return (count, Rest::Again);
+            }
+            let end = at + request.size;
+            self.requests.extend_from_slice(&input[at..end]);
+            self.waiting.push(Waiting {
+                size: request.size,
+                operation: request.operation,
+                flag: request.flags & 1 == 1,
+            });
+            (at, count) = (end, count + 1);
+        }
+    }
+
+    /// Gives each connection the replies to its requests, of which the first
+    /// ones, so many in all, were served.
+    fn share_out(&mut self, gathered: &[(usize, usize, Rest)], calls: usize) {
+        let (mut at, mut first) = (0, 0);
+        for &(connection, count, rest) in gathered {
+            let last = first + count;
+            let (start, mut taken) = (at, 0);
+            for one in &self.waiting[first.min(calls)..last.min(calls)] {
+                at += self.reply_size(at, one);
+                taken += one.size;
+            }
+            let rest = match rest {
+                Rest::More if last <= calls => Rest::More,
+                _ => Rest::Again,
+            };
+            self.shares.push(Share {
+                connection,
+                taken,
+                replies: start..at,
+                rest,
+            });
+            first = last;
+        }
+        assert_eq!(at, self.used, "the replies are not those of the requests");
+    }
+
+    /// How long the reply at this place is, as the library's reader tells it.
+    fn reply_size(&self, at: usize, asked: &Waiting) -> usize {
+        match read_reply(&self.replies[at..self.used], asked.operation, asked.flag) {
+            Found::Whole(reply) => reply.size,
+            _ => panic!("a reply of the library is not read by the library"),
+        }
+    }
+}
+
+#[cfg(test)]
+mod tests {
+    use super::*;
+    use crate::border::library::write_request;
+    use crate::command::OPERATIONS;
+
+    /// Numbers that look like chance, the same each time.
+    struct Chance(u64);
+
+    impl Chance {
+        fn below(&mut self, most: usize) -> usize {
+            self.0 ^= self.0 << 13;
+            self.0 ^= self.0 >> 7;
+            self.0 ^= self.0 << 17;
+            (self.0 >> 11) as usize % most
+        }
+
+        /// A few requests; the last may be cut or have a byte changed.
+        fn input(&mut self) -> Vec<u8> {
+            let mut input = Vec::new();
+            for _ in 0..self.below(60) {
+                input.extend(self.request());
+            }
+            match self.below(3) {
+                0 => input.extend(&self.request()[..5]),
+                1 if !input.is_empty() => {
+                    let most = [input.len(), 9][self.below(2)].min(input.len());
+                    let at = self.below(most);
+                    input[at] = self.below(256) as u8;
+                }
+                _ => {}
+            }
+            input
+        }
+
+        fn request(&mut self) -> Vec<u8> {
+            let key = [b'k', self.below(5) as u8];
+            let value = vec![b'v'; self.below(257)];
+            let (flag, version) = (self.below(2) as u64, self.below(9) as u64);
+            let mut out = vec![0; 394];
+            loop {
+                let code = OPERATIONS[self.below(OPERATIONS.len())].code;
+                // Of these some is written, whatever fields the operation sends.
+                for (key, version, value) in [
+                    (&key[..], version, &value[..]),
+                    (&key[..], 0, &value[..]),
+                    (&key[..], version, &[][..]),
+                    (&key[..], 0, &[][..]),
+                    (&[][..], 0, &[][..]),
+                ] {
+                    let numbers = [7, 12, u64::from(code), flag, 1, 0, 0, 0, version];
+                    if let Ok(size) = write_request(&mut out, &numbers, key, value) {
+                        return out[..size].to_vec();
+                    }
+                }
+            }
+        }
+    }
+
+    /// What a share says is what serving just its bytes gives.
+    fn check(batch: &Batch, share: &Share, input: &[u8], table: &mut Table) {
+        let mut replies = vec![0; REPLIES];
+        let bytes = match share.rest {
+            Rest::Ended => input,
+            _ => &input[..share.taken],
+        };
+        let served = table.serve_stream(bytes, 5, &mut replies);
+        assert_eq!(served.taken, share.taken);
+        assert_eq!(&replies[..served.replied], batch.replies_of(share));
+        let left = read_request(&input[share.taken..]);
+        match share.rest {
+            Rest::More => assert!(matches!(left, Found::More)),
+            Rest::Ended => assert!(matches!(left, Found::Refused(_))),
+            Rest::Again => assert!(!matches!(left, Found::More)),
+        }
+    }
+
+    #[test]
+    fn together_is_one_after_the_other() {
+        let mut chance = Chance(99);
+        let (mut table, mut other) = (Table::fresh(), Table::fresh());
+        let mut batch = Batch::default();
+        let mut seen = [0; 3];
+        for _ in 0..200 {
+            let inputs: Vec<Vec<u8>> = (0..chance.below(20)).map(|_| chance.input()).collect();
+            let lent = inputs.iter().map(Vec::as_slice).enumerate();
+            batch.begin();
+            batch.serve_together(lent, &mut table, 5);
+            assert_eq!(batch.shares.len(), inputs.len());
+            for share in &batch.shares {
+                check(&batch, share, &inputs[share.connection], &mut other);
+                seen[share.rest as usize] += 1;
+            }
+            assert!(table == other);
+        }
+        assert!(seen.iter().all(|count| *count > 50), "{seen:?}");
+    }
+}

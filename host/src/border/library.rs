@@ -1,0 +1,300 @@
+//! The functions of the proved library. A slice goes over as a pointer and a
+//! length; a slice that may be written overlaps no other, which Rust's borrows
+//! ensure.
+
+use std::ops::Range;
+
+use crate::limits::{
+    DONE, LONGEST_FILE, REPLY_FULL, REPLY_GIVEN, REPLY_TOLD, REQUEST_GIVEN, REQUEST_TOLD,
+    STREAM_TOLD, TABLE_SIZE,
+};
+
+extern "C" {
+    fn fq_read_request(input: *const u8, len: usize, answer: *mut u64, told: usize) -> u64;
+    fn fq_read_reply(
+        input: *const u8,
+        len: usize,
+        op: u8,
+        flag: bool,
+        answer: *mut u64,
+        told: usize,
+    ) -> u64;
+    fn fq_write_request(
+        out: *mut u8,
+        out_len: usize,
+        numbers: *const u64,
+        given: usize,
+        name: *const u8,
+        name_len: usize,
+        key: *const u8,
+        key_len: usize,
+        value: *const u8,
+        value_len: usize,
+    ) -> u64;
+    fn fq_write_reply(
+        out: *mut u8,
+        out_len: usize,
+        op: u8,
+        flag: bool,
+        numbers: *const u64,
+        given: usize,
+        value: *const u8,
+        value_len: usize,
+        text: *const u8,
+        text_len: usize,
+    ) -> u64;
+    fn fq_make(table: *mut u8, len: usize) -> u64;
+    fn fq_serve_stream(
+        input: *const u8,
+        input_len: usize,
+        table: *mut u8,
+        table_len: usize,
+        second: u32,
+        reply: *mut u8,
+        reply_len: usize,
+        answer: *mut u64,
+        told: usize,
+    ) -> u64;
+    fn fq_store(table: *const u8, len: usize, out: *mut u8, out_len: usize) -> u64;
+    fn fq_load(file: *const u8, file_len: usize, table: *mut u8, len: usize) -> u64;
+}
+
+/// What a reader finds at the front of bytes.
+pub enum Found<T> {
+    Whole(T),
+    More,
+    Refused(u64),
+}
+
+/// A request's size, its numbers, and where its parts are in the bytes read.
+pub struct Request {
+    pub size: usize,
+    pub operation: u8,
+    pub flags: u64,
+    pub key: Range<usize>,
+}
+
+/// A reply's size, its numbers, and where its parts are in the bytes read.
+pub struct Reply {
+    pub size: usize,
+    pub id: u64,
+    pub operation: u8,
+    pub status: u8,
+    pub entry_version: u64,
+    pub value: Range<usize>,
+    pub text: Range<usize>,
+}
+
+/// The range that a start and a length tell.
+fn range(told: &[u64]) -> Range<usize> {
+    told[0] as usize..(told[0] + told[1]) as usize
+}
+
+/// Reads the request at the front of the input.
+pub fn read_request(input: &[u8]) -> Found<Request> {
+    let mut told = [0; REQUEST_TOLD];
+    // SAFETY: both slices are lent for the call, with their lengths.
+    let code =
+        unsafe { fq_read_request(input.as_ptr(), input.len(), told.as_mut_ptr(), told.len()) };
+    match code {
+        0 => Found::More,
+        1..DONE => Found::Refused(code),
+        _ => Found::Whole(Request {
+            size: told[0] as usize,
+            operation: told[3] as u8,
+            flags: told[4],
+            key: range(&told[12..14]),
+        }),
+    }
+}
+
+/// Reads the reply at the front of the input, to a request with this operation
+/// and with or without the flag for the value before.
+pub fn read_reply(input: &[u8], operation: u8, flag: bool) -> Found<Reply> {
+    let mut told = [0; REPLY_TOLD];
+    // SAFETY: both slices are lent for the call, with their lengths.
+    let code = unsafe {
+        fq_read_reply(
+            input.as_ptr(),
+            input.len(),
+            operation,
+            flag,
+            told.as_mut_ptr(),
+            told.len(),
+        )
+    };
+    match code {
+        0 => Found::More,
+        1..DONE => Found::Refused(code),
+        _ => Found::Whole(Reply {
+            size: told[0] as usize,
+            id: told[1],
+            operation: told[2] as u8,
+            status: told[3] as u8,
+            entry_version: told[4],
+            value: range(&told[5..7]),
+            text: range(&told[7..9]),
+        }),
+    }
+}
+
+/// The count in a code, or the refusal's number.
+fn counted(code: u64) -> Result<usize, u64> {
+    code.checked_sub(DONE)
+        .map(|count| count as usize)
+        .ok_or(code)
+}
+
+/// Writes a request to the default cache; answers its length or the refusal.
+pub fn write_request(
+    out: &mut [u8],
+    numbers: &[u64; REQUEST_GIVEN],
+    key: &[u8],
+    value: &[u8],
+) -> Result<usize, u64> {
+    let name: &[u8] = &[];
+    // SAFETY: all slices are lent for the call, with their lengths.
+    counted(unsafe {
+        fq_write_request(
+            out.as_mut_ptr(),
+            out.len(),
+            numbers.as_ptr(),
+            numbers.len(),
+            name.as_ptr(),
+            name.len(),
+            key.as_ptr(),
+            key.len(),
+            value.as_ptr(),
+            value.len(),
+        )
+    })
+}
+
+/// Writes an error reply with this id, status and text, as one to a request of
+/// a served operation; answers its length or the refusal.
+pub fn write_error(
+    out: &mut [u8],
+    operation: u8,
+    numbers: &[u64; REPLY_GIVEN],
+    text: &[u8],
+) -> Result<usize, u64> {
+    let value: &[u8] = &[];
+    // SAFETY: all slices are lent for the call, with their lengths.
+    counted(unsafe {
+        fq_write_reply(
+            out.as_mut_ptr(),
+            out.len(),
+            operation,
+            false,
+            numbers.as_ptr(),
+            numbers.len(),
+            value.as_ptr(),
+            value.len(),
+            text.as_ptr(),
+            text.len(),
+        )
+    })
+}
+
+/// How serving a stream came to its end.
+#[derive(Clone, Copy, Debug, PartialEq, Eq)]
+pub enum End {
+    /// What is left is no whole request, or nothing.
+    More,
+    /// The replies have to be taken out first.
+    Full,
+    /// A refusal: the last reply is an error reply, and the stream ends.
+    Refused(u64),
+}
+
+/// What serving a stream did.
+#[derive(Clone, Copy, Debug)]
+pub struct Served {
+    pub end: End,
+    /// Bytes taken of the input.
+    pub taken: usize,
+    /// Bytes of the replies.
+    pub replied: usize,
+    /// How many requests were answered.
+    pub calls: usize,
+}
+
+/// A table: memory that only the library writes.
+#[derive(Clone, PartialEq, Eq)]
+pub struct Table {
+    memory: Box<[u8]>,
+}
+
+impl Table {
+    /// A fresh table.
+    pub fn fresh() -> Table {
+        let mut memory = vec![0; TABLE_SIZE].into_boxed_slice();
+        // SAFETY: the slice is lent for the call, with its length.
+        let code = unsafe { fq_make(memory.as_mut_ptr(), memory.len()) };
+        assert_eq!(code, DONE, "fq_make refuses the memory of a table");
+        Table { memory }
+    }
+
+    /// The table that a file stores, if it stores one.
+    pub fn load(file: &[u8]) -> Option<Table> {
+        let mut table = Table::fresh();
+        // SAFETY: both slices are lent for the call, with their lengths.
+        let code = unsafe {
+            fq_load(
+                file.as_ptr(),
+                file.len(),
+                table.memory.as_mut_ptr(),
+                table.memory.len(),
+            )
+        };
+        (code == DONE).then_some(table)
+    }
+
+    /// The file that stores the table.
+    pub fn store(&self) -> Vec<u8> {
+        let mut out = vec![0; LONGEST_FILE];
+        // SAFETY: both slices are lent for the call, with their lengths.
+        let code = unsafe {
+            fq_store(
+                self.memory.as_ptr(),
+                self.memory.len(),
+                out.as_mut_ptr(),
+                out.len(),
+            )
+        };
+        let length = counted(code).expect("fq_store refuses a table");
+        out.truncate(length);
+        out
+    }
+
+    /// Serves the requests of the input at this second.
+    pub fn serve_stream(&mut self, input: &[u8], second: u32, replies: &mut [u8]) -> Served {
+        let mut told = [0; STREAM_TOLD];
+        // SAFETY: all slices are lent for the call, with their lengths.
+        let code = unsafe {
+            fq_serve_stream(
+                input.as_ptr(),
+                input.len(),
+                self.memory.as_mut_ptr(),
+                self.memory.len(),
+                second,
+                replies.as_mut_ptr(),
+                replies.len(),
+                told.as_mut_ptr(),
+                told.len(),
+            )
+        };
+        let end = match code {
+            0 => End::More,
+            REPLY_FULL => End::Full,
+            1..=8 => End::Refused(code),
+            _ => panic!("fq_serve_stream answers {code}"),
+        };
+        Served {
+            end,
+            taken: told[0] as usize,
+            replied: told[1] as usize,
+            calls: told[2] as usize,
+        }
+    }
+}

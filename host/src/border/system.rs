@@ -1,0 +1,183 @@
+//! The system calls that the standard library lacks: epoll, and signals as a
+//! file that becomes readable.
+
+use std::ffi::c_int;
+use std::fs::File;
+use std::io::{self, Read};
+use std::os::fd::{AsFd, AsRawFd, BorrowedFd, FromRawFd, OwnedFd};
+use std::time::Duration;
+
+/// There are bytes to read, a connection to take, or the other end has closed.
+pub const READABLE: u32 = 0x001;
+/// There is room to write.
+pub const WRITABLE: u32 = 0x004;
+
+const CLOEXEC: c_int = 0x80000;
+const NONBLOCK: c_int = 0x800;
+const ADD: c_int = 1;
+const MODIFY: c_int = 3;
+const BLOCK: c_int = 0;
+const INTERRUPT: c_int = 2;
+const TERMINATE: c_int = 15;
+
+/// An event as the system writes it: what happened, and where.
+#[derive(Clone, Copy)]
+#[cfg_attr(target_arch = "x86_64", repr(C, packed))]
+#[cfg_attr(not(target_arch = "x86_64"), repr(C))]
+pub struct Event {
+    happened: u32,
+    token: u64,
+}
+
+impl Event {
+    pub const NONE: Event = Event {
+        happened: 0,
+        token: 0,
+    };
+
+    /// The number under which the file was added.
+    pub fn token(&self) -> usize {
+        self.token as usize
+    }
+
+    /// Whether reading brings something, be it an error.
+    pub fn is_readable(&self) -> bool {
+        self.happened & !WRITABLE != 0
+    }
+
+    /// Whether writing does.
+    pub fn is_writable(&self) -> bool {
+        self.happened & !READABLE != 0
+    }
+}
+
+/// A set of signals, as large as the system's libraries have it.
+type SignalSet = [u64; 16];
+
+extern "C" {
+    fn epoll_create1(flags: c_int) -> c_int;
+    fn epoll_ctl(epoll: c_int, what: c_int, fd: c_int, event: *mut Event) -> c_int;
+    fn epoll_wait(epoll: c_int, events: *mut Event, most: c_int, milliseconds: c_int) -> c_int;
+    fn sigemptyset(set: *mut SignalSet) -> c_int;
+    fn sigaddset(set: *mut SignalSet, signal: c_int) -> c_int;
+    fn pthread_sigmask(how: c_int, set: *const SignalSet, old: *mut SignalSet) -> c_int;
+    fn signalfd(fd: c_int, set: *const SignalSet, flags: c_int) -> c_int;
+}
+
+/// A result of the system: below 0 is an error.
+fn checked(result: c_int) -> io::Result<c_int> {
+    if result < 0 {
+        return Err(io::Error::last_os_error());
+    }
+    Ok(result)
+}
+
+/// Takes a file that the system has just opened for us.
+fn owned(result: c_int) -> io::Result<OwnedFd> {
+    let fd = checked(result)?;
+    // SAFETY: the file is open, and nobody else has it.
+    Ok(unsafe { OwnedFd::from_raw_fd(fd) })
+}
+
+/// Files that are waited for together.
+pub struct Poll {
+    epoll: OwnedFd,
+}
+
+impl Poll {
+    pub fn new() -> io::Result<Poll> {
+        // SAFETY: a call without memory.
+        let epoll = owned(unsafe { epoll_create1(CLOEXEC) })?;
+        Ok(Poll { epoll })
+    }
+
+    fn control(&self, what: c_int, fd: BorrowedFd, token: usize, interest: u32) -> io::Result<()> {
+        let mut event = Event {
+            happened: interest,
+            token: token as u64,
+        };
+        // SAFETY: both files are open, and the event is lent for the call.
+        let result = unsafe { epoll_ctl(self.epoll.as_raw_fd(), what, fd.as_raw_fd(), &mut event) };
+        checked(result).map(|_| ())
+    }
+
+    /// Adds a file under a number. It leaves the set when it is closed.
+    pub fn add(&self, file: &impl AsFd, token: usize, interest: u32) -> io::Result<()> {
+        self.control(ADD, file.as_fd(), token, interest)
+    }
+
+    /// Changes what is waited for at a file.
+    pub fn change(&self, file: &impl AsFd, token: usize, interest: u32) -> io::Result<()> {
+        self.control(MODIFY, file.as_fd(), token, interest)
+    }
+
+    /// Waits until something happens or the time has passed; answers how many
+    /// events there are. A signal may end it early.
+    pub fn wait(&self, events: &mut [Event], most: Option<Duration>) -> io::Result<usize> {
+        // Rounded up, so that the time has passed where it ends by itself.
+        let milliseconds = match most {
+            Some(time) => c_int::try_from(time.as_micros().div_ceil(1000)).unwrap_or(c_int::MAX),
+            None => -1,
+        };
+        let room = c_int::try_from(events.len()).unwrap_or(c_int::MAX);
+        // SAFETY: the slice is lent for the call, with its length.
+        let result = unsafe {
+            epoll_wait(
+                self.epoll.as_raw_fd(),
+                events.as_mut_ptr(),
+                room,
+                milliseconds,
+            )
+        };
+        match checked(result) {
+            Ok(count) => Ok(count as usize),
+            Err(error) if error.kind() == io::ErrorKind::Interrupted => Ok(0),
+            Err(error) => Err(error),
+        }
+    }
+}
+
+/// SIGTERM and SIGINT, which from here on end the program no more by
+/// themselves.
+pub struct Signals {
+    file: File,
+    poll: Poll,
+}
+
+impl Signals {
+    pub fn new() -> io::Result<Signals> {
+        let mut set: SignalSet = [0; 16];
+        // SAFETY: the set is lent for each call.
+        let file = unsafe {
+            checked(sigemptyset(&mut set))?;
+            checked(sigaddset(&mut set, INTERRUPT))?;
+            checked(sigaddset(&mut set, TERMINATE))?;
+            checked(pthread_sigmask(BLOCK, &set, std::ptr::null_mut()))?;
+            owned(signalfd(-1, &set, CLOEXEC | NONBLOCK))?
+        };
+        let poll = Poll::new()?;
+        poll.add(&file, 0, READABLE)?;
+        Ok(Signals {
+            file: File::from(file),
+            poll,
+        })
+    }
+
+    /// Takes one signal, if one has come.
+    pub fn take(&mut self) -> bool {
+        let mut told = [0; 128];
+        matches!(self.file.read(&mut told), Ok(count) if count > 0)
+    }
+
+    /// Waits so long for a signal, and takes it.
+    pub fn wait(&mut self, most: Duration) -> bool {
+        let _ = self.poll.wait(&mut [Event::NONE], Some(most));
+        self.take()
+    }
+}
+
+impl AsFd for Signals {
+    fn as_fd(&self) -> BorrowedFd<'_> {
+        self.file.as_fd()
+    }
+}

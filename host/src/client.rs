@@ -1,0 +1,73 @@
+//! A client for one request. The reply is read by the library.
+
+use std::io::{Read, Write};
+use std::net::{TcpStream, ToSocketAddrs};
+use std::time::Duration;
+
+use crate::border::library::{read_reply, Found, Reply};
+use crate::command::{Command, ID};
+use crate::failure::{because, Failure};
+use crate::limits::LONGEST_REPLY;
+use crate::words::{of_reply, Asked, Went};
+
+/// How long the server may take for each step.
+const PATIENCE: Duration = Duration::from_secs(10);
+
+/// Sends the command's request to an address; answers the words for its reply.
+pub fn call(command: &Command, to: &str) -> Result<(Went, String), Failure> {
+    let request = command.request()?;
+    let mut stream = connect(to)?;
+    stream
+        .write_all(&request)
+        .map_err(|error| because(format!("can't send to {to}"), error))?;
+    let asked = Asked {
+        operation: command.operation.code,
+        previous: command.previous,
+    };
+    let mut bytes = [0; LONGEST_REPLY];
+    let reply = receive(&mut stream, asked, &mut bytes)
+        .map_err(|failure| format!("{failure}\nThe server at {to} may have done it or not."))?;
+    Ok(of_reply(asked, &reply, &bytes))
+}
+
+/// Connects to the first address that answers.
+fn connect(to: &str) -> Result<TcpStream, Failure> {
+    let what = || format!("can't reach a server at {to}");
+    let addresses = to
+        .to_socket_addrs()
+        .map_err(|error| because(what(), error))?;
+    let mut failure = what();
+    for address in addresses {
+        match TcpStream::connect_timeout(&address, PATIENCE) {
+            Ok(stream) => {
+                return stream
+                    .set_read_timeout(Some(PATIENCE))
+                    .and_then(|()| stream.set_write_timeout(Some(PATIENCE)))
+                    .map(|()| stream)
+                    .map_err(|error| because(what(), error));
+            }
+            Err(error) => failure = because(what(), error),
+        }
+    }
+    Err(failure)
+}
+
+/// Reads on until the reply is whole.
+fn receive(stream: &mut TcpStream, asked: Asked, bytes: &mut [u8]) -> Result<Reply, Failure> {
+    let mut held = 0;
+    loop {
+        match read_reply(&bytes[..held], asked.operation, asked.previous) {
+            Found::Whole(reply) if reply.id == ID || reply.id == 0 => return Ok(reply),
+            Found::Whole(_) => return Err("the reply is to another request".to_string()),
+            Found::Refused(number) => {
+                return Err(format!("refused {number}: what came is not a reply"))
+            }
+            Found::More => {}
+        }
+        match stream.read(&mut bytes[held..]) {
+            Ok(0) => return Err("the connection was closed before the reply".to_string()),
+            Ok(count) => held += count,
+            Err(error) => return Err(because("no reply came", error)),
+        }
+    }
+}

@@ -1,0 +1,169 @@
+//! A client's connection: what was read and not yet served, what was answered
+//! and not yet sent, and what is waited for. Both buffers have a fixed size,
+//! and a client that does not take its replies is not read from.
+
+use std::io::{self, ErrorKind, Read, Write};
+use std::net::{Shutdown, TcpStream};
+use std::time::{Duration, Instant};
+
+use crate::batch::REPLIES;
+use crate::border::system::{READABLE, WRITABLE};
+use crate::buffer::Buffer;
+
+/// Bytes read ahead of a client, many requests long.
+pub const READ_AHEAD: usize = 16384;
+/// How long what a client still sends is passed over behind the last reply.
+/// Closing at once would destroy a reply that is still on its way.
+const LEAVING: Duration = Duration::from_secs(2);
+
+pub struct Connection {
+    pub stream: TcpStream,
+    pub input: Buffer,
+    output: Buffer,
+    /// The input may hold a whole request.
+    pub pending: bool,
+    /// It is among those to be served next.
+    pub queued: bool,
+    /// The client sends no more.
+    ended: bool,
+    /// The last reply was given; until then what comes is passed over.
+    leaving: Option<Instant>,
+    /// The last reply was sent, and the client told that none follows.
+    shut: bool,
+    /// When a byte last went to the client or came from it.
+    pub moved: Instant,
+    /// What is waited for.
+    pub interest: u32,
+}
+
+impl Connection {
+    pub fn new(stream: TcpStream, now: Instant) -> Connection {
+        Connection {
+            stream,
+            input: Buffer::new(READ_AHEAD),
+            output: Buffer::new(REPLIES),
+            pending: false,
+            queued: false,
+            ended: false,
+            leaving: None,
+            shut: false,
+            moved: now,
+            interest: READABLE,
+        }
+    }
+
+    /// Lets reads and writes not wait, and replies go out at once.
+    pub fn make_ready(&self) -> io::Result<()> {
+        self.stream.set_nonblocking(true)?;
+        self.stream.set_nodelay(true)
+    }
+
+    /// Reads what has come, as far as there is room. What was read before is
+    /// served first, so that a client that sends much waits for its turn.
+    pub fn receive(&mut self, now: Instant) -> io::Result<()> {
+        if self.leaving.is_some() {
+            self.input.clear();
+        } else if self.ended || self.pending || !self.output.is_empty() {
+            return Ok(());
+        }
+        let count = match self.stream.read(self.input.room()) {
+            Ok(count) => count,
+            Err(error) if is_later(&error) => return Ok(()),
+            Err(error) => return Err(error),
+        };
+        self.input.added(count);
+        self.ended = count == 0;
+        self.pending = count > 0 && self.leaving.is_none();
+        self.moved = now;
+        Ok(())
+    }
+
+    /// Sends these replies, and keeps what the client does not take.
+    pub fn send(&mut self, replies: &[u8], now: Instant) -> io::Result<()> {
+        self.flush(now)?;
+        let mut sent = 0;
+        if self.output.is_empty() {
+            sent = self.write(replies, now)?;
+        }
+        self.output.add(&replies[sent..]);
+        Ok(())
+    }
+
+    /// Sends what was kept.
+    pub fn flush(&mut self, now: Instant) -> io::Result<()> {
+        if !self.output.is_empty() {
+            let sent = write_some(&self.stream, self.output.held())?;
+            self.output.take(sent);
+            self.moved = now;
+        }
+        Ok(())
+    }
+
+    fn write(&mut self, bytes: &[u8], now: Instant) -> io::Result<usize> {
+        self.moved = now;
+        write_some(&self.stream, bytes)
+    }
+
+    /// The stream ends behind the replies given so far.
+    pub fn leave(&mut self, now: Instant) {
+        self.leaving = Some(now + LEAVING);
+        self.pending = false;
+    }
+
+    pub fn is_leaving(&self) -> bool {
+        self.leaving.is_some()
+    }
+
+    /// Tells the client that no reply follows, once the last one was sent.
+    pub fn shut(&mut self) {
+        if self.leaving.is_some() && self.output.is_empty() && !self.shut {
+            self.shut = true;
+            let _ = self.stream.shutdown(Shutdown::Write);
+        }
+    }
+
+    /// Whether there is something to serve and room for its replies.
+    pub fn can_be_served(&self) -> bool {
+        self.pending && self.leaving.is_none() && self.output.is_empty()
+    }
+
+    /// Whether nothing is left to be done. The client's end is read when all
+    /// before it was served.
+    pub fn is_over(&self) -> bool {
+        self.ended && self.output.is_empty()
+    }
+
+    /// Whether it has to go: nothing moved for so long, or it was left.
+    pub fn is_late(&self, now: Instant, idle: Option<Duration>) -> bool {
+        match (self.leaving, idle) {
+            (Some(until), _) => now >= until,
+            (None, Some(idle)) => now.duration_since(self.moved) >= idle,
+            (None, None) => false,
+        }
+    }
+
+    /// What is to be waited for.
+    pub fn wanted(&self) -> u32 {
+        if !self.output.is_empty() {
+            WRITABLE
+        } else if self.ended {
+            0
+        } else {
+            READABLE
+        }
+    }
+}
+
+/// Writes as much as is taken without waiting.
+fn write_some(mut stream: &TcpStream, bytes: &[u8]) -> io::Result<usize> {
+    match stream.write(bytes) {
+        Ok(count) => Ok(count),
+        Err(error) if is_later(&error) => Ok(0),
+        Err(error) => Err(error),
+    }
+}
+
+/// Whether a call only has to be made again later.
+pub fn is_later(error: &io::Error) -> bool {
+    matches!(error.kind(), ErrorKind::WouldBlock | ErrorKind::Interrupted)
+}

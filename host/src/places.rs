@@ -1,0 +1,69 @@
+//! The open connections, each at a place that it keeps until it is closed.
+
+use std::time::{Duration, Instant};
+
+use crate::connection::Connection;
+
+#[derive(Default)]
+pub struct Places {
+    connections: Vec<Option<Connection>>,
+    free: Vec<usize>,
+}
+
+impl Places {
+    /// How many connections are open.
+    pub fn count(&self) -> usize {
+        self.connections.len() - self.free.len()
+    }
+
+    pub fn get(&self, index: usize) -> Option<&Connection> {
+        self.connections[index].as_ref()
+    }
+
+    pub fn get_mut(&mut self, index: usize) -> Option<&mut Connection> {
+        self.connections[index].as_mut()
+    }
+
+    /// Gives a connection a place.
+    pub fn add(&mut self, connection: Connection) -> usize {
+        match self.free.pop() {
+            Some(index) => {
+                self.connections[index] = Some(connection);
+                index
+            }
+            None => {
+                self.connections.push(Some(connection));
+                self.connections.len() - 1
+            }
+        }
+    }
+
+    /// Closes the connection at a place, if there is one.
+    pub fn close(&mut self, index: usize) {
+        if self.connections[index].take().is_some() {
+            self.free.push(index);
+        }
+    }
+
+    /// Closes the connections that are late; answers how many were idle.
+    pub fn close_late(&mut self, now: Instant, idle: Option<Duration>) -> usize {
+        let mut count = 0;
+        for index in 0..self.connections.len() {
+            let late = self
+                .get(index)
+                .filter(|connection| connection.is_late(now, idle));
+            if let Some(connection) = late {
+                count += usize::from(!connection.is_leaving());
+                self.close(index);
+            }
+        }
+        count
+    }
+
+    /// Counts the idle time of all from now on.
+    pub fn begin_anew(&mut self, now: Instant) {
+        for connection in self.connections.iter_mut().flatten() {
+            connection.moved = now;
+        }
+    }
+}

@@ -1,0 +1,341 @@
+//! The event loop: one thread that waits for all connections, serves what came
+//! in one call of the library, has the table stored, and sends the replies.
+
+use std::io;
+use std::net::{TcpListener, TcpStream};
+use std::time::{Duration, Instant, SystemTime, UNIX_EPOCH};
+
+use crate::batch::{Batch, Rest};
+use crate::border::library::{write_error, Table};
+use crate::border::system::{Event, Poll, Signals, READABLE};
+use crate::command::PING;
+use crate::connection::{is_later, Connection};
+use crate::failure::{because, plain, say, Failure};
+use crate::limits::REPLY_ROOM;
+use crate::places::Places;
+use crate::saver::Saver;
+
+/// The numbers under which the poll knows the listener and the signals; those
+/// of the connections follow.
+const LISTENER: usize = 0;
+const SIGNALS: usize = 1;
+const FIRST: usize = 2;
+
+/// Events taken at a time.
+const EVENTS: usize = 256;
+/// Connections taken in one turn.
+const ACCEPTS: usize = 64;
+/// Connections above the limit that are told so; further ones are closed.
+const TOLD: usize = 16;
+/// How often connections that are late are looked for.
+const TICK: Duration = Duration::from_secs(1);
+/// How often a limit that is met is told.
+const TELL_EVERY: Duration = Duration::from_secs(60);
+
+pub struct Limits {
+    pub connections: usize,
+    /// How long a connection may be idle; none is for ever.
+    pub idle: Option<Duration>,
+}
+
+pub struct Server {
+    limits: Limits,
+    poll: Poll,
+    signals: Signals,
+    listener: TcpListener,
+    places: Places,
+    /// The connections that are to be served next.
+    queue: Vec<usize>,
+    batch: Batch,
+    table: Table,
+    saver: Saver,
+    next_tick: Instant,
+    /// Whether the listener waits for the next tick.
+    deaf: bool,
+    /// When a limit that is met may be told again.
+    tell_at: Instant,
+}
+
+/// The system's UNIX time, as far as the library's seconds go.
+pub fn second() -> u32 {
+    match SystemTime::now().duration_since(UNIX_EPOCH) {
+        Ok(time) => u32::try_from(time.as_secs()).unwrap_or(u32::MAX),
+        Err(_) => 0,
+    }
+}
+
+impl Server {
+    pub fn new(
+        listener: TcpListener,
+        table: Table,
+        saver: Saver,
+        limits: Limits,
+    ) -> io::Result<Server> {
+        let poll = Poll::new()?;
+        let signals = Signals::new()?;
+        listener.set_nonblocking(true)?;
+        poll.add(&listener, LISTENER, READABLE)?;
+        poll.add(&signals, SIGNALS, READABLE)?;
+        let now = Instant::now();
+        Ok(Server {
+            limits,
+            poll,
+            signals,
+            listener,
+            places: Places::default(),
+            queue: Vec::new(),
+            batch: Batch::default(),
+            table,
+            saver,
+            next_tick: now,
+            deaf: false,
+            tell_at: now,
+        })
+    }
+
+    /// Serves until a signal comes; then the table is stored.
+    pub fn run(mut self) -> Result<(), Failure> {
+        let mut events = [Event::NONE; EVENTS];
+        loop {
+            let wait = self.waits(Instant::now());
+            let count = self
+                .poll
+                .wait(&mut events, wait)
+                .map_err(|error| because("can't wait for connections", error))?;
+            if !self.turn(&events[..count]) {
+                return self.saver.finish(&self.table, &mut self.signals);
+            }
+        }
+    }
+
+    /// How long nothing has to be done unless something happens.
+    fn waits(&self, now: Instant) -> Option<Duration> {
+        if !self.queue.is_empty() {
+            return Some(Duration::ZERO);
+        }
+        let tick = (self.places.count() > 0 || self.deaf).then_some(self.next_tick);
+        let due = [tick, self.saver.due()].into_iter().flatten().min()?;
+        Some(due.saturating_duration_since(now))
+    }
+
+    /// One turn: what has come is read, served, stored where that is due, and
+    /// answered. False where a signal came.
+    fn turn(&mut self, events: &[Event]) -> bool {
+        let now = Instant::now();
+        let (mut ended, mut callers) = (false, false);
+        for event in events {
+            match event.token() {
+                LISTENER => callers = true,
+                SIGNALS => ended |= self.signals.take(),
+                token => self.move_bytes(token - FIRST, event, now),
+            }
+        }
+        // Places that became free are given again only when all events were seen.
+        if callers {
+            self.accept(now);
+        }
+        ended |= !self.serve(now);
+        if now >= self.next_tick {
+            self.tick(now);
+        }
+        self.saver.look(&self.table, now);
+        !ended
+    }
+
+    /// Reads from a connection and writes to it, as it is ready.
+    fn move_bytes(&mut self, index: usize, event: &Event, now: Instant) {
+        let Some(connection) = self.places.get_mut(index) else {
+            return;
+        };
+        let mut moved = Ok(());
+        if event.is_writable() {
+            moved = connection.flush(now);
+        }
+        if event.is_readable() && moved.is_ok() {
+            moved = connection.receive(now);
+        }
+        match moved {
+            Ok(()) => self.settle(index),
+            Err(_) => self.places.close(index),
+        }
+    }
+
+    /// Sees to what a connection needs next: to be served, to be waited for, or
+    /// to be closed.
+    fn settle(&mut self, index: usize) {
+        let Some(connection) = self.places.get_mut(index) else {
+            return;
+        };
+        connection.shut();
+        if connection.is_over() {
+            self.places.close(index);
+            return;
+        }
+        if connection.can_be_served() && !connection.queued {
+            connection.queued = true;
+            self.queue.push(index);
+        }
+        let wanted = connection.wanted();
+        if wanted != connection.interest {
+            connection.interest = wanted;
+            let changed = self.poll.change(&connection.stream, index + FIRST, wanted);
+            if changed.is_err() {
+                self.places.close(index);
+            }
+        }
+    }
+
+    /// Serves the queue in one call, and sends the replies when they may go
+    /// out. False where a signal came before.
+    fn serve(&mut self, now: Instant) -> bool {
+        if self.queue.is_empty() {
+            return true;
+        }
+        self.serve_queue();
+        if !self.saver.served(&self.table, &mut self.signals, now) {
+            return false;
+        }
+        let sent = Instant::now();
+        if sent.duration_since(now) >= TICK {
+            // Storing was waited for, which is nobody's idleness.
+            self.places.begin_anew(sent);
+        }
+        self.send_replies(sent);
+        true
+    }
+
+    fn serve_queue(&mut self) {
+        let second = second();
+        self.batch.begin();
+        for index in &self.queue {
+            if let Some(connection) = self.places.get_mut(*index) {
+                connection.queued = false;
+            }
+        }
+        let places = &self.places;
+        let input = |index: &usize| Some((*index, places.get(*index)?.input.held()));
+        let mut inputs = self.queue.iter().filter_map(input);
+        if self.queue.len() > 1 {
+            self.batch.serve_together(inputs, &mut self.table, second);
+        } else if let Some((index, input)) = inputs.next() {
+            self.batch
+                .serve_alone(index, input, &mut self.table, second);
+        }
+        self.queue.clear();
+    }
+
+    /// Gives each connection its replies, and sees to what is left.
+    fn send_replies(&mut self, now: Instant) {
+        let shares = std::mem::take(&mut self.batch.shares);
+        for share in &shares {
+            let Some(connection) = self.places.get_mut(share.connection) else {
+                continue;
+            };
+            connection.input.take(share.taken);
+            connection.pending = share.rest == Rest::Again;
+            let mut sent = Ok(());
+            if !share.replies.is_empty() {
+                sent = connection.send(self.batch.replies_of(share), now);
+            }
+            if share.rest == Rest::Ended {
+                connection.leave(now);
+            }
+            match sent {
+                Ok(()) => self.settle(share.connection),
+                Err(_) => self.places.close(share.connection),
+            }
+        }
+        self.batch.shares = shares;
+    }
+
+    /// Takes the connections that wait.
+    fn accept(&mut self, now: Instant) {
+        for _ in 0..ACCEPTS {
+            match self.listener.accept() {
+                Ok((stream, _)) => self.take_in(stream, now),
+                Err(error) if error.kind() == io::ErrorKind::ConnectionAborted => {}
+                Err(error) if is_later(&error) => return,
+                Err(error) => {
+                    self.tell_limit(now, &plain(&error));
+                    self.listen(false);
+                    return;
+                }
+            }
+        }
+    }
+
+    /// Listens, or leaves the callers waiting until the next tick.
+    fn listen(&mut self, on: bool) {
+        let interest = if on { READABLE } else { 0 };
+        if self.poll.change(&self.listener, LISTENER, interest).is_ok() {
+            self.deaf = !on;
+        }
+    }
+
+    /// Takes one connection; above the limit it is told so, or closed.
+    fn take_in(&mut self, stream: TcpStream, now: Instant) {
+        let full = self.places.count() >= self.limits.connections;
+        if full {
+            self.tell_limit(now, "--connections");
+        }
+        if self.places.count() >= self.limits.connections + TOLD {
+            return;
+        }
+        let mut connection = Connection::new(stream, now);
+        let mut ready = connection.make_ready();
+        if full {
+            turn_away(&mut connection, now);
+        }
+        let index = self.places.add(connection);
+        if let Some(connection) = self.places.get(index) {
+            ready = ready.and(self.poll.add(&connection.stream, index + FIRST, READABLE));
+        }
+        match ready {
+            Ok(()) => self.settle(index),
+            Err(_) => self.places.close(index),
+        }
+    }
+
+    /// Tells that a limit is met, at most once a minute.
+    fn tell_limit(&mut self, now: Instant, limit: &str) {
+        if now >= self.tell_at {
+            self.tell_at = now + TELL_EVERY;
+            say(format!(
+                "{} connections are open, which is the limit ({limit}); others wait or are turned away",
+                self.places.count()
+            ));
+        }
+    }
+
+    /// Once a second: closes connections that are late, and listens again.
+    fn tick(&mut self, now: Instant) {
+        self.next_tick = now + TICK;
+        if self.deaf {
+            self.listen(true);
+        }
+        let idle = self.places.close_late(now, self.limits.idle);
+        if idle > 0 {
+            say(format!(
+                "{idle} connections were closed, since nothing moved there for the time of --idle"
+            ));
+        }
+    }
+}
+
+/// Tells a client that there are too many, in an error reply of the library.
+fn turn_away(connection: &mut Connection, now: Instant) {
+    const SERVER_ERROR: u64 = 0x85;
+    const ERROR: u64 = 0x50;
+    let mut reply = [0; REPLY_ROOM];
+    let numbers = [0, ERROR, SERVER_ERROR, 0];
+    if let Ok(size) = write_error(&mut reply, PING, &numbers, b"too many connections") {
+        let _ = connection.send(&reply[..size], now);
+    }
+    connection.leave(now);
+}
+
+/// Listens at an address.
+pub fn listen(address: &str) -> Result<TcpListener, Failure> {
+    TcpListener::bind(address)
+        .map_err(|error| format!("can't listen on {address}: {}", plain(&error)))
+}

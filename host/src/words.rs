@@ -1,0 +1,81 @@
+//! Replies in words for people.
+
+use crate::border::library::Reply;
+use crate::command::{
+    CLEAR, CONTAINS_KEY, GET, GET_WITH_VERSION, PING, PUT_IF_ABSENT, REMOVE, REMOVE_IF_UNMODIFIED,
+    REPLACE,
+};
+use crate::hex::to_digits;
+
+/// The operation code of an error reply.
+const ERROR: u8 = 0x50;
+
+/// How a call went.
+#[derive(Clone, Copy, Debug, PartialEq, Eq)]
+pub enum Went {
+    /// As asked.
+    Done,
+    /// The server's answer is no.
+    No,
+    /// An error reply.
+    Failed,
+}
+
+/// What was asked: the operation, and whether with the value before.
+#[derive(Clone, Copy)]
+pub struct Asked {
+    pub operation: u8,
+    pub previous: bool,
+}
+
+/// Bytes for people: text as it is; what is no text, or has characters that a
+/// terminal obeys, in hexadecimal digits behind 0x.
+pub fn shown(bytes: &[u8]) -> String {
+    match std::str::from_utf8(bytes) {
+        Ok("") => "(empty)".to_string(),
+        Ok(text) if !text.chars().any(char::is_control) => text.to_string(),
+        _ => format!("0x{}", to_digits(bytes)),
+    }
+}
+
+/// The words for a reply, whose parts are in these bytes.
+pub fn of_reply(asked: Asked, reply: &Reply, bytes: &[u8]) -> (Went, String) {
+    if reply.operation == ERROR {
+        let text = shown(&bytes[reply.text.clone()]);
+        let words = format!("the server refuses: {text} (status {:02x})", reply.status);
+        return (Went::Failed, words);
+    }
+    let value = &bytes[reply.value.clone()];
+    let went = if reply.status == 0 {
+        Went::Done
+    } else {
+        Went::No
+    };
+    let mut words = match (asked.operation, reply.status) {
+        (GET, 0) => shown(value),
+        (GET_WITH_VERSION, 0) => format!("version {}: {}", reply.entry_version, shown(value)),
+        (operation, status) => outcome(operation, status).to_string(),
+    };
+    let held = reply.status == 0 || asked.operation == PUT_IF_ABSENT;
+    if asked.previous && held && !value.is_empty() {
+        words.push_str(&format!("; before: {}", shown(value)));
+    }
+    (went, words)
+}
+
+/// The words for a status, by the reply table of docs/PROTOCOL.md.
+fn outcome(operation: u8, status: u8) -> &'static str {
+    match (operation, status) {
+        (PING, _) => "the server answers",
+        (CLEAR, _) => "cleared",
+        (CONTAINS_KEY, 0) => "yes",
+        (CONTAINS_KEY, _) => "no",
+        (REMOVE | REMOVE_IF_UNMODIFIED, 0) => "removed",
+        (REMOVE_IF_UNMODIFIED, 1) => "not removed: the entry has another version",
+        (GET | GET_WITH_VERSION | REMOVE | REMOVE_IF_UNMODIFIED, _) => "there is no such key",
+        (PUT_IF_ABSENT, 1) => "not stored: the key is there",
+        (REPLACE, 1) | (_, 2) => "not stored: there is no such key",
+        (_, 1) => "not stored: the entry has another version",
+        _ => "stored",
+    }
+}

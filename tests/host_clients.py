@@ -1,0 +1,214 @@
+"""Part 3: clients that behave badly: one that never reads, a slow one, too many, idle ones, and connections one after another."""
+import resource
+import socket
+import struct
+import threading
+import time
+
+from board_frames import GET, PING, PUT, frame
+from host_run import Bench, Host, SECONDS, demand, run_part, short, until
+
+ROW = 10_000  # connections one after another
+VALUE = bytes(range(256))
+
+
+def stuff(caller, data, case):
+    """Writes the data again and again until nothing is taken for half a second; gives how many bytes."""
+    sent = 0
+    caller.socket.settimeout(0.5)
+    try:
+        while sent < 200_000_000:
+            sent += caller.socket.send(data[sent % len(data):])
+    except TimeoutError:
+        caller.socket.settimeout(SECONDS)
+        return sent
+    demand(False, case, f'{sent} bytes were taken from a client that does not read')
+    return sent
+
+
+def demand_rest(host, case):
+    """The server waits, and does not turn in vain."""
+    before = host.busy()
+    time.sleep(0.5)
+    demand(host.busy() - before < 0.1, case, f'it is busy for {host.busy() - before} of 0.5 seconds')
+
+
+def never_reads(bench):
+    """It stops being read from, the server does not grow, others are served at once; when it reads, all its replies are there."""
+    with Host(bench.table('never')) as host, host.connect() as good, host.connect() as bad:
+        good.call(PUT, key=b'k', value=VALUE)
+        bad.socket.setsockopt(socket.SOL_SOCKET, socket.SO_SNDBUF, 32768)
+        before = host.memory()
+        one = frame(GET, key=b'k')
+        sent = stuff(bad, one * 1000, 'never reads')
+        grown = host.memory() - before
+        demand(grown < 1000, 'never reads', f'the server grew by {grown} kB')
+        demand_rest(host, 'never reads')
+        begin = time.monotonic()
+        for _ in range(100):
+            demand(good.call(GET, key=b'k').value == VALUE, 'beside one that never reads', 'another value')
+        demand(time.monotonic() - begin < 2, 'beside one that never reads', 'others wait')
+        # Now it reads, slowly first.
+        wanted = b'\xa1\x01\x04\x00\x00\x80\x02' + VALUE
+        count = sent // len(one)
+        for at in range(50):
+            demand(bad.socket.recv(1) == wanted[at:at + 1], 'a slow client', 'another byte')
+            time.sleep(0.002)
+        bad.end()
+        came = wanted[:50] + bad.rest('a slow client')
+        demand(came == wanted * count, 'a slow client', f'{len(came)} bytes came to {count} requests, {short(came[-300:])} at the end')
+        until(lambda: host.files() == files_of(1), 'a client that left', f'{host.files()} files are open')
+    return count
+
+
+def files_of(connections):
+    """Files that a server has with so many connections: three, and folder, two polls, signals and listener."""
+    return 8 + connections
+
+
+def greedy(bench):
+    """One that sends without end, and reads as fast, does not keep another from being served; gives how many calls the other made meanwhile."""
+    with Host(bench.table('greedy')) as host, host.connect() as many, host.connect() as one:
+        one.call(PUT, value=VALUE)
+        many.socket.settimeout(None)
+        data, room, read = frame(GET) * 20_000, bytearray(1 << 20), [0]
+
+        def write():
+            try:
+                while True:
+                    many.socket.sendall(data)
+            except OSError:
+                pass  # it is shut
+
+        def take():
+            try:
+                while count := many.socket.recv_into(room):
+                    read[0] += count
+            except OSError:
+                pass
+
+        threads = [threading.Thread(target=target) for target in (write, take)]
+        for thread in threads:
+            thread.start()
+        calls, begin = [], time.monotonic()
+        while time.monotonic() < begin + 1:
+            before = time.monotonic()
+            one.call(PING)
+            calls.append(time.monotonic() - before)
+        many.socket.shutdown(socket.SHUT_RDWR)
+        for thread in threads:
+            thread.join(SECONDS)
+        demand(max(calls) < 0.5, 'beside a greedy one', f'a call took {max(calls)} seconds')
+        demand(read[0] > 1_000_000, 'a greedy one', f'only {read[0]} bytes were read')
+    return len(calls)
+
+
+def gone(bench):
+    """Clients that are gone in the middle, by a reset, with replies unread: their places are free again."""
+    with Host(bench.table('gone')) as host:
+        for at in range(200):
+            caller = host.connect()
+            caller.send(frame(PUT, value=VALUE) + frame(GET) * (at % 50) + frame(PUT)[:at % 12])
+            reset(caller)
+        until(lambda: host.files() == files_of(0), 'clients that are gone', f'{host.files()} files are open')
+        with host.connect() as caller:
+            demand(caller.call(PING).status == 0, 'clients that are gone', 'no ping is answered')
+    return 200
+
+
+def reset(caller):
+    caller.socket.setsockopt(socket.SOL_SOCKET, socket.SO_LINGER, struct.pack('ii', 1, 0))
+    caller.socket.close()
+
+
+def too_many(bench):
+    """One above the limit gets an error reply and a close, also where it has sent something; the others are served on, and a free place is given again."""
+    with Host(bench.table('limit'), '--connections', '4') as host:
+        callers = [host.connect() for _ in range(4)]
+        for caller in callers:
+            caller.call(PING)
+        for data in (b'', frame(PING, message=77), b'x' * 100_000):
+            with host.connect() as more:
+                try:
+                    more.send(data)
+                except ConnectionError:
+                    pass
+                reply = more.reply(PING)
+                demand((reply.operation, reply.status, reply.message, reply.text) == (0x50, 0x85, 0, b'too many connections'), 'too many', vars(reply))
+                demand(more.rest('too many') == b'', 'too many', 'more came')
+        crowd = [host.connect() for _ in range(100)]  # most of them are closed at once
+        demand(host.files() <= files_of(4 + 16), 'a crowd', f'{host.files()} files are open')
+        for caller in callers:
+            demand(caller.call(PING).status == 0, 'too many', 'those within the limit are not served')
+        for caller in crowd + callers:
+            caller.socket.close()
+        until(lambda: host.files() == files_of(0), 'a crowd', f'{host.files()} files are open')
+        with host.connect() as caller:
+            demand(caller.call(PING).operation == PING + 1, 'too many', 'a free place is not given again')
+        demand(host.words().count('4 connections are open, which is the limit') == 1, 'too many', f'it says {host.words()}')
+    return 103
+
+
+def no_files(bench):
+    """The system gives no more files: callers wait without being lost, and get the places that become free."""
+    limit = (files_of(6), files_of(6))
+    with Host(bench.table('files'), preexec_fn=lambda: resource.setrlimit(resource.RLIMIT_NOFILE, limit)) as host:
+        callers = [host.connect() for _ in range(10)]
+        for caller in callers:
+            caller.send(frame(PING))
+        for caller in callers[:6]:
+            caller.reply(PING)
+        demand_rest(host, 'no files left')
+        callers[9].silent('no files left')
+        for caller in callers[:6]:
+            caller.socket.close()
+        for caller in callers[6:]:
+            caller.reply(PING)
+            caller.socket.close()
+        demand(host.words().count('Too many open files') == 1, 'no files left', f'it says {host.words()}')
+    return 4
+
+
+def idle(bench):
+    """A connection on which nothing moves is closed, also in the middle of a request; one that calls stays."""
+    with Host(bench.table('idle'), '--idle', '1') as host:
+        with host.connect() as quiet, host.connect() as cut, host.connect() as busy:
+            cut.send(frame(PUT)[:5])
+            begin = time.monotonic()
+            while time.monotonic() < begin + 2.5:
+                busy.call(PING)
+                time.sleep(0.1)
+            for caller in (quiet, cut):
+                caller.socket.settimeout(0.1)
+                demand(caller.rest('idle') == b'', 'idle', 'a byte came')
+            demand(busy.call(PING).status == 0, 'idle', 'the busy one is not served')
+            demand('connections were closed' in host.words(), 'idle', f'it says {host.words()}')
+    return 2
+
+
+def in_a_row(bench):
+    """Connections one after another; half of them end by a reset."""
+    with Host(bench.table('row')) as host:
+        request, reply = frame(PING), b'\xa1\x01\x18\x00\x00'
+        before = host.memory()
+        for at in range(ROW):
+            caller = host.connect()
+            caller.send(request)
+            demand(caller.read(len(reply), f'connection {at}') == reply, f'connection {at}', 'another reply')
+            if at % 8:
+                reset(caller)  # leaves no waiting state in the system
+            else:
+                caller.socket.close()
+        until(lambda: host.files() == files_of(0), 'in a row', f'{host.files()} files are open')
+        demand(host.memory() - before < 1000, 'in a row', f'the server grew by {host.memory() - before} kB')
+    return ROW
+
+
+def part():
+    with Bench() as bench:
+        return (f'{never_reads(bench)} requests of a client that does not read, {greedy(bench)} beside a greedy one, {gone(bench)} gone in the middle, {too_many(bench)} too many, '
+                f'{no_files(bench)} without a file, {idle(bench)} idle, {in_a_row(bench)} in a row')
+
+
+if __name__ == '__main__':
+    run_part('3 clients', part)

@@ -1,0 +1,130 @@
+"""Part 6: storing fails since the disk is full. The file stays whole; it is said in words, once; and it is stored when there is room again.
+
+A limit on the size of files stands for a full disk, and can be lifted while the server runs; a small tmpfs is filled where mounting is permitted.
+"""
+import os
+import resource
+import signal
+import subprocess
+import time
+
+from board_frames import GET, PUT, entry_line, frame, head_line
+from host_run import Bench, Host, demand, read_file, run_part, short, until, write_file
+
+OLD = head_line(4) + entry_line(4, b'k', b'old')
+NEW = head_line(5) + entry_line(5, b'k', b'new')
+NONE = resource.RLIM_INFINITY
+CROWD = 400  # more connections than the server looks at in one turn
+
+
+def limit_size(most):
+    """In the child: no file grows above so many bytes, and trying is an error and no signal."""
+    def limit():
+        signal.signal(signal.SIGXFSZ, signal.SIG_IGN)
+        resource.setrlimit(resource.RLIMIT_FSIZE, (most, NONE))
+    return limit
+
+
+def lift(host):
+    resource.prlimit(host.run.pid, resource.RLIMIT_FSIZE, (NONE, NONE))
+
+
+class Limited(Host):
+    """A server that can't write files above so many bytes."""
+
+    def __init__(self, table, *options):
+        super().__init__(table, *options, preexec_fn=limit_size(10), restore_signals=False)
+
+
+def tidy(host, case):
+    """The file is the old one, nothing is beside it, and the failure is told once."""
+    demand(read_file(host.table) == OLD, case, f'the file is {short(read_file(host.table))}')
+    demand(os.listdir(os.path.dirname(host.table)) == ['table'], case, f'{os.listdir(os.path.dirname(host.table))}')
+    told = host.words().count("can't store the table")
+    demand(told == 1, case, f'told {told} times: {host.words()}')
+
+
+def second(bench):
+    """Without --sync always: requests are served, and the change is stored when there is room."""
+    with Limited(bench.table('second', OLD)) as host, host.connect() as caller:
+        demand(caller.call(PUT, key=b'k', value=b'new').status == 0, 'a full disk', 'the put is not served')
+        until(lambda: "can't store the table" in host.words(), 'a full disk', 'nothing is said')
+        demand(caller.call(GET, key=b'k').value == b'new', 'a full disk', 'the put was not done')
+        time.sleep(1.2)  # it is tried again meanwhile
+        tidy(host, 'a full disk')
+        lift(host)
+        until(lambda: read_file(host.table) == NEW, 'room again', 'the table is not stored', 3)
+        until(lambda: 'the table is stored again' in host.words(), 'room again', 'nothing is said', 3)
+    return 1
+
+
+def always(bench):
+    """With --sync always: no reply, to anybody, until there is room; then all of them, and nobody was idle meanwhile."""
+    with Limited(bench.table('always', OLD), '--sync', 'always', '--idle', '3') as host, host.connect() as one, host.connect() as other:
+        demand(other.call(GET, key=b'k').value == b'old', 'a full disk', 'a get is not served, though nothing is to be stored')
+        crowd = [host.connect() for _ in range(CROWD)]
+        one.send(frame(PUT, key=b'k', value=b'new'))
+        until(lambda: "can't store the table" in host.words(), 'a full disk', 'nothing is said')
+        for caller in [other, *crowd]:
+            caller.send(frame(GET, key=b'k'))
+        one.silent('a put on a full disk', 4)
+        other.silent('a get behind a put on a full disk')
+        tidy(host, 'a full disk')
+        lift(host)
+        demand(one.reply(PUT).status == 0 and read_file(host.table) == NEW, 'room again', f'the file is {short(read_file(host.table))} at the reply')
+        for caller in [other, *crowd]:
+            demand(caller.reply(GET).value == b'new', 'room again', 'another value')
+            caller.socket.close()
+    return 2 + CROWD
+
+
+def ends(bench):
+    """A signal while the disk is full: it tries on; with room it stores and ends with 0, and a second signal ends it with 1 and a word."""
+    for sync in ('second', 'always'):
+        for room in (True, False):
+            case = f'--sync {sync}, a signal on a full disk, room {room}'
+            with Limited(bench.table('ends', OLD), '--sync', sync) as host, host.connect() as caller:
+                caller.send(frame(PUT, key=b'k', value=b'new'))
+                until(lambda: "can't store the table" in host.words(), case, 'nothing is said')
+                host.run.send_signal(signal.SIGTERM)
+                time.sleep(0.2)
+                demand(host.run.poll() is None, case, f'it ended with {host.run.returncode}, and the change is lost')
+                if room:
+                    lift(host)
+                    demand(host.run.wait(timeout=5) == 0 and read_file(host.table) == NEW, case, f'{host.run.returncode} {host.words()}')
+                else:
+                    demand(host.stop() == 1 and 'ended before the table could be stored' in host.words(), case, f'{host.run.returncode} {host.words()}')
+                    tidy(host, case)
+    return 4
+
+
+def pages(bench):
+    """A file system without room, and then with some; nothing where mounting is refused."""
+    folder = os.path.join(bench.top, 'disk')
+    os.mkdir(folder)
+    if subprocess.run(['mount', '-t', 'tmpfs', '-o', 'size=16384', 'host', folder], stderr=subprocess.DEVNULL, check=False).returncode != 0:
+        return 'mounting is refused here'
+    table, filler = os.path.join(folder, 'table'), os.path.join(folder, 'filler')
+    try:
+        write_file(table, OLD)
+        write_file(filler, b'x' * 12288)
+        with Host(table, '--sync', 'always') as host, host.connect() as caller:
+            caller.send(frame(PUT, key=b'k', value=b'new'))
+            until(lambda: 'No space left' in host.words(), 'a full file system', 'nothing is said')
+            caller.silent('a full file system')
+            demand(read_file(table) == OLD, 'a full file system', f'the file is {short(read_file(table))}')
+            os.unlink(filler)
+            demand(caller.reply(PUT).status == 0 and read_file(table) == NEW, 'room again', f'the file is {short(read_file(table))}')
+            demand(os.listdir(folder) == ['table'], 'room again', f'{os.listdir(folder)}')
+    finally:
+        subprocess.run(['umount', folder], check=True)
+    return '1 full file system'
+
+
+def part():
+    with Bench() as bench:
+        return f'{second(bench)} served on, {always(bench)} held until there is room, {ends(bench)} ended on a full disk, {pages(bench)}'
+
+
+if __name__ == '__main__':
+    run_part('6 full disk', part)

@@ -1,0 +1,178 @@
+"""Part 7: the commands for people, encode and decode, and what README shows."""
+import os
+import re
+import shutil
+import socket
+import subprocess
+import threading
+
+from board_frames import CLEAR, CONTAINS_KEY, GET, GET_WITH_VERSION, PING, PUT, PUT_IF_ABSENT, REMOVE, REMOVE_IF_UNMODIFIED, REPLACE, REPLACE_IF_UNMODIFIED, frame
+from host_run import BOARD, Bench, HOST, Host, SECONDS, TOP, demand, read_file, run_part, write_file
+
+CONTROL, BYTES = b'a\nb', b'\xff\x00'.replace(b'\x00', b'\x80')
+# Words, what is printed, and the status.
+TALK = [('ping', 'the server answers', 0), ('put b1 Ida --lifespan 100', 'stored', 0), ('get b1', 'Ida', 0), ('getwithversion b1', 'version 1: Ida', 0),
+        ('get b2', 'there is no such key', 2), ('getwithversion b2', 'there is no such key', 2), ('contains b1', 'yes', 0), ('contains b2', 'no', 2),
+        ('put b1 Bo --previous --max-idle 5', 'stored; before: Ida', 0), ('put b2 x --previous', 'stored', 0), ('putifabsent b1 x', 'not stored: the key is there', 2),
+        ('putifabsent b1 x --previous', 'not stored: the key is there; before: Bo', 2), ('putifabsent b3 x --previous', 'stored', 0),
+        ('replace b9 x', 'not stored: there is no such key', 2), ('replace b3 y --previous', 'stored; before: x', 0),
+        ('replaceifunmodified b3 z --version 1', 'not stored: the entry has another version', 2),
+        ('replaceifunmodified b3 z --version 5 --previous', 'stored; before: y', 0), ('replaceifunmodified b9 z --version 5', 'not stored: there is no such key', 2),
+        ('removeifunmodified b3 --version 1', 'not removed: the entry has another version', 2), ('removeifunmodified b3 --version 6 --previous', 'removed; before: z', 0),
+        ('removeifunmodified b3 --version 6', 'there is no such key', 2), ('remove b2', 'removed', 0), ('remove b2 --previous', 'there is no such key', 2),
+        ('put -- --key --value', 'stored', 0), ('get -- --key', '--value', 0), ('clear', 'cleared', 0), ('get b1', 'there is no such key', 2)]
+WRONG = [('nothing b1', 'there is no command'), ('get', 'is followed by KEY'), ('get a b', 'is followed by KEY'), ('put a', 'is followed by KEY VALUE'),
+         ('ping x', 'is followed by no words'), ('get a --lifespan 5', 'no option --lifespan'), ('put a b --lifespan', 'needs a value'),
+         ('put a b --lifespan 4294967296', 'has to be a number from 0 to 4294967295'), ('put a b --lifespan -1', 'has to be a number'),
+         ('removeifunmodified a', 'needs --version N'), ('put ' + 'k' * 65 + ' v', 'refused 16'), ('put k ' + 'v' * 257, 'refused 16'),
+         ('encode get', 'is followed by KEY'), ('decode', 'is followed by REQUESTS'), ('decode /nowhere', "can't open /nowhere")]
+
+
+def run(words, **more):
+    return subprocess.run([HOST, *words], capture_output=True, timeout=SECONDS, check=False, **more)
+
+
+def talk(bench):
+    with Host(bench.table('people')) as host:
+        to = ['--to', f'127.0.0.1:{host.port}']
+        for words, wanted, status in TALK:
+            words = words.split()
+            done = run(words[:1] + to + words[1:])
+            demand((done.stdout.decode(), done.returncode, done.stderr) == (wanted + '\n', status, b''), ' '.join(words), f'{done}, wanted {wanted!r}')
+        for value, shown in ((b'', '(empty)'), ('Äß'.encode(), 'Äß'), (CONTROL, '0x610a62'), (BYTES, '0xff80'), (b'v' * 256, 'v' * 256)):
+            run([b'put', b'v', value] + to)
+            done = run(['get', 'v'] + to)
+            demand(done.stdout.decode() == shown + '\n', f'a value {value}', f'{done}, wanted {shown!r}')
+        with host.connect() as caller:
+            for at in range(128):
+                caller.call(PUT, key=b'%d' % at)
+        done = run(['put', 'more', 'x'] + to)
+        demand(done.returncode == 1 and done.stderr == b'feyqoolad: the server refuses: full (status 85)\n' and not done.stdout, 'a full table', f'{done}')
+        gone = host.port
+    for words, wanted in WRONG:
+        done = run(words.split())
+        demand(done.returncode == 1 and wanted in done.stderr.decode() and not done.stdout, words, f'{done}, wanted {wanted!r}')
+    done = run(['ping', '--to', f'127.0.0.1:{gone}'])
+    demand(done.returncode == 1 and b"can't reach a server" in done.stderr, 'no server', f'{done}')
+    return len(TALK) + len(WRONG) + 7
+
+
+def strange_servers():
+    """Servers that answer with something else: each is told in words."""
+    answers = [(b'', 'was closed before the reply'), (b'\xa1\x01', 'was closed before the reply'), (b'HTTP/1.1 400', 'is not a reply'),
+               (b'\xa1\x02\x18\x00\x00', 'is to another request'), (b'\xa1\x01\x18\x01\x00', 'is not a reply')]
+    with socket.create_server(('127.0.0.1', 0)) as server:
+        for answer, wanted in answers:
+            def serve():
+                connection = server.accept()[0]
+                with connection:
+                    connection.recv(100)
+                    connection.sendall(answer)
+            thread = threading.Thread(target=serve)
+            thread.start()
+            done = run(['ping', '--to', f'127.0.0.1:{server.getsockname()[1]}'])
+            thread.join(SECONDS)
+            demand(done.returncode == 1 and wanted in done.stderr.decode(), f'a server that answers {answer}', f'{done}')
+    return len(answers)
+
+
+ENCODED = [('put b1 Ida --lifespan 100 --max-idle 7', frame(PUT, key=b'b1', value=b'Ida', lifespan=100, idle=7, version=12)),
+           ('get b1', frame(GET, key=b'b1', version=12)), ('putifabsent b1 x --previous', frame(PUT_IF_ABSENT, key=b'b1', value=b'x', flags=1, version=12)),
+           ('replace b1 x', frame(REPLACE, key=b'b1', value=b'x', version=12)), ('remove b1', frame(REMOVE, key=b'b1', version=12)),
+           ('replaceifunmodified b1 x --version 300', frame(REPLACE_IF_UNMODIFIED, key=b'b1', value=b'x', entry_version=300, version=12)),
+           ('removeifunmodified b1 --version 18446744073709551615', frame(REMOVE_IF_UNMODIFIED, key=b'b1', entry_version=2 ** 64 - 1, version=12)),
+           ('contains b1', frame(CONTAINS_KEY, key=b'b1', version=12)), ('getwithversion b1', frame(GET_WITH_VERSION, key=b'b1', version=12)),
+           ('clear', frame(CLEAR, version=12)), ('ping', frame(PING, version=12))]
+DECODED = '''ping: the server answers
+put b1: stored
+getwithversion b1: version 1: Ida
+removeifunmodified b1: not removed: the entry has another version
+?: the server refuses: bad magic (status 81)
+'''
+
+
+def lines(bench):
+    """Encoded lines are the papers' bytes; decoded replies are words; ./board is between them."""
+    for words, data in ENCODED:
+        done = run(['encode', *words.split(), '--second', '255'])
+        demand(done.stdout == b'000000ff ' + data.hex().encode() + b'\n', f'encode {words}', f'{done}')
+    requests = os.path.join(bench.top, 'requests')
+    shown = [os.path.join(TOP, 'crates/board/data/requests'), os.path.join(TOP, 'tests/paper/example.replies')]
+    done = run(['decode', *shown])
+    demand((done.stdout.decode(), done.returncode) == (DECODED, 0), 'decode', f'{done}')
+    write_file(requests, b''.join(run(['encode', *words.split()]).stdout for words, _ in ENCODED) + b'no line\n00000000 a0\n')
+    replies = subprocess.run([BOARD, 'serve', requests], capture_output=True, check=True).stdout
+    done = run(['decode', requests], input=replies)
+    said = done.stdout.decode().splitlines()
+    demand(said[1] == 'get b1: Ida' and said[2] == 'putifabsent b1: not stored: the key is there; before: Ida', 'decode', f'{done}')
+    demand(said[-2:] == ['?: refused 14: not a request line', '?: refused 15: not exactly one request'] and len(said) == 13, 'decode', f'{done}')
+    for change in (replies[:replies.rindex(b'\n', 0, -1) + 1], replies + b'a101180000\n'):
+        done = run(['decode', requests], input=change)
+        demand(done.returncode == 1 and b'replies than requests' in done.stderr, 'decode', f'{done}')
+    return len(ENCODED) + 4
+
+
+TOOLS = ('bash', 'cat', 'find', 'flock', 'mkdir', 'readlink', 'touch')
+
+
+def script(bench):
+    """The script through a link and from elsewhere; help without a program; what it says where it can't build, with stand-ins for the tools."""
+    if HOST != os.path.join(TOP, 'feyqoolad'):
+        return 0
+    link, at = os.path.join(bench.top, 'link'), os.path.join(bench.top, 'clone')
+    os.symlink(HOST, link)
+    done = subprocess.run(['bash', '-c', 'cd / && CDPATH=/tmp: PATH=$0:$PATH link --version', bench.top], capture_output=True, check=False)
+    demand(done.returncode == 0 and done.stdout.startswith(b'feyqoolad 1.0') and not done.stderr, 'through a link', f'{done}')
+    os.makedirs(os.path.join(at, 'host/src'))
+    os.makedirs(os.path.join(at, 'crates/exports/src'))
+    os.makedirs(os.path.join(at, 'bin'))
+    shutil.copy(HOST, at)
+    shutil.copy(os.path.join(TOP, 'host/src/usage.txt'), os.path.join(at, 'host/src'))
+    for tool in TOOLS:
+        os.symlink(shutil.which(tool), os.path.join(at, 'bin', tool))
+    steps = [('help', None, b''), ('ping', None, b'the Rattle toolchain (rt) is not there'), ('ping', ('rt', 'exit 1'), b'the library was not built'),
+             ('ping', ('rt', 'mkdir -p target/staticlib && touch target/staticlib/libexports.a'), b'the Rust compiler (cargo) is not there'),
+             ('ping', ('cargo', 'exit 1'), b'the program was not built')]
+    for word, tool, wanted in steps:
+        if tool:
+            path = os.path.join(at, 'bin', tool[0])
+            write_file(path, f'#!{os.path.join(at, "bin/bash")}\n{tool[1]}\n'.encode())
+            os.chmod(path, 0o755)
+        done = subprocess.run([os.path.join(at, 'bin/bash'), os.path.join(at, 'feyqoolad'), word], env={'PATH': os.path.join(at, 'bin')},
+                              capture_output=True, check=False)
+        demand(done.returncode == (1 if wanted else 0) and wanted in done.stderr, f'{word} with {tool}', f'{done}')
+        demand((b'Nothing was done.' in done.stderr) == bool(wanted), f'{word} with {tool}', f'{done}')
+    return len(steps) + 1
+
+
+def documents():
+    """README's commands are among those tried above, with the words that README shows."""
+    readme = read_file(os.path.join(TOP, 'README.md')).decode()
+    shown = {'put b1 Ida --lifespan 100': 'stored', 'getwithversion b1': 'version 1: Ida'}
+    for words, said in shown.items():
+        demand((words, said, 0) in TALK and f'./feyqoolad {words}\n' in readme and f'`{said}`' in readme, 'README', f'it does not show {words}')
+    for word in ('./feyqoolad serve table.txt', '127.0.0.1:11222', 'tested and not proved', *{f'`{one.split()[0]}`' for one, _, _ in TALK}):
+        demand(word in readme, 'README', f'it does not tell {word}')
+    return len(shown)
+
+
+def outputs():
+    """Standard output that takes nothing is an error and no silence; help tells the commands and the statuses."""
+    for words in (['--version'], ['encode', 'ping']):
+        with open('/dev/full', 'wb') as taken:
+            done = subprocess.run([HOST, *words], stdout=taken, stderr=subprocess.PIPE, check=False)
+        demand(done.returncode == 1 and b"can't write" in done.stderr, f'{words} > /dev/full', f'{done}')
+    text = run(['help']).stdout.decode()
+    words = [one.split()[0] for one, _, _ in TALK] + ['serve', 'encode', 'decode', '--sync', '--idle', '--connections', '--to', 'exit status']
+    demand(all(re.search(rf'(?<![a-z]){word}(?![a-z])', text) for word in words), 'help', f'a word is missing in {text}')
+    demand(run([]).stdout.decode() == text and run(['-h']).stdout.decode() == text, 'help', 'other words')
+    return 5
+
+
+def part():
+    with Bench() as bench:
+        return f'{talk(bench)} commands, {strange_servers()} strange servers, {lines(bench)} lines, {outputs()} outputs, {script(bench)} of the script, {documents()} commands of README'
+
+
+if __name__ == '__main__':
+    run_part('7 people', part)

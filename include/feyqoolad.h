@@ -47,6 +47,7 @@ extern "C" {
 
 #define FQ_REQUEST_TOLD 16      /* numbers that fq_read_request tells */
 #define FQ_REPLY_TOLD 9         /* fq_read_reply */
+#define FQ_SAME_KEY_TOLD 2      /* fq_same_key */
 #define FQ_SERVE_TOLD 2         /* fq_serve */
 #define FQ_STREAM_TOLD 3        /* fq_serve_stream */
 #define FQ_LINES_TOLD 3         /* fq_serve_lines */
@@ -92,6 +93,10 @@ uint64_t fq_write_request(uint8_t *out, size_t out_len, const uint64_t *numbers,
    request's plus 1, or 0x50), status, entry version. A field that the status does not send is 0 or empty. */
 uint64_t fq_write_reply(uint8_t *out, size_t out_len, uint8_t op, bool flag, const uint64_t *numbers, size_t numbers_len, const uint8_t *value,
                         size_t value_len, const uint8_t *text, size_t text_len);
+
+/* Compares two keys as the table does: their lengths first, then their bytes from the end: FQ_DONE. Told: 1 where they are equal or 0, and how many pairs
+   of bytes were compared: 0 for unlike lengths, else those through the first unlike one, or all. */
+uint64_t fq_same_key(const uint8_t *a, size_t a_len, const uint8_t *b, size_t b_len, uint64_t *answer, size_t answer_len);
 
 /* The table: FQ_TABLE_SIZE bytes of the caller's, which only these functions write. */
 

@@ -163,6 +163,20 @@ static void stream(void) {
     SAME(fq_serve_lines(row, 0, other, sizeof other, out.at, FQ_LINES_ROOM, false, true, answer, FQ_LINES_TOLD), FQ_DONE);
 }
 
+/* Keys: two that are equal, empty ones, those that differ at the last, a middle and the first byte, and one that is longer. */
+static void keys(void) {
+    static const struct { const char *a, *b; uint64_t equal, pairs; } cases[] = {
+        {"berth/12", "berth/12", 1, 8}, {"", "", 1, 0}, {"berth/12", "berth/13", 0, 1}, {"berth/12", "berth-12", 0, 3}, {"berth/12", "Berth/12", 0, 8},
+        {"berth/12", "berth/123", 0, 0}, {"", "b", 0, 0},
+    };
+    for (size_t at = 0; at < sizeof cases / sizeof *cases; at++) {
+        const char *a = cases[at].a, *b = cases[at].b;
+        SAME(fq_same_key((const uint8_t *)a, strlen(a), (const uint8_t *)b, strlen(b), answer, FQ_SAME_KEY_TOLD), FQ_DONE);
+        SAME(answer[0], cases[at].equal);
+        SAME(answer[1], cases[at].pairs);
+    }
+}
+
 /* A list for the answer that is one number too short: 12, and nothing is done. */
 static void short_lists(void) {
     static const uint8_t put[] = {0xa0, 0x02, 0x0a, 0x01, 0, 0, 1, 0, 0, 2, 'b', '1', 0, 0, 1, 'x'}, pong[] = {0xa1, 0x01, 0x18, 0, 0};
@@ -177,6 +191,7 @@ static void short_lists(void) {
     memcpy(untold, answer, sizeof answer);
     SAME(fq_read_request(put, sizeof put, answer, FQ_REQUEST_TOLD - 1), FQ_NO_ROOM);
     SAME(fq_read_reply(pong, sizeof pong, 0x17, false, answer, FQ_REPLY_TOLD - 1), FQ_NO_ROOM);
+    SAME(fq_same_key(put, 1, put, 1, answer, FQ_SAME_KEY_TOLD - 1), FQ_NO_ROOM);
     SAME(fq_serve(put, sizeof put, other, sizeof other, 0, reply, FQ_REPLY_ROOM, answer, FQ_SERVE_TOLD - 1), FQ_NO_ROOM);
     SAME(fq_serve_stream(put, sizeof put, other, sizeof other, 0, reply, FQ_REPLY_ROOM, answer, FQ_STREAM_TOLD - 1), FQ_NO_ROOM);
     SAME(fq_serve_lines(line, sizeof line - 1, other, sizeof other, reply, FQ_LINES_ROOM, false, true, answer, FQ_LINES_TOLD - 1), FQ_NO_ROOM);
@@ -208,9 +223,10 @@ int main(int count, char **words) {
     by_lines(1);
     by_file();
     messages();
+    keys();
     stream();
     short_lists();
     longest_file();
-    printf("library: the paper's five requests from C, by calls, by lines and by a file; messages, streams, lists that are too short and the longest file\n");
+    printf("library: the paper's five requests from C, by calls, by lines and by a file; messages, keys, streams, lists that are too short and the longest file\n");
     return 0;
 }

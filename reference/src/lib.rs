@@ -10,6 +10,7 @@
 
 pub mod fields;
 pub mod hex;
+pub mod keys;
 pub mod lines;
 pub mod map;
 pub mod number;
@@ -21,6 +22,7 @@ pub mod stored;
 pub mod text;
 
 pub use fields::{read_limited, read_limited_text, read_version, Read};
+pub use keys::{same_key, Compared};
 pub use lines::{serve_line, serve_lines, serve_reader};
 pub use map::{is_table, step, Entry, Table};
 pub use number::{read_number, write_number};

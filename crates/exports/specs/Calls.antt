@@ -1,10 +1,11 @@
--- What the exported serving functions tell of a call.
+-- What the exported functions on keys, tables and calls tell.
 use mathlib.Core.Path.{_≡_}
 use mathlib.Core.List.{List, [], _∷_}
 use mathlib.Core.Bool.{Bool, true, false}
 use Prim.Native.Nat.{ℕ}
 use Rattle.wire.specs.Write.{Sent}
 use Rattle.map.specs.Step.{Context}
+use Rattle.table.specs.declared.Compared.{Compared}
 use Rattle.table.specs.declared.Outcome.{Outcome}
 use Rattle.table.specs.declared.Outcome.the-variants as o
 use Rattle.service.specs.Serve.{Verdict, served, more, refused, full}
@@ -51,6 +52,10 @@ pub record TellsTotal (c : Context) (input t lent out t' old new : List ℕ) (n 
 abbrev pub bit : Bool → ℕ
 bit true = 1
 bit false = 0
+
+-- 1 is told of equal keys, and how many pairs of bytes were compared
+abbrev pub keysCompared : Compared → List ℕ
+keysCompared c = bit (c .equal) ∷ c .pairs ∷ []
 
 abbrev pub servedCode : Served → ℕ
 servedCode (s.Fed f) = 256

@@ -10,9 +10,10 @@ ghost use Rattle.message.specs.Request.{request};
 ghost use Rattle.message.specs.Reply.{asked, reply};
 ghost use Rattle.request_reader.specs.RequestRead.{requestAt};
 ghost use Rattle.reply_reader.specs.ReplyRead.{replyAt};
+ghost use Rattle.table.specs.Compare.{compared};
 ghost use Rattle.server.specs.Answer.{callOf, contextOf};
-ghost use Rattle.exports.specs.Calls.{TellsDone, TellsTotal, TellsServed};
-ghost use Rattle.exports.specs.Codes.{told};
+ghost use Rattle.exports.specs.Calls.{TellsDone, TellsTotal, TellsServed, keysCompared};
+ghost use Rattle.exports.specs.Codes.{tell, told};
 ghost use Rattle.exports.specs.Messages.{wholeRequest, wholeReply};
 
 pub(crate) fn read_request(input: &[u8], answer: &mut [u64]) -> u64
@@ -41,6 +42,14 @@ pub(crate) fn read_reply(input: &[u8], op: u8, flag: bool, answer: &mut [u64]) -
         ReplyRead::More => 0,
         ReplyRead::Refused(k) => k as u64,
     }
+}
+
+pub(crate) fn same_key(a: &[u8], b: &[u8], answer: &mut [u64])
+    ensures { λ _. ⌜ now (answer .exit) ≡ tell (keysCompared (compared (now (a .entry)) (now (b .entry)))) (now (answer .entry)) ⌝ }
+{
+    let c = table::same_key(a, b);
+    let e = tell::bit(c.equal);
+    tell::numbers(answer, &[e, c.pairs as u64]);
 }
 
 pub(crate) fn serve(

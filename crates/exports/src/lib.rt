@@ -1,6 +1,7 @@
 // The library for other languages: each function takes numbers and slices, for any bytes and any lengths. What the number answered means:
 // fq_read_request, fq_read_reply: 256 and the count of the message's bytes, 0 for more needed, or the refusal 1 to 8;
 // fq_write_request, fq_write_reply: 256 and the count of the bytes written, or 16, 12;
+// fq_same_key: 256 for done;
 // fq_is_table: whether the memory is a sound table; fq_make: 256 for done, or 13;
 // fq_serve: 256 for served, 0 for more needed, or the refusal; fq_serve_stream: the same of the last call, or 257 where the reply buffer has no room
 // for another one;
@@ -19,20 +20,23 @@ ghost use Rattle.message.specs.Reply.{asked, reply};
 ghost use Rattle.request_reader.specs.RequestRead.{requestAt};
 ghost use Rattle.reply_reader.specs.ReplyRead.{replyAt};
 ghost use Rattle.table.specs.Memory.{Sound};
+ghost use Rattle.table.specs.Compare.{compared};
 ghost use Rattle.table.specs.Found.{Tells as Says};
 ghost use Rattle.table.specs.Change.{Left, outcomeOf, made};
 ghost use Rattle.server.specs.Answer.{callOf, contextOf};
-ghost use Rattle.exports.specs.Calls.{TellsDone, TellsTotal, TellsServed, TellsStored, TellsLoaded, outcomeCode, Untold};
-ghost use Rattle.exports.specs.Codes.{coded, told, inRoom, IfRoom};
+ghost use Rattle.exports.specs.Calls.{TellsDone, TellsTotal, TellsServed, TellsStored, TellsLoaded, outcomeCode, keysCompared, Untold};
+ghost use Rattle.exports.specs.Codes.{coded, tell, told, inRoom, IfRoom};
 ghost use Rattle.exports.specs.Messages.{wholeRequest, wholeReply, sendRequest, sendReply};
 
-// How many numbers are told: of a request and of a reply that was read, of a call, of calls one after the other, and of lines.
+// How many numbers are told: of a request and of a reply that was read, of two keys, of a call, of calls one after the other, and of lines.
 pub struct Told {}
 
 impl Told {
     pub const REQUEST: usize = 16;
 
     pub const REPLY: usize = 9;
+
+    pub const KEYS: usize = 2;
 
     pub const CALL: usize = 2;
 
@@ -105,6 +109,19 @@ pub extern "C" fn fq_write_reply(
     }
     let h = given::reply_head(numbers);
     tell::sent(reply_writer::write_reply(out, Asked { op: op, flag: flag }, h, value, text))
+}
+
+// Compares two keys, by their lengths and then by their bytes from the end. Numbers told: 1 where they are equal or 0, and how many pairs of bytes were
+// compared.
+#[no_mangle]
+pub extern "C" fn fq_same_key(a: &[u8], b: &[u8], answer: &mut [u64]) -> u64
+    ensures { λ r. ⌜ (r, now (answer .exit)) ≡ inRoom 2 (now (answer .entry)) (256, tell (keysCompared (compared (now (a .entry)) (now (b .entry)))) (now (answer .entry))) ⌝ }
+{
+    if answer.len() < Told::KEYS {
+        return 12;
+    }
+    calls::same_key(a, b, answer);
+    256
 }
 
 // Whether the memory is a sound table.

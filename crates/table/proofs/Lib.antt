@@ -4,6 +4,7 @@ pub mod RowLaws
 pub mod Order
 pub mod Writes
 pub mod Answers
+pub mod Compare
 pub mod Keys
 pub mod SoundLaws
 pub mod Behind

@@ -9,6 +9,7 @@ ghost use mathlib.Core.Path.{_≡_};
 ghost use Prim.Native.Nat.{_≤_};
 ghost use lib.ListN.{length};
 ghost use Rattle.table.specs.Memory.{stateOf, Sound};
+ghost use Rattle.table.specs.Compare.{compared};
 ghost use Rattle.table.specs.Found.{entryAt, FoundIs, NumberAt, Tells};
 ghost use Rattle.table.specs.Change.{doneOr, Answers, AnswersBy, made, started, added, restored, removed, cleared};
 
@@ -24,9 +25,10 @@ pub enum Outcome {
     Refused(u8),
 }
 
-// What a comparison of two keys tells.
+// What a comparison of two keys tells: whether they are equal, and how many pairs of bytes were compared.
 pub struct Compared {
     pub equal: bool,
+    pub pairs: usize,
 }
 
 // The memory of a table: the count of rows, the last version issued, and the rows.
@@ -75,21 +77,33 @@ impl Row {
     pub const VALUE_START: usize = 96;
 }
 
-// Whether two keys are the same: by their lengths first, then by their bytes from the end, since keys often begin alike.
+// Whether two keys are equal: by their lengths first, then by their bytes from the end, since keys often begin alike. The pairs compared are none for
+// unlike lengths, else those through the first unlike one, or all.
 pub fn same_key(a: &[u8], b: &[u8]) -> Compared
-    ensures { λ r. ⌜ Tells (r .equal) (now (a .entry) ≡ now (b .entry)) ⌝ }
+    ensures { λ r. ⌜ r ≡ compared (now (a .entry)) (now (b .entry)) ⌝ }
 {
-    if a.len() != b.len() {
-        return Compared { equal: false };
+    let all = a.len();
+    if all != b.len() {
+        return Compared {
+            equal: false,
+            pairs: 0,
+        };
     }
-    let mut n = a.len();
-    while 0 < n {
-        n -= 1;
+    let mut alike = 0;
+    while alike < all {
+        let n = all - 1 - alike;
         if a[n] != b[n] {
-            return Compared { equal: false };
+            return Compared {
+                equal: false,
+                pairs: alike + 1,
+            };
         }
+        alike += 1;
     }
-    Compared { equal: true }
+    Compared {
+        equal: true,
+        pairs: all,
+    }
 }
 
 // The outcome of a change that was made or not, of the refusal that it has.

@@ -7,16 +7,17 @@ use reference::map::{LARGEST_DEADLINE, LARGEST_VERSION, LONGEST_SPAN, MOST_KEYS}
 use reference::operation::{sends_entry_version, sends_value, CLEAR, REMOVE};
 use reference::serve::{answer_request, error_id, LEAST_ROOM};
 use reference::{
-    load, read_reply, read_request, serve_line, store, write_reply, write_request, Read, Reply,
-    Request, Table, Verdict,
+    load, read_reply, read_request, same_key, serve_line, store, write_reply, write_request, Read,
+    Reply, Request, Table, Verdict,
 };
 
 use crate::fields::{of_reply, of_request, place, Kind};
 use crate::memory::{self, number, put_number, row_at, COUNT, DEADLINE, LAST, SIZE};
 use crate::messages::{reply_numbers, request_numbers};
 use crate::subject::{
-    read_code, verdict_code, write_code, Asked, Piece, ReplyParts, RequestParts, ServesLines,
-    Stores, Subject, FULL, GOOD, REPLY_WORDS, REQUEST_WORDS, SERVE_WORDS, STREAM_WORDS, UNTOLD,
+    read_code, verdict_code, write_code, Asked, ComparesKeys, Piece, ReplyParts, RequestParts,
+    ServesLines, Stores, Subject, FULL, GOOD, KEYS_WORDS, REPLY_WORDS, REQUEST_WORDS, SERVE_WORDS,
+    STREAM_WORDS, UNTOLD,
 };
 
 /// What is wrong with an `Echo`.
@@ -89,6 +90,12 @@ pub enum Fault {
     LoadsWithoutEnd,
     LoadTouchesOld,
     LoadsLateDeadline,
+    // Keys.
+    ComparesFromFront,
+    OnePairTooFew,
+    CountsUnlikeLengths,
+    EndingIsEqual,
+    TellsInShortList,
 }
 
 impl Fault {
@@ -699,6 +706,33 @@ impl Stores for Echo {
             return 17;
         };
         memory::encode(&loaded, table);
+        GOOD
+    }
+}
+
+impl ComparesKeys for Echo {
+    fn same_key(&mut self, one: &[u8], other: &[u8], answer: &mut [u64]) -> u64 {
+        if answer.len() < KEYS_WORDS {
+            if self.has(Fault::TellsInShortList) && !answer.is_empty() {
+                answer[0] = 0;
+            }
+            return UNTOLD;
+        }
+        let mut told = same_key(one, other);
+        let common = one.len().min(other.len());
+        match self.fault {
+            Some(Fault::ComparesFromFront) if one.len() == other.len() => {
+                let unlike = one.iter().zip(other).position(|(a, b)| a != b);
+                told.pairs = unlike.map_or(common, |at| at + 1);
+            }
+            Some(Fault::OnePairTooFew) if !told.equal => {
+                told.pairs = told.pairs.saturating_sub(1);
+            }
+            Some(Fault::CountsUnlikeLengths) if one.len() != other.len() => told.pairs = common,
+            Some(Fault::EndingIsEqual) => told.equal |= one.ends_with(other),
+            _ => {}
+        }
+        fill(answer, &[u64::from(told.equal), told.pairs as u64]);
         GOOD
     }
 }

@@ -10,8 +10,8 @@ use reference::hex::to_string;
 #[cfg(feature = "stored")]
 use crate::subject::Stores;
 use crate::subject::{
-    Asked, ReplyParts, RequestParts, Subject, GOOD, REPLY_WORDS, REQUEST_WORDS, SERVE_WORDS,
-    STREAM_WORDS,
+    Asked, ComparesKeys, ReplyParts, RequestParts, Subject, GOOD, KEYS_WORDS, REPLY_WORDS,
+    REQUEST_WORDS, SERVE_WORDS, STREAM_WORDS,
 };
 #[cfg(feature = "lines")]
 use crate::subject::{Piece, ServesLines, LINES_WORDS};
@@ -86,6 +86,15 @@ extern "C" {
     fn fq_is_table(table: *const u8, table_len: usize) -> u8;
 
     fn fq_make(table: *mut u8, table_len: usize) -> u64;
+
+    fn fq_same_key(
+        one: *const u8,
+        one_len: usize,
+        other: *const u8,
+        other_len: usize,
+        answer: *mut u64,
+        answer_len: usize,
+    ) -> u64;
 }
 
 #[cfg(feature = "lines")]
@@ -309,6 +318,28 @@ impl Subject for Library {
         // SAFETY: the slice is lent for the call, with its length.
         let code = unsafe { fq_make(table.as_mut_ptr(), table.len()) };
         check_code("fq_make", code, 0, &[]);
+        code
+    }
+}
+
+impl ComparesKeys for Library {
+    fn same_key(&mut self, one: &[u8], other: &[u8], answer: &mut [u64]) -> u64 {
+        // SAFETY: all slices are lent for the call, with their lengths, and
+        // the answer overlaps none of the others.
+        let code = unsafe {
+            fq_same_key(
+                one.as_ptr(),
+                one.len(),
+                other.as_ptr(),
+                other.len(),
+                answer.as_mut_ptr(),
+                answer.len(),
+            )
+        };
+        check_code("fq_same_key", code, 0, one);
+        if code == GOOD && answer.len() >= KEYS_WORDS {
+            check_words("fq_same_key", answer, &[1, one.len()], one);
+        }
         code
     }
 }

@@ -7,7 +7,8 @@
 //! can be put into it.
 //!
 //! The parts: `messages` (a), `serving` (b), `streams` (c), `tables` (d),
-//! `values` (e), `lines` (f), `stored` (g), `edges` (h), `dates` (i).
+//! `values` (e), `lines` (f), `stored` (g), `edges` (h), `dates` (i),
+//! `keys` (j).
 //!
 //! `cargo test --offline` tests the harness without the library. With it:
 //! `cargo run --release --offline --features library,lines,stored -- quick`;
@@ -26,6 +27,7 @@ pub mod edges;
 #[cfg(feature = "library")]
 pub mod ffi;
 pub mod fields;
+pub mod keys;
 pub mod lent;
 pub mod lines;
 pub mod make;

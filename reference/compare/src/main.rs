@@ -67,6 +67,7 @@ fn number(words: &[&str], at: usize, usual: u64) -> Option<u64> {
 fn parts() -> Vec<Part<Library>> {
     #[allow(unused_mut)]
     let mut parts = run::parts();
+    parts.push(run::keys_part());
     #[cfg(feature = "lines")]
     parts.push(run::lines_part());
     #[cfg(feature = "stored")]

@@ -5,9 +5,9 @@ use std::time::{Duration, Instant};
 
 use crate::chance::Chance;
 use crate::difference::{Difference, Outcome};
-use crate::subject::{ServesLines, Stores, Subject};
+use crate::subject::{ComparesKeys, ServesLines, Stores, Subject};
 use crate::trial::{Counts, Trial};
-use crate::{dates, edges, lines, messages, serving, stored, streams, tables, values};
+use crate::{dates, edges, keys, lines, messages, serving, stored, streams, tables, values};
 
 /// One part, and how many rounds of it a quick run plays. A long run plays
 /// the parts in the same proportion.
@@ -58,6 +58,11 @@ pub fn stored_part<S: Stores>() -> Part<S> {
 /// Part i, deadlines.
 pub fn dates_part<S: ServesLines + Stores>() -> Part<S> {
     part(8, "dates", 12, dates::round)
+}
+
+/// Part j, keys.
+pub fn keys_part<S: ComparesKeys>() -> Part<S> {
+    part(9, "keys", 40, keys::round)
 }
 
 /// Plays one round. The same seed, part and round are the same inputs.

@@ -18,6 +18,7 @@ pub const REPLY_WORDS: usize = 9;
 pub const SERVE_WORDS: usize = 2;
 pub const STREAM_WORDS: usize = 3;
 pub const LINES_WORDS: usize = 3;
+pub const KEYS_WORDS: usize = 2;
 
 /// The numbers a writer is given.
 pub const REQUEST_NUMBERS: usize = 9;
@@ -110,6 +111,11 @@ pub trait Stores: Subject {
     fn store(&mut self, table: &[u8], out: &mut [u8]) -> u64;
 
     fn load(&mut self, file: &[u8], table: &mut [u8]) -> u64;
+}
+
+/// Keys.
+pub trait ComparesKeys: Subject {
+    fn same_key(&mut self, one: &[u8], other: &[u8], answer: &mut [u64]) -> u64;
 }
 
 pub fn read_code<T>(read: &Read<T>) -> u64 {

@@ -2,7 +2,7 @@
 //! and each fault is found by its part.
 
 use compare::echo::{Echo, Fault};
-use compare::run::{dates_part, lines_part, parts, play, stored_part, Part};
+use compare::run::{dates_part, keys_part, lines_part, parts, play, stored_part, Part};
 use compare::subject::GOOD;
 use compare::trial::Counts;
 
@@ -13,6 +13,7 @@ fn all_parts() -> Vec<Part<Echo>> {
     all.push(lines_part());
     all.push(stored_part());
     all.push(dates_part());
+    all.push(keys_part());
     all
 }
 
@@ -104,6 +105,24 @@ fn stored_tables_are_alike() {
 #[test]
 fn deadlines_are_those_worked_out_by_hand() {
     all_given(&sound_rounds("dates", 1), &[GOOD, 0, 12]);
+}
+
+#[test]
+fn keys_are_compared_alike() {
+    all_given(&sound_rounds("keys", 1), &[GOOD, 12]);
+}
+
+#[test]
+fn faults_of_keys_are_found() {
+    use Fault::*;
+    let faults = [
+        ComparesFromFront,
+        OnePairTooFew,
+        CountsUnlikeLengths,
+        EndingIsEqual,
+        TellsInShortList,
+    ];
+    are_found("keys", &faults);
 }
 
 #[test]

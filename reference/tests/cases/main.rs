@@ -2,6 +2,7 @@
 
 mod chance;
 mod help;
+mod keys;
 mod lines;
 mod map;
 mod number;

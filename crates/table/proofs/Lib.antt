@@ -6,6 +6,7 @@ pub mod Writes
 pub mod Answers
 pub mod Compare
 pub mod Keys
+pub mod Marks
 pub mod SoundLaws
 pub mod Behind
 pub mod Restores

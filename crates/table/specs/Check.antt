@@ -1,7 +1,8 @@
 -- What the row functions find in memory of the right length, row by row.
 use mathlib.Core.Path.{_≡_}
 use mathlib.Core.List.{List}
-use Prim.Native.Nat.{ℕ, _+_, _≤_, _<_}
+use Prim.Native.Nat.{ℕ, _+_, _-_, _%_, _≤_, _<_}
+use lib.ListN.{length}
 use Rattle.message.specs.Request.{keyLimit, valueLimit}
 use Rattle.map.specs.Table.{lastDeadline}
 use Rattle.table.specs.Bytes.{be8}
@@ -36,3 +37,11 @@ pub record Rising (t : List ℕ) (n top : ℕ) : Type 0 where
   pub first : (i : ℕ) → i < n → 1 ≤ be8 t (rowAt i)
   pub rise : (i : ℕ) → i + 1 < n → be8 t (rowAt i) < be8 t (rowAt (i + 1))
   pub most : (i : ℕ) → i < n → be8 t (rowAt i) ≤ top
+
+-- no row before row i has the key
+abbrev pub NoneBefore : List ℕ → List ℕ → ℕ → Type 0
+NoneBefore t k i = (j : ℕ) → j < i → Has t k j → ⊥
+
+-- a number that equal keys share: that of the last eight bytes, modulo a prime. Of a shorter key the bytes behind its end count as 0
+unfoldable pub markOf : List ℕ → ℕ
+markOf k = be8 k (length k - 8) % 8179

@@ -9,13 +9,14 @@ use crate::rows;
 use field::EntryVersion;
 use field::Second;
 ghost use mathlib.Core.Path.{_≡_};
-ghost use Prim.Native.Nat.{_+_, _≤_};
+ghost use mathlib.Core.Bool.{true};
+ghost use Prim.Native.Nat.{_+_, _≤_, _<_};
 ghost use lib.ListN.{length};
 ghost use Rattle.table.specs.Bytes.{be8};
 ghost use Rattle.table.specs.Memory.{size, countOf, stateOf};
 ghost use Rattle.table.specs.Found.{Tells};
 ghost use Rattle.table.specs.Change.{newest, fitsRow, hasRoom, fitting, next};
-ghost use Rattle.table.specs.Check.{Within, AllWithin, Rising, Differ};
+ghost use Rattle.table.specs.Check.{Within, AllWithin, Rising, NoneBefore, Differ, markOf};
 
 // Whether the lengths and the deadline of the row at a are within their limits.
 fn within(t: &[u8], a: usize) -> bool
@@ -72,18 +73,47 @@ pub(crate) fn rising(t: &[u8]) -> bool
     true
 }
 
-// Whether no two rows have the same key.
+// A number that equal keys share.
+fn mark(k: &[u8]) -> usize
+    ensures { λ r. ⌜ (r ≡ markOf (now (k .entry))) × (r < 8192) ⌝ }
+{
+    let n = k.len();
+    if n < 8 {
+        return (number::front(k) % 8179) as usize;
+    }
+    (number::get64(k, n - 8) % 8179) as usize
+}
+
+// Whether no row before row i has the key, if that is asked.
+fn apart(t: &[u8], k: &[u8], i: usize, asked: bool) -> bool
+    requires { ⌜ (length (now t) ≡ size) × (i ≤ countOf (now t)) ⌝ }
+    ensures { λ r. ⌜ Tells r (asked ≡ true → NoneBefore (now (t .entry)) (now (k .entry)) i) ⌝ }
+{
+    if !asked {
+        return true;
+    }
+    let found = rows::find_from(t, k, 0);
+    let Found::At(j) = found else {
+        return true;
+    };
+    i <= j
+}
+
+// Whether no two rows have the same key. A key is compared with others only where a row before has its mark.
 pub(crate) fn differ(t: &[u8]) -> bool
     requires { ⌜ length (now t) ≡ size ⌝ }
     ensures { λ r. ⌜ Tells r (Differ (now (t .entry))) ⌝ }
 {
     let n = rows::count(t);
+    let mut seen: [bool; 8192] = [false; 8192];
     let mut i = 0;
     while i < n {
-        let found = rows::find_from(t, rows::key(t, i), i + 1);
-        let Found::Absent = found else {
+        let k = rows::key(t, i);
+        let m = mark(k);
+        if !apart(t, k, i, seen[m]) {
             return false;
-        };
+        }
+        seen[m] = true;
         i += 1;
     }
     true

@@ -1,7 +1,7 @@
 // Eight-byte numbers in a slice, the highest byte first.
 ghost use mathlib.Core.Path.{_≡_};
 ghost use Prim.Native.Nat.{_+_, _≤_, _<_, min};
-ghost use lib.ListN.{length};
+ghost use lib.ListN.{length, getD};
 ghost use Rattle.table.specs.Bytes.{be8};
 ghost use Rattle.table.specs.Write.{put, digits};
 
@@ -24,6 +24,31 @@ pub(crate) fn get64(t: &[u8], a: usize) -> u64
     let b5 = wide(t[a + 5]);
     let b6 = wide(t[a + 6]);
     let b7 = wide(t[a + 7]);
+    ((((((b0 * 256 + b1) * 256 + b2) * 256 + b3) * 256 + b4) * 256 + b5) * 256 + b6) * 256 + b7
+}
+
+// The byte at index i; 0 behind the end.
+fn byte_or_0(t: &[u8], i: usize) -> u64
+    ensures { λ r. ⌜ (r ≡ getD (now (t .entry)) i 0) × (r < 256) ⌝ }
+{
+    if i < t.len() {
+        return wide(t[i]);
+    }
+    0
+}
+
+// The number at the front of bytes that may be fewer than eight; those behind the end count as 0.
+pub(crate) fn front(t: &[u8]) -> u64
+    ensures { λ r. ⌜ r ≡ be8 (now (t .entry)) 0 ⌝ }
+{
+    let b0 = byte_or_0(t, 0);
+    let b1 = byte_or_0(t, 1);
+    let b2 = byte_or_0(t, 2);
+    let b3 = byte_or_0(t, 3);
+    let b4 = byte_or_0(t, 4);
+    let b5 = byte_or_0(t, 5);
+    let b6 = byte_or_0(t, 6);
+    let b7 = byte_or_0(t, 7);
     ((((((b0 * 256 + b1) * 256 + b2) * 256 + b3) * 256 + b4) * 256 + b5) * 256 + b6) * 256 + b7
 }
 

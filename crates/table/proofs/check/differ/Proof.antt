@@ -1,46 +1,39 @@
--- `table::check::differ` meets its contract. The loop's invariant: no row behind one passed has its key. Assumes nothing.
-use mathlib.Core.Path.{_≡_, _∙_, subst}
-use Prim.Native.Nat.{ℕ, _+_, _-_, _≤_, _<_}
-use mathlib.Core.List.{List}
+-- `table::check::differ` meets its contract. The loop's invariant: the keys of the rows passed differ, and their marks are kept. Assumes nothing.
+use mathlib.Core.Path.{_≡_, sym, _∙_}
+use Prim.Native.Nat.{ℕ, _-_, _≤_, _<_}
 use native.Mathlib.Omega.{arith}
-use borrow.Author.Count.{below-more}
-use Rattle.table.specs.Memory.{rowAt, entryOf, countOf}
-use Rattle.table.specs.Check.{FoundFrom}
-use Rattle.table.specs.declared.Found.the-variants.{Absent}
-use Rattle.table.proofs.Lists.{says-yes, says-no}
+use borrow.Author.Tests.{not-true, not-false}
+use Rattle.table.specs.Memory.{countOf}
+use Rattle.table.proofs.Lists.{says-yes, says-no, refuted}
+use Rattle.table.proofs.Marks.{Passed, passed-none, passed-more, passed-all, differ-before}
 use Rattle.table.proofs.check.differ.Statement.{statement}
 use Rattle.table.proofs.check.differ.Tie as tie
 
 abbrev Inv-loop : tie.InvT-loop
-Inv-loop t n i₀ i = (i ≤ n) × ((j : ℕ) → j < i → FoundFrom t (entryOf t (rowAt j) .key) (j + 1) Absent)
+Inv-loop t n seen₀ i₀ seen i = (i ≤ n) × Passed t seen i
 
 abbrev μ-loop : tie.MeasureT-loop
-μ-loop t n i₀ i = n - i
+μ-loop t n seen₀ i₀ seen i = n - i
 
 loop-holds : tie.Need-loop-holds Inv-loop μ-loop
-loop-holds c = (omega arith, λ j l. absurd (omega arith))
+loop-holds c = (omega arith, passed-none _)
 
 returns : tie.Need-returns Inv-loop μ-loop
 returns c = let l = c .before .before .before .before .before in
     let t = l .before .before .before .args .t .now in
-    let i = l .loop .i in
     let n : l .before .count .result ≡ countOf t = l .before .count .ensures .0 in
-    let f = subst (FoundFrom t _ (i + 1)) (c .enum-told2 .given .1) (c .before .before .find-from .ensures) in
-    says-no (λ p. p i (omega arith) _ (f .1) (f .0) (f .2 ∙ c .before .before .before .key .ensures))
+    says-no (λ d. refuted (c .before .apart .ensures) (not-true _ (c .if1 .taken)) (λ _. differ-before t d _ _ (omega arith) (sym (c .before .before .before .key .ensures))))
 
 loop-again : tie.Need-loop-again Inv-loop μ-loop
 loop-again c = let l = c .before .before .before .before .before in
-    let t = l .before .before .before .args .t .now in
-    let i = l .loop .i in
-    let f = subst (FoundFrom t _ (i + 1)) (c .enum-told .given .1) (c .before .before .find-from .ensures) in (
+    let m = c .before .before .mark .ensures in (
       omega arith,
-      below-more (λ (j : ℕ). FoundFrom t (entryOf t (rowAt j) .key) (j + 1) Absent) i (l .loop .inv .1)
-          (subst (λ (k : List ℕ). FoundFrom t k (i + 1) Absent) (c .before .before .before .key .ensures) f),
+      passed-more _ _ _ _ _ (sym (c .before .before .before .key .ensures)) (m .0) (m .1) (l .loop .inv .1) (c .before .apart .ensures .0 (not-false _ (c .if1 .left))),
     )
 
 returns-2 : tie.Need-returns-2 Inv-loop μ-loop
 returns-2 c = let n : c .before .before .count .result ≡ countOf (c .before .before .before .before .args .t .now) = c .before .before .count .ensures .0 in
-    says-yes (λ j l. c .before .loop .inv .1 j (omega arith))
+    says-yes (passed-all _ _ _ (omega arith) (c .before .loop .inv .1))
 
 pub differ-spec : {M : Type 1} → statement M
 differ-spec =
@@ -51,11 +44,11 @@ differ-spec =
     (λ c κs. omega arith)
     loop-holds
     (λ c κs. omega arith)
-    (λ c. omega arith)
     (λ c κs. omega arith)
     (λ c. omega arith)
-    (λ c. omega arith)
+    (λ c κs. omega arith)
     returns
+    (λ c. omega arith)
     (λ c. omega arith)
     (λ c. omega arith)
     loop-again

@@ -1,0 +1,37 @@
+-- `table::number::front` meets its contract. Assumes nothing.
+use native.Mathlib.Omega.{arith}
+use Rattle.table.specs.Bytes.{be8}
+use Rattle.table.proofs.number.front.Statement.{statement}
+use Rattle.table.proofs.number.front.Tie as tie
+
+returns : tie.Need-returns
+unfolding be8
+returns c = cc
+
+pub front-spec : {M : Type 1} → statement M
+front-spec =
+    tie.close
+    (tie.spec
+    (λ c κs. omega arith)
+    (λ c κs. omega arith)
+    (λ c κs. omega arith)
+    (λ c κs. omega arith)
+    (λ c κs. omega arith)
+    (λ c κs. omega arith)
+    (λ c κs. omega arith)
+    (λ c κs. omega arith)
+    (λ c. omega arith)
+    (λ c. omega arith)
+    (λ c. omega arith)
+    (λ c. omega arith)
+    (λ c. omega arith)
+    (λ c. omega arith)
+    (λ c. omega arith)
+    (λ c. omega arith)
+    (λ c. omega arith)
+    (λ c. omega arith)
+    (λ c. omega arith)
+    (λ c. omega arith)
+    (λ c. omega arith)
+    (λ c. omega arith)
+    returns)

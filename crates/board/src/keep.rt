@@ -100,7 +100,8 @@ pub(crate) fn beside(path: &[u8], name: &mut [u8]) -> usize {
     libc::getentropy(&mut seed);
     let a = put::put_raw(name, 0, path);
     let b = put::put_raw(name, a, b".new-");
-    hex::encode(&seed, name, b)
+    put::put_raw(name, b, &seed);
+    hex::spread(name, b, seed.len())
 }
 
 // Makes the file that is to take a table's place, and answers its descriptor. Where it can't be made, it says so and answers a negative number.

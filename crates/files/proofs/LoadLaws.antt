@@ -13,22 +13,23 @@ use Rattle.wire.proofs.Laws.{never}
 use Rattle.map.specs.State.{Entry, State}
 use Rattle.map.specs.Table.{Each}
 use Rattle.service.specs.Feed.{joined}
-use Rattle.hex.specs.Hex.{toHex}
+use Rattle.hex.specs.Hex.{toHex, line}
 use Rattle.hex.proofs.HexLaws.{hex-length}
 use Rattle.table.specs.Bytes.{part}
 use Rattle.table.specs.Memory.{size, stateOf, Sound}
 use Rattle.table.proofs.Restores.{each-mid}
-use Rattle.stored.specs.File.{form1, entryLine, headLine, line, entryLines, file, Stores}
+use Rattle.stored.specs.File.{form1, entryLine, headLine, entryLines, file, Stores}
 use Rattle.stored.specs.Answer.{NoEnd, Loads as LoadsWhole, no-line, a-line, Ends}
 use Rattle.stored.proofs.LineLaws.{entry-most, head-most, head-good, table-good, no-end, first-end, line-cons}
 use Rattle.stored.proofs.OneTable.{file-front}
 use Rattle.stored.proofs.WholeLaws.{loads-both, loads-stores, all-loaded}
+use Rattle.service.proofs.Pieces.{joined-more}
 use Rattle.files.specs.declared.Window.{Window}
 use Rattle.files.specs.declared.NextLoad.the-variants as load
 use Rattle.stored.specs.declared.Loading.{Loading}
 use Rattle.files.specs.Window.{begin, inside, arrived, Brings}
 use Rattle.files.specs.Loading.{longestStored, Loads, LoadsOn, LoadsAll, Wrong, bad, cut-off, too-long, LoadsNone, LoadsNext, Loadings, read, done, broken}
-use Rattle.files.proofs.TurnsLaws.{joined-more, no-pieces}
+use Rattle.files.proofs.TurnsLaws.{no-pieces}
 use Rattle.files.proofs.WindowLaws.{inside-more, carried-more}
 
 -- 'done': all lines are loaded

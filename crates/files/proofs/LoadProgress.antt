@@ -10,12 +10,13 @@ use Rattle.map.specs.State.{State}
 use Rattle.service.specs.Feed.{joined}
 use Rattle.table.specs.Memory.{size, stateOf, Sound}
 use Rattle.stored.specs.File.{form1, Stores}
+use Rattle.service.proofs.Pieces.{joined-more}
 use Rattle.files.specs.declared.Window.{Window}
 use Rattle.files.specs.declared.NextLoad.{NextLoad}
 use Rattle.files.specs.declared.NextLoad.the-variants as load
 use Rattle.files.specs.Window.{begin, Lies, arrived, Cuts}
 use Rattle.files.specs.Loading.{longestStored, LoadsOn, LoadsNext, read, done, broken, LoadAnswers, LoadRan}
-use Rattle.files.proofs.TurnsLaws.{joined-more, no-pieces}
+use Rattle.files.proofs.TurnsLaws.{no-pieces}
 use Rattle.files.proofs.Progress.{togo, Cut, cut}
 use Rattle.files.proofs.LoadLaws.{whole-loaded}
 

@@ -1,7 +1,7 @@
 -- Whoever calls, writes and reads as the answers say comes to the file's end, however reading cuts the file. Assumes nothing.
 use mathlib.Core.Path.{_≡_, refl, sym, ap, _∙_}
 use mathlib.Core.Logic.{_⊎_, inl, inr}
-use mathlib.Core.Bool.{Bool, true, false, cond}
+use mathlib.Core.Bool.{Bool, true, cond}
 use mathlib.Core.List.{List, [], _∷_, _++_}
 use Prim.Native.Nat.{ℕ, zero, suc, _+_, _-_, _≤_, _<_}
 use native.Mathlib.Omega.{arith}
@@ -16,12 +16,13 @@ use Rattle.table.specs.Write.{put}
 use Rattle.table.proofs.Parts.{length-put}
 use Rattle.table.specs.Memory.{Sound}
 use Rattle.server.proofs.LeftLaws.{left-sound}
+use Rattle.service.proofs.Pieces.{joined-more}
 use Rattle.files.specs.declared.Window.{Window}
 use Rattle.files.specs.declared.NextServe.{NextServe}
 use Rattle.files.specs.declared.NextServe.the-variants as next
 use Rattle.files.specs.Window.{begin, inside, Lies, Moves, arrived, Brings, Cuts}
 use Rattle.files.specs.Serving.{Ready, Writes, Reads, Refuses, ServesNext, wrote, read, done, FileGives, Answers, Ran}
-use Rattle.files.proofs.TurnsLaws.{joined-more, no-pieces, turns-within, turns-some}
+use Rattle.files.proofs.TurnsLaws.{no-pieces, turns-within, turns-some}
 use Rattle.files.proofs.WindowLaws.{inside-behind, lies-behind, inside-read, lies-read, inside-front, front-long, lies-more, long-more}
 use Rattle.files.proofs.RunLaws.{whole-served}
 use Rattle.files.proofs.NextLaws.{no-text}

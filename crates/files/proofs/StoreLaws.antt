@@ -11,15 +11,17 @@ use lib.Seq.{sets, length-sets, drop-cons, split-at}
 use borrow.Author.Tests.{lt-ltb}
 use Rattle.wire.specs.Codec.{Valid}
 use Rattle.wire.specs.Write.{laid}
+use Rattle.wire.proofs.WriteLaws.{laid-done, sets-append}
 use Rattle.map.specs.State.{Entry, State}
 use Rattle.map.specs.Table.{Each, IsTable}
 use Rattle.table.specs.Memory.{entry, stateOf, Sound}
 use Rattle.table.proofs.Lists.{lt-or-ge}
 use Rattle.table.proofs.Restores.{each-mid}
-use Rattle.stored.specs.File.{form1, entryLine, headLine, line, entryLines, file}
+use Rattle.hex.specs.Hex.{line}
+use Rattle.hex.proofs.HexLaws.{line-length}
+use Rattle.stored.specs.File.{form1, entryLine, headLine, entryLines, file}
 use Rattle.stored.specs.Answer.{lineAt}
 use Rattle.stored.proofs.LineLaws.{entry-most, head-most, head-good, table-good}
-use Rattle.stored.proofs.StoreLaws.{laid-done, twice, line-length}
 use Rattle.files.specs.declared.NextStore.{NextStore}
 use Rattle.files.specs.declared.NextStore.the-variants as store
 use Rattle.files.specs.Storing.{storeRoom, fileFrom, StoreReady, StoreWrites, StoreRefuses, StoresNext, Storings, wrote, done, StoreAnswers}
@@ -77,7 +79,7 @@ laid-on {t} {old} {out} {line} {at} {i} out′ r g s l m e =
       most = omega arith;
       size = omega (arith, g .size, length-append (g .text) x);
       fits = omega (arith, g .fits);
-      list = ap (λ (q : ℕ × List ℕ). q .1) d ∙ rw (g .list, g .size) (rw zero-add at (twice (g .text) x old 0));
+      list = ap (λ (q : ℕ × List ℕ). q .1) d ∙ rw (g .list, g .size) (rw zero-add at (sym (sets-append old 0 (g .text) x)));
       long = ap (λ (q : ℕ × List ℕ). length (q .1)) d ∙ length-sets out at x ∙ g .long;
     }
 

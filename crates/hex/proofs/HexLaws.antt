@@ -5,17 +5,21 @@ use mathlib.Core.Bool.{true, _&&_}
 use mathlib.Core.Option.{Option, none, some}
 use Prim.Native.Nat.{ℕ, zero, suc, _+_, _*_, _/_, _%_, _<_}
 use native.Mathlib.Omega.{arith}
-use lib.ListN.{length}
+use lib.ListN.{length, length-append}
 use Rattle.wire.specs.Codec.{Bytes}
 use Rattle.wire.proofs.Laws.{never, both, and}
 use Rattle.wire.proofs.Basics.{passed}
-use Rattle.hex.specs.Hex.{digitOf, isDigit, digitValue, toHex, onto, fromHex}
+use Rattle.hex.specs.Hex.{digitOf, isDigit, digitValue, toHex, line, onto, fromHex}
 use Rattle.hex.proofs.Digits.{value-below, digit-back, of-digit, of-value}
 
 pub hex-length : (s : List ℕ) → length (toHex s) ≡ 2 * length s
 unfolding toHex
 hex-length [] = refl
 hex-length (b ∷ s) = omega (arith, hex-length s)
+
+pub line-length : (s : List ℕ) → length (line s) ≡ 2 * length s + 1
+unfolding line
+line-length s = length-append (toHex s) (0x0a ∷ []) ∙ omega (arith, hex-length s)
 
 -- two digits, read
 pub onto-digits : (a b : ℕ) (s : List ℕ) → isDigit a ≡ true → isDigit b ≡ true → fromHex (a ∷ b ∷ s) ≡ onto (digitValue a * 16 + digitValue b) (fromHex s)

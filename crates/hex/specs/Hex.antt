@@ -1,5 +1,5 @@
 -- Bytes as lowercase hexadecimal digits, two a byte, the higher first.
-use mathlib.Core.List.{List, [], _∷_}
+use mathlib.Core.List.{List, [], _∷_, _++_}
 use mathlib.Core.Bool.{Bool, true, false, cond, _&&_}
 use mathlib.Core.Option.{Option, none, some}
 use Prim.Native.Nat.{ℕ, _+_, _-_, _*_, _/_, _%_}
@@ -19,6 +19,10 @@ digitValue b = cond (leb b 0x39) (b - 0x30) (b - 0x57)
 unfoldable pub toHex : List ℕ → List ℕ
 toHex [] = []
 toHex (b ∷ bs) = digitOf (b / 16) ∷ digitOf (b % 16) ∷ toHex bs
+
+-- a line of digits with its line end: "In all files a line end is the one byte 0A."
+unfoldable pub line : List ℕ → List ℕ
+line bs = toHex bs ++ (0x0a ∷ [])
 
 abbrev pub onto : ℕ → Option (List ℕ) → Option (List ℕ)
 onto b none = none

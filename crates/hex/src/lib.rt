@@ -3,8 +3,9 @@ ghost use mathlib.Core.Path.{_≡_};
 ghost use mathlib.Core.Bool.{true};
 ghost use Prim.Native.Nat.{_+_, _*_, _/_, _<_};
 ghost use lib.ListN.{length, getD};
-ghost use Rattle.hex.specs.Hex.{digitOf, isDigit, digitValue};
-ghost use Rattle.hex.specs.Coding.{decoded, encoded, spreadAt};
+ghost use Rattle.wire.specs.Write.{laid};
+ghost use Rattle.hex.specs.Hex.{digitOf, isDigit, digitValue, toHex, line};
+ghost use Rattle.hex.specs.Coding.{decoded, part};
 ghost use Rattle.hex.specs.Number.{valueOf, areDigits, asNumber, second};
 
 // What decoding finds: so many bytes, digits that are none or odd in number, or too little room.
@@ -108,36 +109,16 @@ pub fn decode(s: &[u8], out: &mut [u8]) -> Decoded
     Decoded::Bytes(n)
 }
 
-// The digits of bytes, at a place, and the place behind them. Where there is no room for them nothing is written, and the same place is answered.
-pub fn encode(s: &[u8], out: &mut [u8], at: usize) -> usize
-    ensures { λ r. ⌜ (r, now (out .exit)) ≡ encoded (now (s .entry)) at (now (out .entry)) ⌝ }
+// The n bytes at a place become their digits there, which are twice as many, and the place behind them is answered. They are written from the last
+// to the first: no byte is written over before it is read. Where there is no room nothing is written, and the same place is answered.
+pub fn spread(out: &mut [u8], at: usize, n: usize) -> usize
+    ensures { λ r. ⌜ (r, now (out .exit)) ≡ laid (toHex (part (now (out .entry)) at n)) at (now (out .entry)) ⌝ }
 {
     if out.len() < at {
         return at;
-    }
-    if (out.len() - at) / 2 < s.len() {
-        return at;
-    }
-    let mut i = 0;
-    while i < s.len() {
-        let b = s[i];
-        out[at + 2 * i] = digit(b / 16);
-        out[at + 2 * i + 1] = digit(b % 16);
-        i += 1;
-    }
-    at + 2 * s.len()
-}
-
-// The n bytes at a place become their digits there, which are twice as many. They are written from the last to the first: no byte is written over
-// before it is read. Where there is no room nothing is written.
-pub fn spread(out: &mut [u8], at: usize, n: usize)
-    ensures { λ r. ⌜ now (out .exit) ≡ spreadAt (now (out .entry)) at n ⌝ }
-{
-    if out.len() < at {
-        return;
     }
     if (out.len() - at) / 2 < n {
-        return;
+        return at;
     }
     let mut i = n;
     while 0 < i {
@@ -146,6 +127,23 @@ pub fn spread(out: &mut [u8], at: usize, n: usize)
         out[at + 2 * i] = digit(b / 16);
         out[at + 2 * i + 1] = digit(b % 16);
     }
+    at + 2 * n
+}
+
+// The n bytes at a place become a line there, their digits and a line end, and the place behind it is answered. Where there is no room for the
+// line nothing is written, and the same place is answered.
+pub fn make_line(out: &mut [u8], at: usize, n: usize) -> usize
+    ensures { λ r. ⌜ (r, now (out .exit)) ≡ laid (line (part (now (out .entry)) at n)) at (now (out .entry)) ⌝ }
+{
+    if out.len() <= at {
+        return at;
+    }
+    if (out.len() - at - 1) / 2 < n {
+        return at;
+    }
+    let end = spread(out, at, n);
+    out[end] = 0x0a;
+    end + 1
 }
 
 // Eight digits as a number, highest first.

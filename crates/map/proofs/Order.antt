@@ -1,6 +1,6 @@
 -- A step does not look at the order of the entries. Assumes nothing.
-use mathlib.Core.Path.{_≡_, refl, sym, ap, _∙_}
-use mathlib.Core.List.{List, [], _∷_, _++_}
+use mathlib.Core.Path.{_≡_, refl, sym, ap, subst, subst₂, _∙_}
+use mathlib.Core.List.{List, _∷_, List·Permᴰ as Perm, List·Permᴰ·nil as nil, List·Permᴰ·cons as cons, List·Permᴰ·swap as swap, List·Permᴰ·trans as trans, Permᴰ·refl, Permᴰ·append-right}
 use mathlib.Core.Bool.{Bool, true, false, cond}
 use mathlib.Core.Option.{Option, some}
 use Prim.Native.Nat.{ℕ, suc}
@@ -10,57 +10,47 @@ use Rattle.message.specs.Request.{Request, isEmpty}
 use Rattle.map.specs.State.{Entry, State, find, without, hasKey}
 use Rattle.map.specs.Step.{Context, Change, keep, store, drop, empty, Answer, Outcome, lastVersion, stored, dropped, emptied, names, held, full, planned, answer, act, step}
 use Rattle.map.specs.Table.{Each, Pairs, OtherKey, IsTable}
-use Rattle.map.specs.Order as spec
-use Rattle.map.specs.Order.{Same, cons, swap, then, SameState, SameOutcome}
+use Rattle.map.specs.Order.{SameState, SameOutcome}
 use Rattle.map.proofs.Laws.{same-true}
 
-same-self : (es : List Entry) → Same es es
-same-self [] = spec.none
-same-self (e ∷ es) = cons (same-self es)
-
 -- what is said of each entry, or of each two in either order, is said of a list in any order
-same-each : (P : Entry → Type 0) {es fs : List Entry} → Same es fs → Each P es → Each P fs
-same-each P spec.none h = tt
-same-each P (cons s) h = (h .0, same-each P s (h .1))
-same-each P swap h = (h .1 .0, (h .0, h .1 .1))
-same-each P (then s t) h = same-each P t (same-each P s h)
+same-each : (P : Entry → Type 0) {es fs : List Entry} → Perm es fs → Each P es → Each P fs
+same-each P nil h = tt
+same-each P (cons p s) h = (subst P p (h .0), same-each P s (h .1))
+same-each P (swap p q) h = (subst P q (h .1 .0), (subst P p (h .0), h .1 .1))
+same-each P (trans s t) h = same-each P t (same-each P s h)
 
-same-pairs : (R : Entry → Entry → Type 0) → ((e f : Entry) → R e f → R f e) → {es fs : List Entry} → Same es fs → Pairs R es → Pairs R fs
-same-pairs R turn spec.none h = tt
-same-pairs R turn (cons {e} s) h = (same-each (R e) s (h .0), same-pairs R turn s (h .1))
-same-pairs R turn (swap {e} {f}) h = ((turn e f (h .0 .0), h .1 .0), (h .0 .1, h .1 .1))
-same-pairs R turn (then s t) h = same-pairs R turn t (same-pairs R turn s h)
+same-pairs : (R : Entry → Entry → Type 0) → ((e f : Entry) → R e f → R f e) → {es fs : List Entry} → Perm es fs → Pairs R es → Pairs R fs
+same-pairs R turn nil h = tt
+same-pairs R turn (cons {b = f} {l₁ = es} p s) h = (same-each (R f) s (subst (λ (x : Entry). Each (R x) es) p (h .0)), same-pairs R turn s (h .1))
+same-pairs R turn (swap {a = e} {b = f} {l = es} p q) h =
+    ((subst₂ R q p (turn e f (h .0 .0)), subst (λ (x : Entry). Each (R x) es) q (h .1 .0)), (subst (λ (x : Entry). Each (R x) es) p (h .0 .1), h .1 .1))
+same-pairs R turn (trans s t) h = same-pairs R turn t (same-pairs R turn s h)
 
-pub same-length : {es fs : List Entry} → Same es fs → length es ≡ length fs
-same-length spec.none = refl
-same-length (cons s) = ap suc (same-length s)
-same-length swap = refl
-same-length (then s t) = same-length s ∙ same-length t
+pub same-length : {es fs : List Entry} → Perm es fs → length es ≡ length fs
+same-length nil = refl
+same-length (cons p s) = ap suc (same-length s)
+same-length (swap p q) = refl
+same-length (trans s t) = same-length s ∙ same-length t
 
-same-append : (x : List Entry) {es fs : List Entry} → Same es fs → Same (es ++ x) (fs ++ x)
-same-append x spec.none = same-self x
-same-append x (cons s) = cons (same-append x s)
-same-append x swap = swap
-same-append x (then s t) = then (same-append x s) (same-append x t)
-
-without-cons : (b : Bool) (e : Entry) {es fs : List Entry} → Same es fs → Same (cond b es (e ∷ es)) (cond b fs (e ∷ fs))
+without-cons : (b : Bool) (e : Entry) {es fs : List Entry} → Perm es fs → Perm (cond b es (e ∷ es)) (cond b fs (e ∷ fs))
 without-cons true e s = s
-without-cons false e s = cons s
+without-cons false e s = cons refl s
 
 without-swap : (a b : Bool) (e f : Entry) (es : List Entry)
-    → Same (cond a (cond b es (f ∷ es)) (e ∷ cond b es (f ∷ es))) (cond b (cond a es (e ∷ es)) (f ∷ cond a es (e ∷ es)))
-without-swap true true e f es = same-self es
-without-swap true false e f es = same-self (f ∷ es)
-without-swap false true e f es = same-self (e ∷ es)
-without-swap false false e f es = swap
+    → Perm (cond a (cond b es (f ∷ es)) (e ∷ cond b es (f ∷ es))) (cond b (cond a es (e ∷ es)) (f ∷ cond a es (e ∷ es)))
+without-swap true true e f es = Permᴰ·refl es
+without-swap true false e f es = Permᴰ·refl (f ∷ es)
+without-swap false true e f es = Permᴰ·refl (e ∷ es)
+without-swap false false e f es = swap refl refl
 
 module _ (p : Entry → Bool) where
-  same-without : {es fs : List Entry} → Same es fs → Same (without p es) (without p fs)
+  same-without : {es fs : List Entry} → Perm es fs → Perm (without p es) (without p fs)
   unfolding without
-  same-without spec.none = spec.none
-  same-without (cons {e} s) = without-cons (p e) e (same-without s)
-  same-without (swap {e} {f} {es}) = without-swap (p e) (p f) e f (without p es)
-  same-without (then s t) = then (same-without s) (same-without t)
+  same-without nil = nil
+  same-without (cons {b = e} q s) = rw q (without-cons (p e) e (same-without s))
+  same-without (swap {a′ = f} {b′ = e} {l = es} q r) = rw (q, r) (without-swap (p e) (p f) e f (without p es))
+  same-without (trans s t) = trans (same-without s) (same-without t)
 
 other-turn : (e f : Entry) → OtherKey e f → OtherKey f e
 other-turn e f h q = h (sym q)
@@ -77,12 +67,12 @@ module _ (k : List ℕ) where
       go false true p q = refl
       go false false p q = refl
 
-  same-find : {es fs : List Entry} → Same es fs → Pairs OtherKey es → find (hasKey k) es ≡ find (hasKey k) fs
+  same-find : {es fs : List Entry} → Perm es fs → Pairs OtherKey es → find (hasKey k) es ≡ find (hasKey k) fs
   unfolding find
-  same-find spec.none h = refl
-  same-find (cons {e} s) h = ap (cond (hasKey k e) (some e)) (same-find s (h .1))
-  same-find (swap {e} {f} {es}) h = find-swap e f (find (hasKey k) es) (h .0 .0)
-  same-find (then s t) h = same-find s h ∙ same-find t (same-pairs OtherKey other-turn s h)
+  same-find nil h = refl
+  same-find (cons {b = e} p s) h = rw p (ap (cond (hasKey k e) (some e)) (same-find s (h .1)))
+  same-find (swap {a′ = f} {b′ = e} {l = es} p q) h = rw (p, q) (find-swap e f (find (hasKey k) es) (subst₂ OtherKey p q (h .0 .0)))
+  same-find (trans s t) h = same-find s h ∙ same-find t (same-pairs OtherKey other-turn s h)
 
 -- two outcomes by one test
 same-if : (b : Bool) (x y u v : Outcome) → SameOutcome x u → SameOutcome y v → SameOutcome (cond b x y) (cond b u v)
@@ -106,18 +96,18 @@ module _ (c : Context) (r : Request) (st us : State) (s : SameState st us) (h : 
   unfolding answer
   same-answer = rw (same-planned, same-held)
 
-  same-rest : Same (without (names r) (st .entries)) (without (names r) (us .entries))
+  same-rest : Perm (without (names r) (st .entries)) (without (names r) (us .entries))
   same-rest = same-without (names r) (s .entries)
 
   same-stored : SameState (stored c r st) (stored c r us)
   unfolding stored
-  same-stored = rw (s .last) (record { entries = same-append _ same-rest; last = refl })
+  same-stored = rw (s .last) (record { entries = Permᴰ·append-right _ same-rest; last = refl })
 
   same-act : (a : Answer) (d : Change) → SameOutcome (act c r st a d) (act c r us a d)
   unfolding act dropped emptied
   same-act a keep = (refl, s)
   same-act a drop = (refl, record { entries = same-rest; last = s .last })
-  same-act a empty = (refl, record { entries = spec.none; last = s .last })
+  same-act a empty = (refl, record { entries = nil; last = s .last })
   same-act a store =
       let e : ltb (st .last) lastVersion ≡ ltb (us .last) lastVersion = rw (s .last) in
       rw (same-full, e)

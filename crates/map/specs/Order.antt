@@ -1,19 +1,12 @@
--- "It holds entries, in no order": what it is for two lists to hold the same entries, and two outcomes to be the same but for their order.
+-- "It holds entries, in no order": what it is for two states, and for two outcomes, to be the same but for the order of their entries.
 use mathlib.Core.Path.{_≡_}
-use mathlib.Core.List.{List, [], _∷_, _++_}
-use Prim.Native.Nat.{ℕ}
-use Rattle.map.specs.State.{Entry, State}
-use Rattle.map.specs.Step.{Answer, Outcome, refused, answered}
+use mathlib.Core.List.{List·Permᴰ}
+use Rattle.map.specs.State.{State}
+use Rattle.map.specs.Step.{Outcome, refused, answered}
 
--- the same entries, each as often, in whatever order
-pub data Same : List Entry → List Entry → Type 0 where
-  none : Same [] []
-  cons : {e : Entry} {es fs : List Entry} → Same es fs → Same (e ∷ es) (e ∷ fs)
-  swap : {e f : Entry} {es : List Entry} → Same (e ∷ (f ∷ es)) (f ∷ (e ∷ es))
-  then : {es fs gs : List Entry} → Same es fs → Same fs gs → Same es gs
-
+-- the same entries, each as often, in whatever order: the library's permutation
 pub record SameState (st tt : State) : Type 0 where
-  pub entries : Same (st .entries) (tt .entries)
+  pub entries : List·Permᴰ (st .entries) (tt .entries)
   pub last : st .last ≡ tt .last
 
 abbrev pub SameOutcome : Outcome → Outcome → Type 0

@@ -4,6 +4,8 @@ use mathlib.Core.List.{List, [], _∷_}
 use mathlib.Core.Option.{Option, some}
 use mathlib.Core.Bool.{Bool, true, false, cond, _&&_}
 use Prim.Native.Nat.{ℕ}
+use native.Mathlib.Omega.{arith}
+use lib.ListN.{length}
 use lib.Dec.{eqb, leb}
 use borrow.Author.Tests.{eqb-true}
 use Rattle.wire.specs.Codec.{Valid, more, empty, byte, guard, seq, as-type, all}
@@ -72,7 +74,7 @@ text-laws lim = guard-laws isText 7 (limited lim) (limited-laws lim)
 -- what the tests of the arguments say
 pub is-empty : (s : List ℕ) → isEmpty s ≡ true → [] ≡ s
 is-empty [] e = refl
-is-empty (b ∷ s) e = never (cc)
+is-empty (b ∷ s) e = let z = eqb-true (length (b ∷ s)) 0 e in absurd (omega arith)
 
 pub is-zero : (n : ℕ) → eqb n 0 ≡ true → 0 ≡ n
 is-zero n e = sym (eqb-true n 0 e)

@@ -1,7 +1,8 @@
 -- A request, field by field (document 01, 'A request, field by field').
-use mathlib.Core.List.{List, [], _∷_}
+use mathlib.Core.List.{List, []}
 use mathlib.Core.Bool.{Bool, true, false, _&&_}
 use Prim.Native.Nat.{ℕ}
+use lib.ListN.{length}
 use lib.Dec.{eqb, leb}
 use Rattle.wire.specs.Codec.{Codec, empty, byte, guard, seq, as-type, all}
 use Rattle.wire.specs.Number.{vInt, vLong}
@@ -63,8 +64,7 @@ abbrev pub args : List ℕ → ℕ → ℕ → ℕ → List ℕ → Args
 args k l m e v = record { key = k; lifespan = l; maxIdle = m; entryVersion = e; value = v }
 
 abbrev pub isEmpty : List ℕ → Bool
-isEmpty [] = true
-isEmpty (b ∷ bs) = false
+isEmpty s = eqb (length s) 0
 
 -- the tests that what is not sent is 0 or empty
 abbrev pub noTimes : Args → Bool

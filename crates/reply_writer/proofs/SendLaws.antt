@@ -1,13 +1,13 @@
 -- The laws of a reply's writer: its rules, its length, and its fields one after the other. Assumes nothing.
 use mathlib.Core.Path.{_≡_, refl, sym, _∙_}
-use mathlib.Core.List.{List, [], _∷_}
+use mathlib.Core.List.{List}
 use mathlib.Core.Bool.{Bool, true, false, _&&_}
 use Prim.Native.Nat.{ℕ, _+_, _≤_, _<_}
 use native.Mathlib.Decide.{decLt}
 use native.Mathlib.Omega.{arith}
 use lib.ListN.{length, length-append}
 use lib.Dec.{eqb, ltb, leb}
-use borrow.Author.Tests.{lt-ltb, leb-true, leb-false, ne-eqb}
+use borrow.Author.Tests.{lt-ltb, leb-true, leb-false}
 use Rattle.wire.specs.Codec.{Codec, Valid, Bytes, empty, byte, seq, guard, as-type, all}
 use Rattle.wire.specs.Number.{vLong}
 use Rattle.wire.specs.Field.{entryVersion, limited}
@@ -17,13 +17,9 @@ use Rattle.wire.proofs.FieldLaws.{big-length, limited-good, limited-long, limit
 use Rattle.wire.proofs.WriteLaws.{send-broken, put-wrote, wrote-seq, wrote-guard, wrote-type}
 use Rattle.text.specs.Text.{isText}
 use Rattle.field.specs.FieldRead.{limitedText}
-use Rattle.message.specs.Request.{isEmpty, valueLimit}
+use Rattle.message.specs.Request.{valueLimit}
 use Rattle.message.specs.Reply.{Reply, Body, Payload, noEntry, noValue, noText, textLimit, noBody, valueBody, versionedBody, textBody, bodyAt, isAllowed, allowed, fieldsOf, formOf, toReply, fromReply, fields, message}
 use Rattle.reply_writer.specs.Frame.{framed}
-
-pub is-empty : (s : List ℕ) → eqb (length s) 0 ≡ isEmpty s
-is-empty [] = refl
-is-empty (b ∷ s) = ne-eqb (length (b ∷ s)) 0 (λ e. omega arith)
 
 -- a body that carries nothing
 pub none-ok : (p : Payload) → noBody .ok p ≡ ((noEntry p && noValue p) && noText p)

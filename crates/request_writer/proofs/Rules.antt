@@ -1,11 +1,10 @@
 -- The rules of a request: which requests have a written form. Assumes nothing.
 use mathlib.Core.Path.{_≡_, refl, sym}
-use mathlib.Core.List.{List, [], _∷_}
 use mathlib.Core.Bool.{Bool, true, false, _&&_}
 use Prim.Native.Nat.{ℕ, _≤_, _<_, _^_}
 use native.Mathlib.Omega.{arith}
 use lib.ListN.{length}
-use lib.Dec.{eqb, leb, lit≤}
+use lib.Dec.{eqb, leb}
 use borrow.Author.Tests.{leb-true, le-leb, eqb-true, eq-eqb, lt-ltb}
 use Rattle.wire.specs.Codec.{Codec, Valid, Bytes, empty, byte}
 use Rattle.wire.specs.Number.{vInt, vLong}
@@ -17,9 +16,10 @@ use Rattle.wire.proofs.FieldLaws.{big-good, limited-valid, limited-good}
 use Rattle.text.specs.Text.{isText}
 use Rattle.field.specs.FieldRead.{limitedText}
 use Rattle.message.specs.Operation.{codeOf}
-use Rattle.message.specs.Request.{Shape, keyed, writes, writesIf, keyedIf, bare, shapeOf, Args, argsOf, isEmpty, noTimes, noEntry, noValue, opFits, operation, transaction, isVersion, editionAt, fields, fromRequest, Request, request, nameLimit, keyLimit, valueLimit}
+use Rattle.message.specs.Request.{Shape, keyed, writes, writesIf, keyedIf, bare, shapeOf, Args, argsOf, isEmpty, noTimes, noEntry, noValue, opFits, operation, isVersion, editionAt, Request, request, nameLimit, keyLimit, valueLimit}
 use Rattle.message.proofs.RequestLaws.{code-found}
-use Rattle.message.proofs.Editions.{has-transaction, op-known, flags-small, version-small, code-small}
+use Rattle.message.proofs.RequestParts.{parts, whole-request}
+use Rattle.message.proofs.Editions.{op-known, flags-small, version-small, code-small}
 use Rattle.request_writer.specs.Parts.{Limits, limitsOf}
 
 -- a test of a message tells its rules
@@ -44,14 +44,6 @@ no-number n e = omega (arith, eqb-true n 0 e)
 
 is-zero : (n : ℕ) → n ≤ 0 → eqb n 0 ≡ true
 is-zero n h = eq-eqb n 0 (omega arith)
-
-no-bytes : (s : List ℕ) → isEmpty s ≡ true → length s ≤ 0
-no-bytes [] e = lit≤ tt
-no-bytes (b ∷ s) e = never (cc)
-
-is-empty : (s : List ℕ) → length s ≤ 0 → isEmpty s ≡ true
-is-empty [] h = refl
-is-empty (b ∷ s) h = absurd (omega arith)
 
 -- the arguments keep within the limits of their shape
 pub record Within (l : Limits) (a : Args) : Type 0 where
@@ -79,7 +71,7 @@ module _ (a : Args) where
         lifespan = times (b .0) .0;
         idle = times (b .0) .1;
         entry = no-number (a .entryVersion) (d .0);
-        value = no-bytes (a .value) (d .1);
+        value = no-number (length (a .value)) (d .1);
       }
   within writes h v =
       let w = type-valid _ _ _ _ a v in
@@ -115,7 +107,7 @@ module _ (a : Args) where
         lifespan = times (b .0) .0;
         idle = times (b .0) .1;
         entry = omega arith;
-        value = no-bytes (a .value) (b .1);
+        value = no-number (length (a .value)) (b .1);
       }
   within bare h v =
       let w = type-valid _ _ _ _ a v in
@@ -123,17 +115,17 @@ module _ (a : Args) where
       let d = both (noTimes a) (noEntry a && noValue a) (b .1) in
       let e = both (noEntry a) (noValue a) (d .1) in
       record {
-        key = no-bytes (a .key) (b .0);
+        key = no-number (length (a .key)) (b .0);
         lifespan = times (d .0) .0;
         idle = times (d .0) .1;
         entry = no-number (a .entryVersion) (e .0);
-        value = no-bytes (a .value) (e .1);
+        value = no-number (length (a .value)) (e .1);
       }
 
   within-good : (shape : Shape) → Bytes (a .key) → Bytes (a .value) → Within (limitsOf shape) a → Valid (argsOf shape) a
   unfolding argsOf empty
   within-good keyed bk bv w =
-      type-good _ _ _ _ (and (no-times (w .lifespan) (w .idle)) (and (is-zero (a .entryVersion) (w .entry)) (is-empty (a .value) (w .value))))
+      type-good _ _ _ _ (and (no-times (w .lifespan) (w .idle)) (and (is-zero (a .entryVersion) (w .entry)) (is-zero (length (a .value)) (w .value))))
       (limited-good keyLimit (a .key) (omega arith) (w .key) bk)
   within-good writes bk bv w =
       type-good _ _ _ _ (is-zero (a .entryVersion) (w .entry))
@@ -147,11 +139,11 @@ module _ (a : Args) where
       (seq-good _ _ (int-good (a .maxIdle) (w .idle))
       (seq-good _ _ (big-good 8 (a .entryVersion) (omega (arith, w .entry))) (limited-good valueLimit (a .value) (omega arith) (w .value) bv)))))
   within-good keyedIf bk bv w =
-      type-good _ _ _ _ (and (no-times (w .lifespan) (w .idle)) (is-empty (a .value) (w .value)))
+      type-good _ _ _ _ (and (no-times (w .lifespan) (w .idle)) (is-zero (length (a .value)) (w .value)))
       (seq-good _ _ (limited-good keyLimit (a .key) (omega arith) (w .key) bk) (big-good 8 (a .entryVersion) (omega (arith, w .entry))))
   within-good bare bk bv w =
       type-good _ _ _ _
-      (and (is-empty (a .key) (w .key)) (and (no-times (w .lifespan) (w .idle)) (and (is-zero (a .entryVersion) (w .entry)) (is-empty (a .value) (w .value)))))
+      (and (is-zero (length (a .key)) (w .key)) (and (no-times (w .lifespan) (w .idle)) (and (is-zero (a .entryVersion) (w .entry)) (is-zero (length (a .value)) (w .value)))))
       refl
 
 -- the test of the arguments, by limits that are those of the shape
@@ -175,55 +167,44 @@ pub record Rules (q : Request) : Type 0 where
   pub args : Valid (argsOf (shapeOf (q .op))) (q .args)
 
 pub rules : (q : Request) → Valid request q → Rules q
-unfolding request fields limitedText vLong
+unfolding limitedText vLong
 rules q v =
-    let a = seq-valid _ _ (fromRequest q) (type-valid _ _ _ _ q v .1) in
-    let b = seq-valid _ _ _ (a .1) in
-    let c = seq-valid _ _ _ (b .1) in
-    let d = seq-valid _ _ _ (c .1) in
-    let e = seq-valid _ _ _ (d .1) in
-    let f = seq-valid _ _ _ (e .1) in
-    let g = seq-valid _ _ _ (f .1) in
-    let h = seq-valid _ _ _ (g .1) in
-    let i = seq-valid _ _ _ (h .1) in
-    let n = guard-valid isText 7 (limited nameLimit) (q .name) (e .0) in
-    let j = both (leb 1 (q .intelligence)) (leb (q .intelligence) 3) (guard-valid _ 8 byte (q .intelligence) (g .0) .0) in
+    let p = parts q v in
+    let n = guard-valid isText 7 (limited nameLimit) (q .name) (p .name) in
+    let j = both (leb 1 (q .intelligence)) (leb (q .intelligence) 3) (guard-valid _ 8 byte (q .intelligence) (p .intelligence) .0) in
     record {
-      id = valid 2 127 8 0 (q .id) (b .0) .1;
-      version = guard-valid isVersion 3 byte (q .version) (c .0) .0;
+      id = valid 2 127 8 0 (q .id) (p .id) .1;
+      version = guard-valid isVersion 3 byte (q .version) (p .version) .0;
       text = n .0;
       name = limited-valid nameLimit (q .name) (n .1) .0;
-      flags = leb-true (q .flags) _ (guard-valid _ 8 vInt (q .flags) (f .0) .0);
+      flags = leb-true (q .flags) _ (guard-valid _ 8 vInt (q .flags) (p .flags) .0);
       low = leb-true 1 (q .intelligence) (j .0);
       high = leb-true (q .intelligence) 3 (j .1);
-      topology = int-least (q .topology) (h .0);
-      args = i .1;
+      topology = int-least (q .topology) (p .topology);
+      args = p .args;
     }
 
--- the fields that every request can be sent
+-- the operation of every request can be sent
 operation-good : (q : Request) → Valid (operation (editionAt (q .version))) (q .op)
 unfolding operation byte
 operation-good q =
     type-good _ _ _ _ refl
     (guard-good (opFits (editionAt (q .version))) 4 byte (rw (op-known (q .version), code-found (q .op))) (lt-ltb (codeOf (q .op)) 256 (omega (arith, code-small (q .op)))))
 
-transaction-good : (v : ℕ) → Valid (transaction (editionAt v .transaction)) tt
-unfolding transaction byte
-transaction-good v = rw (has-transaction v) (type-good _ _ _ _ refl (guard-good (λ n. eqb n 0) 8 byte refl refl))
-
 pub good : (q : Request) → Bytes (q .name) → Rules q → Valid request q
-unfolding request fields limitedText vLong byte
+unfolding limitedText vLong byte
 good q b r =
-    type-good _ _ _ _ refl
-    (seq-good _ _ (guard-good (λ m. eqb m 0xa0) 1 byte refl refl)
-    (seq-good _ _ (number-good 2 127 8 0 (q .id) (omega arith) (r .id))
-    (seq-good _ _ (guard-good isVersion 3 byte (r .version) (lt-ltb (q .version) 256 (version-small (q .version) (r .version))))
-    (seq-good _ _ (operation-good q)
-    (seq-good _ _ (guard-good isText 7 (limited nameLimit) (r .text) (limited-good nameLimit (q .name) (omega arith) (r .name) b))
-    (seq-good _ _ (guard-good _ 8 vInt (le-leb (q .flags) _ (r .flags)) (int-good (q .flags) (omega (arith, r .flags, flags-small (q .version)))))
-    (seq-good _ _
-    (guard-good _ 8 byte (and (le-leb 1 (q .intelligence) (r .low)) (le-leb (q .intelligence) 3 (r .high))) (lt-ltb (q .intelligence) 256 (omega (arith, r .high))))
-    (seq-good _ _ (int-good (q .topology) (r .topology)) (seq-good _ _ (transaction-good (q .version)) (r .args))))))))))
+    whole-request q (record {
+      id = number-good 2 127 8 0 (q .id) (omega arith) (r .id);
+      version = guard-good isVersion 3 byte (r .version) (lt-ltb (q .version) 256 (version-small (q .version) (r .version)));
+      op = operation-good q;
+      name = guard-good isText 7 (limited nameLimit) (r .text) (limited-good nameLimit (q .name) (omega arith) (r .name) b);
+      flags = guard-good _ 8 vInt (le-leb (q .flags) _ (r .flags)) (int-good (q .flags) (omega (arith, r .flags, flags-small (q .version))));
+      intelligence =
+          guard-good _ 8 byte (and (le-leb 1 (q .intelligence) (r .low)) (le-leb (q .intelligence) 3 (r .high))) (lt-ltb (q .intelligence) 256 (omega (arith, r .high)));
+      topology = int-good (q .topology) (r .topology);
+      args = r .args;
+    })
 
 -- a rule that is not kept; and the last one, where all others are
 pub broken : (q : Request) → (Rules q → ⊥) → false ≡ request .ok q

@@ -138,15 +138,6 @@ version-left st o e = go (isFull st o) (ltb (st .last) lastVersion) refl e
     go false true z e = ltb-true (st .last) lastVersion z
     go false false z e = never (cc)
 
--- a name
-pub named : (s : List ℕ) → (length s ≡ 0 → ⊥) → isEmpty s ≡ false
-named [] h = absurd (h refl)
-named (b ∷ s) h = refl
-
-pub unnamed : (s : List ℕ) → length s ≡ 0 → isEmpty s ≡ true
-unnamed [] h = refl
-unnamed (b ∷ s) h = absurd (omega arith)
-
 -- a table that is as it was
 pub same-table : (t : List ℕ) → Changed t t (stateOf t)
 same-table t = record { long = refl; state = refl; form = λ s. s .form }

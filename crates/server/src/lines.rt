@@ -9,10 +9,9 @@ use hex::NumberRead;
 use message::Request;
 use request_reader::RequestRead;
 ghost use mathlib.Core.Path.{_≡_};
-ghost use mathlib.Core.List.{[], _∷_, _++_};
-ghost use Prim.Native.Nat.{_+_, _*_, _≤_, _<_};
+ghost use Prim.Native.Nat.{_+_, _≤_, _<_};
 ghost use lib.ListN.{length};
-ghost use Rattle.hex.specs.Hex.{toHex};
+ghost use Rattle.hex.specs.Hex.{line};
 ghost use Rattle.wire.specs.Codec.{Valid};
 ghost use Rattle.message.specs.Request.{request, requestIn};
 ghost use Rattle.message.specs.Start.{idIn};
@@ -25,7 +24,7 @@ ghost use Rattle.table.specs.Memory.{stateOf, Sound};
 ghost use Rattle.server.specs.Lines.{asked, isDue, Formed, Puts, GivesReply, GivesFrame, GivesLine, Counts, TurnDone, TurnsDone};
 
 // What reading the form of a line finds: its second and so many bytes, or another form.
-enum Form {
+enum LineRead {
     Frame(Second, usize),
     Bad,
 }
@@ -38,28 +37,28 @@ struct Turned {
 }
 
 // "eight lowercase digits (the second), one space, an even number of lowercase digits": the bytes of the latter go to the front of `frame`.
-fn read_form(line: &[u8], frame: &mut [u8]) -> Form
+fn read_form(line: &[u8], frame: &mut [u8]) -> LineRead
     requires { ⌜ 512 ≤ length (now frame) ⌝ }
     ensures { λ r. ⌜ Formed (now (line .entry)) (now (frame .exit)) r ⌝ }
 {
     if Fed::LONGEST < line.len() {
-        return Form::Bad;
+        return LineRead::Bad;
     }
     if line.len() < 9 {
-        return Form::Bad;
+        return LineRead::Bad;
     }
     if line[8] != 0x20 {
-        return Form::Bad;
+        return LineRead::Bad;
     }
     let s = hex::number(&line[0..8]);
     let NumberRead::Value(second) = s else {
-        return Form::Bad;
+        return LineRead::Bad;
     };
     let d = hex::decode(&line[9..], frame);
     let Decoded::Bytes(n) = d else {
-        return Form::Bad;
+        return LineRead::Bad;
     };
-    Form::Frame(Second(second as u64), n)
+    LineRead::Frame(Second(second as u64), n)
 }
 
 // Text at a place, and the place behind it.
@@ -70,29 +69,18 @@ fn put_text(text: &[u8], out: &mut [u8], at: usize) -> usize
     put::put_raw(out, at, text)
 }
 
-// The digits of a reply and the line end.
-fn put_reply(reply: &[u8], out: &mut [u8], at: usize) -> usize
-    requires { ⌜ at + 2 * length (now reply) + 1 ≤ length (now out) ⌝ }
-    ensures { λ r. ⌜ Puts (toHex (now (reply .entry)) ++ (0x0a ∷ [])) (now (out .entry)) (now (out .exit)) at r ⌝ }
-{
-    let end = hex::encode(reply, out, at);
-    out[end] = 0x0a;
-    end + 1
-}
-
-// The error reply of a refusal.
+// The error reply of a refusal: it is written at its place, and becomes a line there.
 fn send_error(frame: &[u8], k: u8, out: &mut [u8], at: usize) -> usize
     requires { ⌜ at + lineRoom ≤ length (now out) ⌝ }
     requires { ⌜ 1 ≤ k ⌝ }
     requires { ⌜ k ≤ 11 ⌝ }
-    ensures { λ r. ⌜ Puts (toHex (flat (errorPieces k (idIn (now (frame .entry))))) ++ (0x0a ∷ [])) (now (out .entry)) (now (out .exit)) at r ⌝ }
+    ensures { λ r. ⌜ Puts (line (flat (errorPieces k (idIn (now (frame .entry)))))) (now (out .entry)) (now (out .exit)) at r ⌝ }
 {
-    let mut reply = [0; 512];
-    let a = act::refuse(&mut reply, request_reader::read_id(frame), k, 0);
-    put_reply(&reply[..a.size], out, at)
+    let a = act::refuse(&mut out[at..], request_reader::read_id(frame), k, 0);
+    hex::make_line(out, at, a.size)
 }
 
-// The reply to a request.
+// The reply to a request, in the same way.
 fn send_reply(
     frame: &[u8],
     r: Request,
@@ -107,9 +95,8 @@ fn send_reply(
     requires { ⌜ Valid request (requestIn (now frame) r) ⌝ }
     ensures { λ n. ⌜ GivesReply (requestIn (now (frame .entry)) r) (length (now (frame .entry))) (step (asked (second .0) (now (frame .entry)) .context) (requestIn (now (frame .entry)) r) (stateOf (now (t .entry)))) (now (out .entry)) (now (out .exit)) at n (now (t .entry)) (now (t .exit)) ⌝ }
 {
-    let mut reply = [0; 512];
-    let a = act::perform(frame, r, frame.len(), t, second, &mut reply);
-    put_reply(&reply[..a.size], out, at)
+    let a = act::perform(frame, r, frame.len(), t, second, &mut out[at..]);
+    hex::make_line(out, at, a.size)
 }
 
 // The bytes of a line: a whole request with nothing behind it is served.
@@ -141,8 +128,8 @@ pub(crate) fn line_sound(line: &[u8], t: &mut [u8], out: &mut [u8], at: usize) -
     let mut frame = [0; 512];
     let f = read_form(line, &mut frame);
     match f {
-        Form::Frame(second, n) => serve_frame(&frame[..n], t, second, out, at),
-        Form::Bad => put_text(b"refused 14\n", out, at),
+        LineRead::Frame(second, n) => serve_frame(&frame[..n], t, second, out, at),
+        LineRead::Bad => put_text(b"refused 14\n", out, at),
     }
 }
 

@@ -184,9 +184,9 @@ no-more : (ps : List (List ℕ)) → ps ≡ [] → joined ps ≡ []
 unfolding joined
 no-more ps e = rw e
 
-joined-one : (p : List ℕ) (ps : List (List ℕ)) → joined (p ∷ ps) ≡ p ++ joined ps
+pub joined-more : (p : List ℕ) (ps : List (List ℕ)) → joined (p ∷ ps) ≡ p ++ joined ps
 unfolding joined
-joined-one p ps = refl
+joined-more p ps = refl
 
 some-taken : (passing : Bool) (b : ℕ) (s : List ℕ) (st : State) → 1 ≤ turnOf passing true (b ∷ s) st .taken
 unfolding turnOf
@@ -215,5 +215,5 @@ pub pieces : {passing : Bool} {s : List ℕ} {ps : List (List ℕ)} {st : State}
 pieces {passing = passing} {s = s} {ps = ps} {st = st} (took {last = last} {g = g} f x) =
     let i = pieces x in
     sym (keeps-turn st passing last s (joined ps) (λ e. no-more ps (f e)) ∙ rw (← i))
-pieces {passing = passing} {s = s} {st = st} (read {p = p} {ps = ps} {g = g} x) = pieces x ∙ rw (joined-one p ps, append-assoc s p (joined ps))
+pieces {passing = passing} {s = s} {st = st} (read {p = p} {ps = ps} {g = g} x) = pieces x ∙ rw (joined-more p ps, append-assoc s p (joined ps))
 pieces {passing = passing} {s = s} {st = st} (end z) = nothing-left passing s st z

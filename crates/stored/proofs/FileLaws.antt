@@ -14,15 +14,18 @@ use borrow.Author.Tests.{eqb-true, eqb-false, le-leb, lt-leb, lt-ltb}
 use Rattle.wire.specs.Codec.{byte, guard, seq, as-type}
 use Rattle.wire.specs.Write.{written, kept, laid}
 use Rattle.wire.proofs.FieldLaws.{big-length}
+use Rattle.wire.proofs.WriteLaws.{laid-done, sets-append}
 use Rattle.map.specs.State.{Entry}
 use Rattle.map.specs.Step.{mostKeys}
 use Rattle.table.specs.Memory.{size, entry, stateOf, Sound}
 use Rattle.table.specs.Found.{entryAt}
 use Rattle.table.proofs.RowLaws.{length-entries, count-most}
 use Rattle.table.proofs.Answers.{other-entries}
-use Rattle.stored.specs.File.{Form, entryLine, headLine, line, entryLines, file}
+use Rattle.hex.specs.Hex.{line}
+use Rattle.hex.proofs.HexLaws.{line-length}
+use Rattle.stored.specs.File.{Form, entryLine, headLine, entryLines, file}
 use Rattle.stored.specs.Answer.{lineAt, Storing}
-use Rattle.stored.proofs.StoreLaws.{laid-done, twice, line-length, line-entry}
+use Rattle.stored.proofs.StoreLaws.{line-entry}
 
 pub lines-append : (f : Form) (a b : List Entry) → entryLines f (a ++ b) ≡ entryLines f a ++ entryLines f b
 unfolding entryLines
@@ -95,7 +98,7 @@ module _ (f : Form) (t : List ℕ) where
       let d : _≡_ {A = ℕ × List ℕ} (r, o′) (at + length x, sets o at x) = e ∙ sym (laid-done x at o (omega (arith, g .place, g .long, front-within (i + 1)))) in
       record {
         place = ap (λ (q : ℕ × List ℕ). q .0) d ∙ omega (arith, g .place);
-        list = ap (λ (q : ℕ × List ℕ). q .1) d ∙ rw (g .list, g .place) (twice (front i) x old 0) ∙ ap (sets old 0) (sym (front-next i l));
+        list = ap (λ (q : ℕ × List ℕ). q .1) d ∙ rw (g .list, g .place) (sym (sets-append old 0 (front i) x)) ∙ ap (sets old 0) (sym (front-next i l));
         long = ap (λ (q : ℕ × List ℕ). length (q .1)) d ∙ length-sets o at x ∙ g .long;
       }
 

@@ -20,10 +20,10 @@ use Rattle.message.proofs.Most.{Most, type-most, seq-most, guard-most, byte-mos
 use Rattle.map.specs.State.{Entry, State}
 use Rattle.map.specs.Table.{Each, IsTable}
 use Rattle.map.proofs.Each.{each-both}
-use Rattle.hex.specs.Hex.{digitOf, toHex, fromHex}
+use Rattle.hex.specs.Hex.{digitOf, toHex, fromHex, line}
 use Rattle.hex.proofs.HexLaws.{to-from, from-to}
 use Rattle.hex.proofs.Digits.{of-decimal, of-letter}
-use Rattle.stored.specs.File.{Form, form1, formByte, Fields, toEntry, fromEntry, entryLine, headLine, line}
+use Rattle.stored.specs.File.{Form, form1, formByte, Fields, toEntry, fromEntry, entryLine, headLine}
 use Rattle.stored.specs.Answer.{exactly, readBytes, readLine, NoEnd}
 use Rattle.stored.proofs.Spelt.{Spelt, type-spelt, seq-spelt, guard-spelt, byte-spelt, big-spelt, limited-spelt}
 

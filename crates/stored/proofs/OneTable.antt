@@ -8,9 +8,10 @@ use Rattle.wire.specs.Codec.{Valid}
 use Rattle.map.specs.State.{Entry, State}
 use Rattle.map.specs.Table.{Each, IsTable}
 use Rattle.table.specs.Memory.{stateOf, Sound}
-use Rattle.stored.specs.File.{Form, entryLine, headLine, line, entryLines, file, Stores}
+use Rattle.hex.specs.Hex.{line}
+use Rattle.stored.specs.File.{Form, entryLine, headLine, entryLines, file, Stores}
 use Rattle.stored.proofs.LineLaws.{entry-laws, entry-spelt, table-good, head-laws, head-spelt, head-good, same-line}
-use Rattle.stored.proofs.StoreLaws.{line-length}
+use Rattle.hex.proofs.HexLaws.{line-length}
 
 module _ (f : Form) where
   some-line : (e : Entry) (x : List ℕ) → line (entryLine f .enc e) ++ x ≡ [] → ⊥

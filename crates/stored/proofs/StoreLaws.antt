@@ -1,28 +1,28 @@
 -- Writing lines: each answer of the functions that write one, and that lines written one after another are the file. Assumes nothing.
-use mathlib.Core.Path.{_≡_, refl, sym, ap, _∙_}
-use mathlib.Core.List.{List, [], _∷_, _++_}
+use mathlib.Core.Path.{_≡_, refl, _∙_}
+use mathlib.Core.List.{List, []}
 use mathlib.Core.Bool.{Bool, true, false, cond}
 use mathlib.Core.Logic.{⊎-elim}
 use Prim.Native.Nat.{ℕ, suc, _+_, _-_, _*_, _≤_, _<_, _^_, min}
 use native.Mathlib.Omega.{arith}
-use native.Mathlib.Nat.{add-zero}
 use lib.ListN.{length, take, drop, length-append, length-take}
-use lib.Seq.{sets, sets-eq, length-sets, take-at}
+use lib.Seq.{sets-eq, take-at}
 use lib.Dec.{eqb}
-use borrow.Author.Tests.{le-leb, lt-leb, lt-ltb, le-ltb}
+use borrow.Author.Tests.{lt-ltb, le-ltb}
 use Rattle.wire.specs.Codec.{Codec, Valid, Bytes, byte, raw, guard, seq, as-type, all}
 use Rattle.wire.specs.Number.{vLong}
 use Rattle.wire.specs.Field.{bigEndian, limited}
 use Rattle.wire.specs.Write.{Wrote, putAt, laid}
-use Rattle.wire.proofs.Laws.{type-valid, seq-valid}
+use Rattle.wire.proofs.Laws.{type-valid, seq-valid, raw-good}
 use Rattle.wire.proofs.FieldLaws.{big-length, big-good, limited-length, limited-valid}
 use Rattle.wire.proofs.WriteLaws.{wrote-seq, wrote-guard, wrote-type, put-wrote}
 use Rattle.message.specs.Request.{keyLimit, valueLimit}
 use Rattle.message.proofs.Most.{Most}
 use Rattle.map.specs.State.{Entry, State, fresh}
-use Rattle.hex.specs.Hex.{toHex}
-use Rattle.hex.specs.Coding.{encoded}
-use Rattle.hex.proofs.HexLaws.{hex-length}
+use Rattle.hex.specs.Hex.{line}
+use Rattle.hex.specs.Coding as hex
+use Rattle.hex.proofs.HexLaws.{line-length}
+use Rattle.hex.proofs.InPlace.{line-over}
 use Rattle.table.specs.Bytes.{be8, part}
 use Rattle.table.specs.Memory.{size, rowAt, entry, entryOf, entriesOf, stateOf}
 use Rattle.table.specs.Found.{entryAt}
@@ -30,49 +30,15 @@ use Rattle.table.proofs.Lists.{lt-or-ge}
 use Rattle.table.proofs.Parts.{bytes-part}
 use Rattle.table.proofs.RowLaws.{entry-is}
 use Rattle.table.proofs.Answers.{held-row, no-row}
-use Rattle.stored.specs.File.{Form, form1, toEntry, fromEntry, entryLine, headLine, line}
+use Rattle.stored.specs.File.{Form, form1, toEntry, fromEntry, entryLine, headLine}
 use Rattle.stored.specs.Answer.{lineAt}
 use Rattle.stored.proofs.LineLaws.{fields, entry-good, entry-most}
 
--- bytes laid at a place
-module _ (bs : List ℕ) (at : ℕ) (old : List ℕ) where
-  pub laid-short : length old < at + length bs → (at, old) ≡ laid bs at old
-  laid-short h = rw (lt-leb (at + length bs) (length old) h)
-
-  pub laid-done : at + length bs ≤ length old → (at + length bs, sets old at bs) ≡ laid bs at old
-  laid-done h = rw (le-leb (at + length bs) (length old) h)
-
-pub laid-none : (at : ℕ) (old : List ℕ) → (at, old) ≡ laid [] at old
-laid-none at old =
-    ⊎-elim
-    (λ l. laid-short [] at old (omega arith))
-    (λ l. ap {B = ℕ × List ℕ} (λ (n : ℕ). (n, old)) (sym (add-zero at)) ∙ laid-done [] at old (omega arith))
-    (lt-or-ge (length old) at)
-
-pub twice : (a b old : List ℕ) (at : ℕ) → sets (sets old at a) (at + length a) b ≡ sets old at (a ++ b)
-unfolding seq raw
-twice a b old at =
-    wrote-seq (raw 0) (λ _. raw 0) {a = a} {b = b}
-    (record { next = refl; list = refl; long = length-sets old at a })
-    (record { next = refl; list = refl; long = length-sets (sets old at a) (at + length a) b }) .list
-
-pub line-length : (s : List ℕ) → length (line s) ≡ 2 * length s + 1
-unfolding line
-line-length s = length-append (toHex s) (0x0a ∷ []) ∙ omega (arith, hex-length s)
-
-pub line-put : (s old new new₂ : List ℕ) (at r r₂ : ℕ) → at + (2 * length s + 1) ≤ length old → (r, new) ≡ encoded s at old → (r₂, new₂) ≡ putAt byte 0x0a r new
-    → (r₂, new₂) ≡ laid (line s) at old
-unfolding encoded line byte
-line-put s old new new₂ at r r₂ h e f =
-    let l = hex-length s in
-    let d : _≡_ {A = ℕ × List ℕ} (r, new) (at + length (toHex s), sets old at (toHex s)) = e ∙ rw (le-leb (at + length (toHex s)) (length old) (omega arith)) in
-    let p : r ≡ at + length (toHex s) = ap (λ (q : ℕ × List ℕ). q .0) d in
-    let q : new ≡ sets old at (toHex s) = ap (λ (q : ℕ × List ℕ). q .1) d in
-    let n : length new ≡ length old = ap length q ∙ length-sets old at (toHex s) in
-    let w = put-wrote byte 0x0a r new refl (omega arith) new₂ r₂ f in
-    let a : r₂ ≡ at + length (line s) = omega (arith, w .next, line-length s) in
-    let b : new₂ ≡ sets old at (line s) = w .list ∙ rw (q, p) (twice (toHex s) (0x0a ∷ []) old at) in
-    rw (a, b) (laid-done (line s) at old (omega (arith, line-length s)))
+-- a line written at its place: the bytes, and then their digits
+pub line-put : (s old : List ℕ) (at : ℕ) {mid new : List ℕ} {r₁ r : ℕ} → Bytes s → at + (2 * length s + 1) ≤ length old → (r₁, mid) ≡ putAt (raw (length s)) s at old
+    → (r, new) ≡ laid (line (hex.part mid at (length s))) at mid → (r, new) ≡ laid (line s) at old
+unfolding raw
+line-put s old at b h e f = let w = put-wrote (raw (length s)) s at old (raw-good s b) (omega arith) _ _ e in f ∙ line-over s old at (w .list) refl h
 
 -- what memory holds in a row has a written form
 dig : (x b n : ℕ) → x < n → b < 256 → x * 256 + b < n * 256

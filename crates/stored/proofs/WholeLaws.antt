@@ -17,13 +17,13 @@ use Rattle.wire.proofs.FieldLaws.{limited-valid}
 use Rattle.message.specs.Request.{keyLimit, valueLimit}
 use Rattle.map.specs.State.{Entry, State}
 use Rattle.map.specs.Table.{Each, IsTable}
-use Rattle.hex.specs.Hex.{toHex}
+use Rattle.hex.specs.Hex.{toHex, line}
 use Rattle.table.specs.Memory.{size, entry, stateOf, Sound}
 use Rattle.table.specs.Change.{Changed, Left, isSome}
 use Rattle.table.specs.declared.Outcome.the-variants.{Done, Refused}
 use Rattle.table.proofs.Restores.{started-is, started-says, restored-says, restored-sound, each-restored, each-mid}
 use Rattle.table.proofs.HasForm.{started-sound}
-use Rattle.stored.specs.File.{Form, form1, entryLine, headLine, line, entryLines, file, Stores}
+use Rattle.stored.specs.File.{Form, form1, entryLine, headLine, entryLines, file, Stores}
 use Rattle.stored.specs.Answer.{readLine, startWith, restoreTo, headLoaded, lineLoaded, loaded, NoEnd, Loads, no-line, a-line, Ends, LoadsLines, Loaded}
 use Rattle.stored.specs.declared.Loading.{Loading}
 use Rattle.stored.proofs.LineLaws.{entry-laws, entry-spelt, table-good, head-laws, head-spelt, head-good, line-read, line-back, no-end, first-end, ends-split, line-cons}

@@ -14,8 +14,8 @@ use Rattle.table.specs.Memory.{size, entry, stateOf, Sound}
 use Rattle.table.specs.Change.{Changed, started, restored}
 use Rattle.table.specs.declared.Outcome.{Outcome}
 use Rattle.table.specs.declared.Outcome.the-variants.{Done, Refused}
-use Rattle.hex.specs.Hex.{fromHex}
-use Rattle.stored.specs.File.{Form, entryLine, headLine, line, file, Stores}
+use Rattle.hex.specs.Hex.{fromHex, line}
+use Rattle.stored.specs.File.{Form, entryLine, headLine, file, Stores}
 use Rattle.stored.specs.declared.Loading.{Loading}
 
 -- line i of a stored file with its line end: the first line, then those of the entries; behind the last there is none

@@ -9,7 +9,7 @@ use Rattle.wire.specs.Field.{entryVersion, second, limited}
 use Rattle.message.specs.Request.{keyLimit, valueLimit}
 use Rattle.map.specs.State.{Entry, State}
 use Rattle.map.specs.Table.{IsTable, Ascending}
-use Rattle.hex.specs.Hex.{toHex}
+use Rattle.hex.specs.Hex.{line}
 
 -- the forms of a file; more may come
 pub data Form : Type 0 where
@@ -36,10 +36,7 @@ entryLine form1 = as-type all toEntry fromEntry (seq entryVersion λ _. seq seco
 unfoldable pub headLine : Form → Codec ℕ
 headLine f = as-type all (λ p. p .1) (λ n. (formByte f, n)) (seq (guard (λ b. eqb b (formByte f)) 17 byte) (λ _. entryVersion))
 
--- a line of digits with its line end: "In all files a line end is the one byte 0A. Every line of a stored file has one."
-unfoldable pub line : List ℕ → List ℕ
-line bs = toHex bs ++ (0x0a ∷ [])
-
+-- "Every line of a stored file has" a line end.
 unfoldable pub entryLines : Form → List Entry → List ℕ
 entryLines f [] = []
 entryLines f (e ∷ es) = line (entryLine f .enc e) ++ entryLines f es

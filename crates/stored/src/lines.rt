@@ -14,7 +14,8 @@ ghost use Rattle.wire.specs.Write.{Wrote, laid};
 ghost use Rattle.table.specs.Memory.{stateOf};
 ghost use Rattle.table.specs.Found.{entryAt};
 ghost use Rattle.table.specs.Change.{Answers};
-ghost use Rattle.stored.specs.File.{form1, entryLine, headLine, line};
+ghost use Rattle.hex.specs.Hex.{line};
+ghost use Rattle.stored.specs.File.{form1, entryLine, headLine};
 ghost use Rattle.stored.specs.Answer.{exactly, startWith, restoreTo};
 
 // Room for the bytes of a line.
@@ -64,8 +65,8 @@ pub(crate) fn put_line(s: &[u8], out: &mut [u8], at: usize) -> usize
     if (out.len() - at - 1) / 2 < s.len() {
         return at;
     }
-    let end = hex::encode(s, out, at);
-    put::put_byte(out, end, Line::END)
+    put::put_raw(out, at, s);
+    hex::make_line(out, at, s.len())
 }
 
 // Starts the table with the last version that the bytes of a first line say.

@@ -8,7 +8,7 @@ use native.Mathlib.Numerals.{add-one}
 use native.Mathlib.Omega.{arith}
 use native.Mathlib.Decide.{decLt}
 use lib.ListN.{length, getD, take, drop, set, length-append, length-set, drop-of-length-le}
-use lib.Seq.{sets, set-comm, drop-cons}
+use lib.Seq.{sets, drop-cons}
 use lib.Dec.{leb, eqb, lit≤}
 use borrow.Author.Tests.{ltb-true, lt-ltb, leb-true, le-leb, lt-leb, eqb-true, eq-eqb}
 use Rattle.wire.specs.Codec.{whole, more, refused, after, Valid, Bytes, isBytes, empty, byte, raw, guard, seq, as-type, all, readAt}
@@ -18,7 +18,7 @@ use Rattle.wire.specs.Write.{Wrote}
 use Rattle.wire.proofs.Laws.{Laws, and, and-false, after-after, seq-valid, guard-valid, type-valid, seq-laws, guard-laws, type-laws, empty-laws, byte-laws, raw-laws, raw-valid, is-bytes}
 use Rattle.wire.proofs.NumberLaws.{vInt-laws}
 use Rattle.wire.proofs.NumberWrite.{number-bad, int-long}
-use Rattle.wire.proofs.WriteLaws.{wrote-seq, wrote-guard, wrote-type}
+use Rattle.wire.proofs.WriteLaws.{sets-after, wrote-seq, wrote-guard, wrote-type}
 use Rattle.wire.proofs.At.{at-seq, at-type, at-guard, at-raw, at-cond}
 
 -- a number of n bytes
@@ -143,12 +143,6 @@ pub record Filled (m v at : ℕ) (old new : List ℕ) (x i : ℕ) : Type 0 where
   pub list : new ≡ sets old (at + i) tail
   pub long : length new ≡ length old
   pub within : i ≤ m
-
--- a write before others
-pub sets-after : (vs l : List ℕ) (i j b : ℕ) → j < i → set (sets l i vs) j b ≡ sets (set l j b) i vs
-sets-after [] l i j b h = refl
-sets-after (x ∷ vs) l i j b h =
-    sets-after vs (set l i x) (suc i) j b (omega arith) ∙ ap (λ (m : List ℕ). sets m (suc i) vs) (set-comm l i j x b (λ e. omega arith))
 
 module _ (m v at : ℕ) (old : List ℕ) where
   pub fill-begin : Filled m v at old old v m

@@ -4,19 +4,55 @@ use mathlib.Core.List.{List, [], _∷_, _++_, append-assoc, append-nil}
 use mathlib.Core.Bool.{Bool, true, false, cond}
 use Prim.Native.Nat.{ℕ, suc, _+_, _-_, _≤_, _<_}
 use native.Mathlib.Nat.{zero-add, add-zero, add-suc, suc-add}
+use native.Mathlib.Decide.{decLt}
 use native.Mathlib.Omega.{arith}
 use lib.ListN.{length, take, drop, set, length-append, length-drop, drop-of-length-le}
-use lib.Seq.{sets, sets-eq, length-sets, drop-drop, take-all, take-length}
+use lib.Seq.{sets, set-set, set-comm, sets-eq, length-sets, drop-drop, drop-at, take-at, take-all, take-length, length-take-le}
 use lib.Dec.{leb}
 use borrow.Author.Tests.{le-leb, lt-leb}
 use Rattle.wire.specs.Codec.{whole, Codec, Valid, raw, guard, seq, as-type, readAt}
-use Rattle.wire.specs.Write.{Room, Wrote, putAt, Sent, written, kept, send}
+use Rattle.wire.specs.Write.{Room, Wrote, laid, putAt, Sent, written, kept, send}
 use Rattle.wire.proofs.Laws.{Laws, never}
 
 -- two writes, one after the other
 pub sets-append : (l : List ℕ) (i : ℕ) (a b : List ℕ) → sets l i (a ++ b) ≡ sets (sets l i a) (i + length a) b
 sets-append l i [] b = rw add-zero
 sets-append l i (x ∷ a) b = sets-append (set l i x) (suc i) a b ∙ rw (suc-add, ← add-suc)
+
+-- a byte written before a write
+pub sets-after : (vs l : List ℕ) (i j b : ℕ) → j < i → set (sets l i vs) j b ≡ sets (set l j b) i vs
+sets-after [] l i j b h = refl
+sets-after (x ∷ vs) l i j b h =
+    sets-after vs (set l i x) (suc i) j b (omega arith) ∙ ap (λ (m : List ℕ). sets m (suc i) vs) (set-comm l i j x b (λ e. omega arith))
+
+-- a write is covered by one at the same place that is not shorter
+pub sets-over : (a b l : List ℕ) (i : ℕ) → length a ≤ length b → sets (sets l i a) i b ≡ sets l i b
+sets-over [] b l i h = refl
+sets-over (x ∷ a) [] l i h = absurd (omega arith)
+sets-over (x ∷ a) (y ∷ b) l i h =
+    ap (λ (m : List ℕ). sets m (suc i) b) (sets-after a (set l i x) (suc i) i y (omega arith) ∙ ap (λ (m : List ℕ). sets m (suc i) a) (set-set l i x y))
+    ∙ sets-over a b (set l i y) (suc i) (omega arith)
+
+-- what was written stands there
+pub sets-part : (x l : List ℕ) (i : ℕ) → i + length x ≤ length l → take (length x) (drop i (sets l i x)) ≡ x
+sets-part x l i h =
+    let e : sets l i x ≡ take i l ++ (x ++ drop (i + length x) l) = sets-eq x l i h ∙ append-assoc (take i l) x (drop (i + length x) l) in
+    rw (e, drop-at (take i l) (x ++ drop (i + length x) l) i (length-take-le i l (omega arith))) (take-at x _ (length x) refl)
+
+-- bytes written at a place, where there is room for them and where there is none
+module _ (bs : List ℕ) (at : ℕ) (old : List ℕ) where
+  pub laid-short : length old < at + length bs → (at, old) ≡ laid bs at old
+  laid-short h = rw (lt-leb (at + length bs) (length old) h)
+
+  pub laid-done : at + length bs ≤ length old → (at + length bs, sets old at bs) ≡ laid bs at old
+  laid-done h = rw (le-leb (at + length bs) (length old) h)
+
+pub laid-none : (at : ℕ) (old : List ℕ) → (at, old) ≡ laid [] at old
+laid-none at old = go (decLt (length old) at)
+  where
+    go : Dec (length old < at) → (at, old) ≡ laid [] at old
+    go (yes l) = laid-short [] at old (omega arith)
+    go (no l) = ap {B = ℕ × List ℕ} (λ (n : ℕ). (n, old)) (sym (add-zero at)) ∙ laid-done [] at old (omega arith)
 
 pub wrote-seq : {A : Type 0} {B : A → Type 0} (c : Codec A) (d : (a : A) → Codec (B a)) {a : A} {b : B a} {o₁ o₂ o₃ : List ℕ} {at r₁ r₂ : ℕ}
     → Wrote c a o₁ o₂ at r₁ → Wrote (d a) b o₂ o₃ r₁ r₂ → Wrote (seq c d) (a, b) o₁ o₃ at r₂

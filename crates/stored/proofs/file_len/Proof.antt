@@ -4,7 +4,8 @@ use Prim.Native.Nat.{_+_, _*_, _-_, _≤_}
 use native.Mathlib.Omega.{arith}
 use lib.ListN.{length, length-append}
 use Rattle.table.specs.Found.{entryAt}
-use Rattle.stored.specs.File.{form1, entryLine, line}
+use Rattle.hex.specs.Hex.{line}
+use Rattle.stored.specs.File.{form1, entryLine}
 use Rattle.stored.proofs.FileLaws.{few, front, front-head, front-entry, front-all}
 use borrow.Author.Needs.{needs}
 use Rattle.stored.proofs.file_len.Statement.{statement}

@@ -5,12 +5,14 @@ use Prim.Native.Nat.{_-_, _≤_}
 use native.Mathlib.Omega.{arith}
 use lib.ListN.{take, drop}
 use Rattle.wire.specs.Codec.{Bytes}
+use Rattle.wire.proofs.WriteLaws.{laid-none}
 use Rattle.table.specs.Memory.{stateOf}
 use Rattle.table.specs.Found.{entryAt}
-use Rattle.stored.specs.File.{form1, entryLine, headLine, line}
+use Rattle.hex.specs.Hex.{line}
+use Rattle.stored.specs.File.{form1, entryLine, headLine}
 use Rattle.stored.specs.Answer.{lineAt}
 use Rattle.stored.proofs.LineLaws.{head-most, head-good, entry-most}
-use Rattle.stored.proofs.StoreLaws.{line-head, line-entry, line-none, laid-none, held-good, last-small, wrote-front}
+use Rattle.stored.proofs.StoreLaws.{line-head, line-entry, line-none, held-good, last-small, wrote-front}
 use borrow.Author.Needs.{needs}
 use Rattle.stored.proofs.store_line.Statement.{statement}
 use Rattle.stored.proofs.store_line.Tie as tie

@@ -6,7 +6,7 @@ use Rattle.wire.specs.Codec.{seq, as-type}
 use Rattle.wire.proofs.FieldLaws.{big-good}
 use Rattle.message.specs.Reply.{valueBody, versionedBody, textBody}
 use Rattle.message.specs.Reply.{fieldsOf}
-use Rattle.reply_writer.proofs.SendLaws.{is-empty, none-ok}
+use Rattle.reply_writer.proofs.SendLaws.{none-ok}
 use borrow.Author.Needs.{needs}
 use Rattle.reply_writer.proofs.write.keeps_body.Statement.{statement}
 use Rattle.reply_writer.proofs.write.keeps_body.Tie as tie
@@ -14,8 +14,7 @@ use Rattle.reply_writer.proofs.write.keeps_body.Tie as tie
 returns : tie.Need-returns
 unfolding fieldsOf
 returns c = let a = c .before in
-    let s = a .before .before .before .before .before .before in
-    rw (a .before .enum-told .given .1, none-ok, sym (a .is-absent .ensures) ∙ c .if1 .taken) (is-empty (s .args .text .now))
+    rw (a .before .enum-told .given .1, none-ok, sym (a .is-absent .ensures) ∙ c .if1 .taken)
 
 returns-2 : tie.Need-returns-2
 unfolding fieldsOf
@@ -36,12 +35,12 @@ returns-5 : tie.Need-returns-5
 unfolding fieldsOf versionedBody as-type seq
 returns-5 c = let t = c .before in
     let s = t .before .before .before .before .before .before in
-    rw (t .before .enum-told2 .given .1, sym (is-empty (s .args .text .now)) ∙ eq-eqb _ _ (t .if3 .taken), big-good 8 (s .args .a .entry .0) (omega arith)) (c .is-limited2 .ensures)
+    rw (t .before .enum-told2 .given .1, eq-eqb _ _ (t .if3 .taken), big-good 8 (s .args .a .entry .0) (omega arith)) (c .is-limited2 .ensures)
 
 returns-6 : tie.Need-returns-6
 unfolding fieldsOf versionedBody as-type seq
-returns-6 c = let s = c .before .before .before .before .before .before in
-    ne-eqb _ _ (c .if3 .left) ∙ rw (c .before .enum-told2 .given .1, sym (is-empty (s .args .text .now)) ∙ ne-eqb _ _ (c .if3 .left))
+returns-6 c =
+    ne-eqb _ _ (c .if3 .left) ∙ rw (c .before .enum-told2 .given .1, ne-eqb _ _ (c .if3 .left))
 
 returns-7 : tie.Need-returns-7
 unfolding fieldsOf textBody as-type

@@ -2,6 +2,8 @@
 use mathlib.Core.Path.{_≡_, sym, ap, subst, _∙_}
 use Prim.Native.Nat.{ℕ, _≤_}
 use native.Mathlib.Omega.{arith}
+use lib.ListN.{length}
+use borrow.Author.Tests.{eq-eqb, ne-eqb}
 use Rattle.message.specs.Request.{Request, requestIn}
 use Rattle.message.proofs.Sizes.{request-small}
 use Rattle.map.specs.Step as map
@@ -10,8 +12,8 @@ use Rattle.table.specs.Memory.{stateOf}
 use Rattle.plan.specs.Plan.{asPlan, asChange, asJudged, heldVersion, Holds}
 use Rattle.plan.specs.declared.Judged.the-variants as judged
 use Rattle.plan.proofs.PlanLaws.{version-held}
-use Rattle.server.specs.Act.{at, after, Planned, Agreed}
-use Rattle.server.proofs.StepLaws.{does-refused, does-answered, step-named, step-acts, act-refused, act-made, named, unnamed}
+use Rattle.server.specs.Act.{at, Planned, Agreed}
+use Rattle.server.proofs.StepLaws.{does-refused, does-answered, step-named, step-acts, act-refused, act-made}
 use borrow.Author.Needs.{needs}
 use Rattle.server.proofs.act.perform.Statement.{statement}
 use Rattle.server.proofs.act.perform.Tie as tie
@@ -37,7 +39,7 @@ returns c =
     let i = w .before .before in
     let n = i .before .name-in in
     let s = begin (i .before) in
-    does-refused (asked s) (step-named _ _ _ (rw (← (n .ensures)) (named (n .result .now) (i .if1 .taken)))) (w .refuse .ensures)
+    does-refused (asked s) (step-named _ _ _ (rw (← (n .ensures)) (ne-eqb (length (n .result .now)) 0 (i .if1 .taken)))) (w .refuse .ensures)
 
 -- what is held, what is planned, and whether it is refused
 module _ (c : tie.After-refusal-of) where
@@ -69,7 +71,7 @@ module _ (c : tie.After-refusal-of) where
   acts =
       let i = found .before .before .before in
       let n = i .before .name-in in
-      step-acts _ _ _ (rw (← (n .ensures)) (unnamed (n .result .now) (i .if1 .left))) (rw planned)
+      step-acts _ _ _ (rw (← (n .ensures)) (eq-eqb (length (n .result .now)) 0 (i .if1 .left))) (rw planned)
 
   refused : (k : ℕ) → c .refusal-of .result ≡ judged.Refused k
       → (map.step (at (start .args .second .0)) (asked start) (state start) ≡ map.refused k) × ((1 ≤ k) × (k ≤ 11))

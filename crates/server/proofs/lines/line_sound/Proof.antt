@@ -1,8 +1,8 @@
 -- `server::lines::line_sound` meets its contract: the form of the line, then its bytes. Assumes nothing.
-use mathlib.Core.Path.{refl, sym, subst}
+use mathlib.Core.Path.{sym, subst}
 use lib.Seq.{length-take-le}
 use Rattle.server.specs.Lines.{Formed}
-use Rattle.server.specs.declared.lines.Form.the-variants as f
+use Rattle.server.specs.declared.lines.LineRead.the-variants as f
 use Rattle.server.proofs.LineLaws.{gives-as, gives-same, line-asks}
 use borrow.Author.Needs.{needs}
 use Rattle.server.proofs.lines.line_sound.Statement.{statement}

@@ -1,7 +1,8 @@
 -- `server::lines::serve_frame` meets its contract: what is read says what the line gives. Assumes nothing.
-use mathlib.Core.Path.{_≡_, refl}
+use mathlib.Core.Path.{_≡_}
 use native.Mathlib.Omega.{arith}
 use Rattle.wire.specs.Codec.{Bytes, whole, refused}
+use Rattle.hex.specs.Hex.{line}
 use Rattle.message.specs.Request.{request, requestIn}
 use Rattle.message.proofs.RequestLaws.{request-laws}
 use Rattle.message.proofs.Refusals.{refusals}
@@ -61,6 +62,7 @@ returns-3 c =
     gives-same (frame-more _ _ (request-in _ (bytes r) _ _ (r .read-request .ensures) (k .enum-told .given .1))) (w .put-text2 .ensures)
 
 returns-4 : tie.Need-returns-4
+unfolding line
 returns-4 c =
     let w = c .before .before in
     let f = w .before .before .before in

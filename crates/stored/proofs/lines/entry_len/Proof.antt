@@ -6,7 +6,8 @@ use native.Mathlib.Omega.{arith}
 use lib.ListN.{length}
 use Rattle.wire.specs.Number.{vLong}
 use Rattle.table.specs.Found.{entryAt}
-use Rattle.stored.specs.File.{form1, entryLine, line}
+use Rattle.hex.specs.Hex.{line}
+use Rattle.stored.specs.File.{form1, entryLine}
 use Rattle.stored.proofs.StoreLaws.{held-good, entry-length, entry-short}
 use borrow.Author.Needs.{needs}
 use Rattle.stored.proofs.lines.entry_len.Statement.{statement}

@@ -1,7 +1,9 @@
 -- `stored::lines::put_line` meets its contract. Assumes nothing.
 use native.Mathlib.Omega.{arith}
-use Rattle.stored.proofs.StoreLaws.{laid-short, line-length, line-put}
-use Rattle.stored.specs.File.{line}
+use Rattle.hex.specs.Hex.{line}
+use Rattle.wire.proofs.WriteLaws.{laid-short}
+use Rattle.hex.proofs.HexLaws.{line-length}
+use Rattle.stored.proofs.StoreLaws.{line-put}
 use borrow.Author.Needs.{needs}
 use Rattle.stored.proofs.lines.put_line.Statement.{statement}
 use Rattle.stored.proofs.lines.put_line.Tie as tie
@@ -15,8 +17,12 @@ returns-2 c = let s = c .before .before .before .before .args in
     laid-short (line (s .s .now)) (s .at) (s .out .now) (omega (arith, line-length (s .s .now)))
 
 returns-3 : tie.Need-returns-3
-returns-3 c = let s = c .before .before .before .before .before .before .before .before .before .before .before .before .args in
-    line-put (s .s .now) (s .out .now) _ _ (s .at) _ _ (omega arith) (c .before .before .before .before .before .before .encode .ensures) (c .before .before .put-byte .ensures)
+returns-3 c =
+    let m = c .before .before in
+    let p = m .before .before .before .before in
+    let k = p .before .before .before .before .before in
+    let s = k .before .args in
+    line-put (s .s .now) (s .out .now) (s .at) (λ i. omega (arith, k .shared-slice-known .given i)) (omega arith) (p .put-raw .ensures) (m .make-line .ensures)
 
 pub put-line-spec : {M : Type 1} → statement M
 put-line-spec =

@@ -11,15 +11,14 @@ use field::Second;
 ghost use mathlib.Core.Path.{_≡_};
 ghost use Prim.Native.Nat.{_+_, _≤_};
 ghost use lib.ListN.{length};
-ghost use Rattle.table.specs.Bytes.{be8};
-ghost use Rattle.table.specs.Memory.{size, countOf, stateOf};
+ghost use Rattle.table.specs.Memory.{lastIndex, rowWidth, size, numberOf, countOf, stateOf, Permutation};
 ghost use Rattle.table.specs.Found.{Tells};
 ghost use Rattle.table.specs.Change.{newest, fitsRow, hasRoom, fitting, next};
 ghost use Rattle.table.specs.Check.{Within, AllWithin, Rising, Differ};
 
 // Whether the lengths and the deadline of the row at a are within their limits.
 fn within(t: &[u8], a: usize) -> bool
-    requires { ⌜ a + 352 ≤ length (now t) ⌝ }
+    requires { ⌜ a + rowWidth ≤ length (now t) ⌝ }
     ensures { λ r. ⌜ Tells r (Within (now (t .entry)) a) ⌝ }
 {
     if number::get64(t, a + Row::KEY_LENGTH) > Row::KEY as u64 {
@@ -34,7 +33,7 @@ fn within(t: &[u8], a: usize) -> bool
     true
 }
 
-// Whether those of every row are.
+// Whether those of the row of every entry are.
 pub(crate) fn all_within(t: &[u8]) -> bool
     requires { ⌜ length (now t) ≡ size ⌝ }
     ensures { λ r. ⌜ Tells r (AllWithin (now (t .entry))) ⌝ }
@@ -42,9 +41,30 @@ pub(crate) fn all_within(t: &[u8]) -> bool
     let n = rows::count(t);
     let mut i = 0;
     while i < n {
-        if !within(t, rows::row_at(i)) {
+        if !within(t, rows::row_at(t, i)) {
             return false;
         }
+        i += 1;
+    }
+    true
+}
+
+// Whether the places name each row once.
+pub(crate) fn is_permutation(t: &[u8]) -> bool
+    requires { ⌜ length (now t) ≡ size ⌝ }
+    ensures { λ r. ⌜ Tells r (Permutation (now (t .entry))) ⌝ }
+{
+    let mut seen: [bool; 128] = [false; 128];
+    let mut i = 0;
+    while i < Table::KEYS {
+        let row = t[Table::PLACES + i] as usize;
+        if row >= Table::KEYS {
+            return false;
+        }
+        if seen[row] {
+            return false;
+        }
+        seen[row] = true;
         i += 1;
     }
     true
@@ -53,26 +73,26 @@ pub(crate) fn all_within(t: &[u8]) -> bool
 // Whether the versions are 1 at least, rise, and are at most the last version issued.
 pub(crate) fn rising(t: &[u8]) -> bool
     requires { ⌜ length (now t) ≡ size ⌝ }
-    ensures { λ r. ⌜ Tells r (Rising (now (t .entry)) (countOf (now (t .entry))) (be8 (now (t .entry)) 8)) ⌝ }
+    ensures { λ r. ⌜ Tells r (Rising (now (t .entry)) (countOf (now (t .entry))) (numberOf (now (t .entry)) lastIndex)) ⌝ }
 {
     let n = rows::count(t);
     let mut low: u64 = 0;
     let mut i = 0;
     while i < n {
-        let v = number::get64(t, rows::row_at(i));
+        let v = number::get64(t, rows::row_at(t, i));
         if v <= low {
             return false;
         }
         low = v;
         i += 1;
     }
-    if low > number::get64(t, Table::LAST) {
+    if low > rows::header(t, Table::LAST) {
         return false;
     }
     true
 }
 
-// Whether no two rows have the same key.
+// Whether no two entries have the same key.
 pub(crate) fn differ(t: &[u8]) -> bool
     requires { ⌜ length (now t) ≡ size ⌝ }
     ensures { λ r. ⌜ Tells r (Differ (now (t .entry))) ⌝ }
@@ -119,7 +139,7 @@ pub(crate) fn fits(key: &[u8], value: &[u8], deadline: Second) -> bool
     deadline.0 <= Row::LAST_DEADLINE
 }
 
-// The version of the last row, 0 where none is held.
+// The version of the last entry, 0 where none is held.
 fn newest_version(t: &[u8]) -> EntryVersion
     requires { ⌜ length (now t) ≡ size ⌝ }
     ensures { λ r. ⌜ r .0 ≡ newest (stateOf (now (t .entry)) .entries) ⌝ }
@@ -128,7 +148,7 @@ fn newest_version(t: &[u8]) -> EntryVersion
     if n == 0 {
         return EntryVersion(0);
     }
-    EntryVersion(number::get64(t, rows::row_at(n - 1)))
+    EntryVersion(number::get64(t, rows::row_at(t, n - 1)))
 }
 
 // Whether an entry of the key and the version can stand behind those held.

@@ -12,7 +12,7 @@ use Rattle.table.proofs.check.differ.Statement.{statement}
 use Rattle.table.proofs.check.differ.Tie as tie
 
 abbrev Inv-loop : tie.InvT-loop
-Inv-loop t n i₀ i = (i ≤ n) × ((j : ℕ) → j < i → FoundFrom t (entryOf t (rowAt j) .key) (j + 1) Absent)
+Inv-loop t n i₀ i = (i ≤ n) × ((j : ℕ) → j < i → FoundFrom t (entryOf t (rowAt t j) .key) (j + 1) Absent)
 
 abbrev μ-loop : tie.MeasureT-loop
 μ-loop t n i₀ i = n - i
@@ -34,7 +34,7 @@ loop-again c = let l = c .before .before .before .before .before in
     let i = l .loop .i in
     let f = subst (FoundFrom t _ (i + 1)) (c .enum-told .given .1) (c .before .before .find-from .ensures) in (
       omega arith,
-      below-more (λ (j : ℕ). FoundFrom t (entryOf t (rowAt j) .key) (j + 1) Absent) i (l .loop .inv .1)
+      below-more (λ (j : ℕ). FoundFrom t (entryOf t (rowAt t j) .key) (j + 1) Absent) i (l .loop .inv .1)
           (subst (λ (k : List ℕ). FoundFrom t k (i + 1) Absent) (c .before .before .before .key .ensures) f),
     )
 

@@ -32,7 +32,7 @@ extern "C" {
 #define FQ_DONE 256
 #define FQ_REPLY_FULL 257
 
-#define FQ_TABLE_SIZE 45072     /* bytes of a table */
+#define FQ_TABLE_SIZE 45200     /* bytes of a table */
 #define FQ_TABLE_KEYS 128       /* keys that a table holds at most */
 #define FQ_NAME_LIMIT 32        /* bytes of a cache name */
 #define FQ_KEY_LIMIT 64         /* bytes of a key */

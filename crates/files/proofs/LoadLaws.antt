@@ -124,14 +124,14 @@ next-entries us (x ∷ es) y v e = a-next (entryLine form1 .enc x) (entryLines f
 
 loads-true : {c : Bool} {s t u : List ℕ} → LoadsWhole form1 true s t c u → c ≡ true
 loads-true no-line = refl
-loads-true (a-line l o e c r) = loads-true r
+loads-true (a-line l o e r) = loads-true r
 
 next-line : {c : Bool} {x t u : List ℕ} (y : List ℕ) (st : State) → LoadsWhole form1 false x t c u → Stores form1 (x ++ y) st → Behind y
 unfolding file
 next-line y st no-line q =
     a-next (headLine form1 .enc (st .last)) (entryLines form1 (st .entries)) (q .same) (omega (arith, head-most form1 .most (st .last) (head-good form1 (st .last) (omega (arith, q .table .last)))))
-next-line {u = u} y st (a-line l o e c r) q =
-    let w = loads-stores (a-line l o e c r) (loads-true r) in
+next-line {u = u} y st (a-line l o e r) q =
+    let w = loads-stores (a-line l o e r) (loads-true r) in
     let p = file-front form1 (stateOf u) st y (w .0 .table) (q .table) (ap (λ (z : List ℕ). z ++ y) (sym (w .1 .same)) ∙ q .same) in
     next-entries (stateOf u .entries) (p .entries) y (subst (Each (λ e. Valid (entryLine form1) e)) (p .all) (table-good form1 st (q .table))) (p .behind)
 

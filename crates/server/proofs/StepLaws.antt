@@ -1,31 +1,30 @@
 -- What a step of the map makes of an answer and of the table. Assumes nothing.
-use mathlib.Core.Path.{_≡_, refl, ap₂, _∙_}
+use mathlib.Core.Path.{_≡_, refl, ap₂}
 use mathlib.Core.List.{List, [], _∷_}
 use mathlib.Core.Bool.{Bool, true, false, cond}
 use mathlib.Core.Option.{Option, none, some}
-use Prim.Native.Nat.{ℕ, suc, _≤_, _<_}
+use Prim.Native.Nat.{ℕ, suc, _≤_, _<_, _^_}
 use native.Mathlib.Omega.{arith}
 use lib.ListN.{length, length-append}
 use lib.Dec.{ltb}
-use borrow.Author.Tests.{lt-ltb, le-ltb, le-leb, eq-eqb, ltb-true}
+use borrow.Author.Tests.{lt-ltb, le-ltb, ltb-true}
 use Rattle.wire.specs.Codec.{Read, Valid}
 use Rattle.wire.proofs.Laws.{never}
-use Rattle.message.specs.Request.{keyLimit, valueLimit, Request, request, isEmpty}
+use Rattle.message.specs.Request.{Request, request, isEmpty}
 use Rattle.message.proofs.Sizes.{small}
 use Rattle.map.specs.State.{Entry, State, without, hasKey}
-use Rattle.map.specs.Table.{Sizes, Issued, OtherKey, OtherVersion, IsTable}
 use Rattle.map.specs.Step as map
-use Rattle.map.specs.Step.{Context, Change, Outcome, answered, mostKeys, lastVersion, deadline, entry, stored, isNone, held, versionOf, full, planned, answer, act, step}
+use Rattle.map.specs.Step.{Context, Change, Outcome, answered, lastVersion, deadline, entry, stored, isNone, held, versionOf, full, planned, answer, act, step}
 use Rattle.map.specs.Reply.{flat, pieces}
-use Rattle.map.proofs.Each.{each-without, pairs-without}
 use Rattle.map.proofs.Keeps.{keeps-table}
 use Rattle.table.specs.Memory as memory
 use Rattle.table.specs.Memory.{stateOf, Sound}
-use Rattle.table.specs.Found.{FoundIs}
-use Rattle.table.specs.Change.{Changed, Left, fitsRow, hasRoom, added, removed}
+use Rattle.table.specs.Found.{entryAt, FoundIs}
+use Rattle.table.specs.Change.{Changed, Left, added, renewed, removed}
 use Rattle.table.specs.declared.Found.the-variants as f
 use Rattle.table.proofs.Lists.{says-yes, says-no}
 use Rattle.table.proofs.Keys.{found-without, found-less}
+use Rattle.table.proofs.Changes.{added-changed, renewed-changed, removed-changed}
 use Rattle.service.specs.Serve as stream
 use Rattle.service.specs.Serve.{effect, errorPieces, onStep, served}
 use Rattle.service.specs.Stream as stream-of
@@ -33,10 +32,11 @@ use Rattle.service.specs.Stream.{Done, Does, Serves}
 use Rattle.service.proofs.Decides.{isSound}
 use Rattle.service.proofs.Sounds.{tells-sound}
 use Rattle.service.proofs.Calls.{roomy-within}
-use Rattle.plan.specs.Plan.{isFull, refusalOf}
+use Rattle.plan.specs.declared.Held.{Held}
+use Rattle.plan.specs.Plan.{isFull, refusalOf, Holds}
 use Rattle.server.specs.declared.Answer.{Answer}
 use Rattle.server.specs.Answer.{callOf, doneOf, Says, Sends}
-use Rattle.server.specs.Act.{at, less, after}
+use Rattle.server.specs.Act.{at, less, replaced, Storable, after}
 
 -- what is sent, with the table that is left
 pub does : {ps : _} {n : ℕ} {v : stream.Verdict} {old new : List ℕ} {a : Answer} {o : _} {t t′ : List ℕ}
@@ -56,22 +56,30 @@ pub does-refused : (q : Request) {n k : ℕ} {o : Outcome} {old new t : List ℕ
 unfolding onStep
 does-refused q e s = rw e (does s refl)
 
--- the table without a row
+-- the table without a row, and with a value under a key
 module _ {t k : List ℕ} (s : Sound t) where
   pub row-dropped : {t′ : List ℕ} (i : ℕ) → FoundIs t k (f.At i) → Left t (removed i t) t′ → Changed t t′ (less k (stateOf t))
-  unfolding removed
-  row-dropped {t′} i e l =
-      let g : Changed t t′ _ = rw (lt-ltb i (length (stateOf t .entries)) (e .0)) at l in
-      rw (found-less t k i (s .table .keys) e) at g
+  row-dropped i e l = rw (found-less t k i (s .table .keys) e) at (removed-changed s i (e .0) l)
 
   pub none-dropped : FoundIs t k f.Absent → Changed t t (less k (stateOf t))
-  none-dropped e = record { long = refl; state = rw (found-without t k e); form = λ z. z .form }
+  none-dropped e = record { long = refl; state = rw (found-without t k e); form = s .form }
+
+module _ {t k v : List ℕ} {held : Held} {t′ : List ℕ} (s : Storable t k v held) (d : ℕ) (h : d < 2 ^ 64) where
+  pub row-stored : (i : ℕ) → FoundIs t k (f.At i) → Left t (renewed i v d t) t′ → Changed t t′ (replaced k v d (stateOf t))
+  unfolding entryAt
+  row-stored i e l =
+      rw (found-less t k i (s .sound .table .keys) e, e .1) at (renewed-changed (s .sound) i v d (s .value) h (e .0) (s .version) l)
+
+  pub none-stored : FoundIs t k f.Absent → Left t (added k v d t) t′ → Changed t t′ (replaced k v d (stateOf t))
+  none-stored e l =
+      let w = found-without t k e in
+      rw w (added-changed (s .sound) k v d (s .key) (s .value) h (rw w at (s .room)) (s .version) l)
 
 -- a step on a sound table leaves a sound one
 module _ (c : Context) (q : Request) (t : List ℕ) (s : Sound t) (v : Valid request q) (h : c .second < 0x1_0000_0000) where
   sound-after : {b : map.Answer} {st : State} {t′ : List ℕ} → step c q (stateOf t) ≡ answered b st → Changed t t′ st → (stateOf t′ ≡ st) × Sound t′
   sound-after {b} {st} {t′} e d =
-      (d .state, record { form = d .form s; table = rw (d .state) (keeps-table c q (stateOf t) (s .table) b st e v h) })
+      (d .state, record { form = d .form; table = rw (d .state) (keeps-table c q (stateOf t) (s .table) b st e v h) })
 
   pub does-answered : {b : map.Answer} {st : State} {n : ℕ} {old new t′ : List ℕ} {a : Answer} → step c q (stateOf t) ≡ answered b st → Sends (pieces q b) n served old new a
       → Changed t t′ st → Does (onStep q n (step c q (stateOf t))) t old (doneOf a new t′)
@@ -139,46 +147,29 @@ version-left st o e = go (isFull st o) (ltb (st .last) lastVersion) refl e
     go false false z e = never (cc)
 
 -- a table that is as it was
-pub same-table : (t : List ℕ) → Changed t t (stateOf t)
-same-table t = record { long = refl; state = refl; form = λ s. s .form }
+pub same-table : (t : List ℕ) → Sound t → Changed t t (stateOf t)
+same-table t s = record { long = refl; state = refl; form = s .form }
 
--- a table less an entry is one
-rest-table : (k : List ℕ) (st : State) → IsTable st → length (without (hasKey k) (st .entries)) ≤ mostKeys → IsTable (less k st)
-rest-table k st s l =
-    let p = hasKey k in
-    record {
-      few = l;
-      keys = pairs-without p OtherKey (st .entries) (s .keys);
-      sizes = each-without p Sizes (st .entries) (s .sizes);
-      versions = pairs-without p OtherVersion (st .entries) (s .versions);
-      issued = each-without p (Issued (st .last)) (st .entries) (s .issued);
-      last = s .last;
-    }
-
--- the request's entry behind those that are left
+-- the request's value can be stored, and storing it is the map's change
 module _ (c : Context) (q : Request) (t : List ℕ) (s : Sound t) (v : Valid request q) (h : c .second < 0x1_0000_0000) where
-  abbrev rest : State
-  rest = less (q .args .key) (stateOf t)
-
-  added-is : (t₁ : List ℕ) {d : ℕ} → length t₁ ≡ memory.size → stateOf t₁ ≡ rest → length (rest .entries) < mostKeys → stateOf t .last < lastVersion → d ≡ deadline c q
-      → added (q .args .key) (q .args .value) d t₁ ≡ some (stored c q (stateOf t))
-  unfolding added fitsRow hasRoom stored entry memory.entry
-  added-is t₁ n e f l w =
-      let z = small q v in
-      rw (e, eq-eqb _ memory.size n, le-leb _ keyLimit (z .key), le-leb _ valueLimit (z .value), lt-ltb _ mostKeys f, lt-ltb _ lastVersion l, w)
-
-  pub stored-after : {b : map.Answer} {t₁ t₂ : List ℕ} {d : ℕ} → step c q (stateOf t) ≡ answered b (stored c q (stateOf t)) → stateOf t .last < lastVersion → d ≡ deadline c q
-      → Changed t t₁ rest → Left t₁ (added (q .args .key) (q .args .value) d t₁) t₂ → Changed t t₂ (stored c q (stateOf t))
+  pub storable : {b : map.Answer} {held : Held} → step c q (stateOf t) ≡ answered b (stored c q (stateOf t)) → Holds t (q .args .key) held → stateOf t .last < lastVersion
+      → Storable t (q .args .key) (q .args .value) held
   unfolding stored
-  stored-after {b} {t₁} {t₂} e l w d a =
+  storable {b} e g l =
       let x = keeps-table c q (stateOf t) (s .table) b (stored c q (stateOf t)) e v h .few in
-      let f : length (rest .entries) < mostKeys = omega (arith, length-append (rest .entries) (entry c q (suc (stateOf t .last)) ∷ [])) in
-      let g : Changed t₁ t₂ (stored c q (stateOf t)) = rw (added-is t₁ (d .long ∙ s .form .long) (d .state) f l w) at a in
+      let es = without (hasKey (q .args .key)) (stateOf t .entries) in
       record {
-        long = g .long ∙ d .long;
-        state = g .state;
-        form = λ z. g .form (record { form = d .form z; table = rw (d .state) (rest-table (q .args .key) (stateOf t) (s .table) (omega arith)) });
+        sound = s;
+        holds = g;
+        key = small q v .key;
+        value = small q v .value;
+        room = omega (arith, length-append es (entry c q (suc (stateOf t .last)) ∷ []));
+        version = l;
       }
+
+pub replaced-is : (c : Context) (q : Request) (st : State) {d : ℕ} → d ≡ deadline c q → replaced (q .args .key) (q .args .value) d st ≡ stored c q st
+unfolding stored entry memory.entry
+replaced-is c q st e = rw e
 
 -- a call on a sound table, with room for any reply: what is read says what it does
 pub serves-read : (input t out : List ℕ) (second : ℕ) {d : Done} {x : Read Request} → Sound t → stream.room ≤ length out → request .dec input ≡ x

@@ -7,7 +7,7 @@ use Prim.Native.Nat.{ℕ, _<_, _≤_}
 use lib.ListN.{length}
 use lib.Dec.{eqb}
 use Rattle.wire.specs.Codec.{Valid}
-use Rattle.message.specs.Request.{Request, request}
+use Rattle.message.specs.Request.{keyLimit, valueLimit, Request, request}
 use Rattle.map.specs.State.{Entry, State, withEntries, without, hasKey}
 use Rattle.map.specs.Step as map
 use Rattle.map.specs.Step.{Context}
@@ -15,6 +15,7 @@ use Rattle.map.specs.Reply.{pieces}
 use Rattle.message.specs.declared.Form.{Form}
 use Rattle.message.specs.declared.Form.the-variants as f
 use Rattle.table.specs.Memory.{stateOf, Sound}
+use Rattle.table.specs.Change.{grown}
 use Rattle.service.specs.Serve.{room, served, onStep}
 use Rattle.service.specs.Stream.{Done, Does}
 use Rattle.plan.specs.declared.Held.{Held}
@@ -43,6 +44,19 @@ entryShown f.Text (some e) = 0
 -- the state without the entry that has the key
 abbrev pub less : List ℕ → State → State
 less k st = withEntries (without (hasKey k) (st .entries)) st
+
+-- the state with the value under the key: no other entry has the key, and the entry that has it is of the next version
+abbrev pub replaced : List ℕ → List ℕ → ℕ → State → State
+replaced k v d st = grown k v d (less k st)
+
+-- a value that can be set under a key: sizes are kept, there is a row for it, and a version is left
+pub record Storable (t k v : List ℕ) (held : Held) : Type 0 where
+  pub sound : Sound t
+  pub holds : Holds t k held
+  pub key : length k ≤ keyLimit
+  pub value : length v ≤ valueLimit
+  pub room : length (less k (stateOf t) .entries) < map.mostKeys
+  pub version : stateOf t .last < map.lastVersion
 
 -- a well-formed request on a sound table, with what is held and the status planned
 pub record Planned (t : List ℕ) (q : Request) (held : Held) (s : ℕ) : Type 0 where

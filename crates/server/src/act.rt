@@ -31,7 +31,7 @@ ghost use Rattle.service.specs.Serve as stream;
 ghost use Rattle.service.specs.Stream.{Serves};
 ghost use Rattle.plan.specs.Plan.{asChange, Holds, heldAt};
 ghost use Rattle.server.specs.Answer.{asVerdict, callOf, doneOf, Says, Sends};
-ghost use Rattle.server.specs.Act.{at, valueShown, entryShown, less, after, Planned, Agreed, Given, Replies, Performs};
+ghost use Rattle.server.specs.Act.{at, valueShown, entryShown, less, replaced, Storable, after, Planned, Agreed, Given, Replies, Performs};
 
 // Nothing taken and nothing sent.
 pub(crate) fn still(v: Verdict) -> Answer
@@ -159,22 +159,32 @@ fn deadline(h: Head, second: Second) -> Second
     Second(h.lifespan)
 }
 
-// Makes the change that is planned. A store adds the request's entry in place of the row held.
+// Sets the value and the deadline under a key, with the next version: of the row held, or of a row that is added.
+fn store(t: &mut [u8], held: Held, key: &[u8], value: &[u8], deadline: Second)
+    requires { ⌜ Storable (now t) (now key) (now value) held ⌝ }
+    ensures { λ _. ⌜ table.Changed (now (t .entry)) (now (t .exit)) (replaced (now (key .entry)) (now (value .entry)) (deadline .0) (stateOf (now (t .entry)))) ⌝ }
+{
+    let Held::Row(i, _) = held else {
+        table::add(t, key, value, deadline);
+        return;
+    };
+    table::renew(t, i, value, deadline);
+}
+
+// Makes the change that is planned.
 fn change(input: &[u8], r: Request, t: &mut [u8], second: Second, c: Change, held: Held)
     requires { ⌜ Agreed (now t) (requestIn (now input) r) (second .0) held (asChange c) ⌝ }
     ensures { λ _. ⌜ table.Changed (now (t .entry)) (now (t .exit)) (after (at (second .0)) (requestIn (now (input .entry)) r) (stateOf (now (t .entry))) (asChange c)) ⌝ }
 {
     match c {
         Change::Keep => {}
-        Change::Store => {
-            drop_row(t, held);
-            table::add(
-                t,
-                r.key_in(input),
-                r.value_in(input),
-                deadline(r.head, second),
-            );
-        }
+        Change::Store => store(
+            t,
+            held,
+            r.key_in(input),
+            r.value_in(input),
+            deadline(r.head, second),
+        ),
         Change::Drop => drop_row(t, held),
         Change::Empty => {
             table::clear(t);

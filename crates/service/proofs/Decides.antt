@@ -16,7 +16,7 @@ use Rattle.map.specs.Step.{mostKeys, lastVersion}
 use Rattle.map.specs.Table.{Each, Pairs, lastDeadline, Sizes, OtherKey, OtherVersion, Issued, IsTable, Ascending}
 use Rattle.map.proofs.Laws.{same-true, other-differ}
 use Rattle.table.specs.Bytes.{be8}
-use Rattle.table.specs.Memory.{size, rowAt, countOf, stateOf, Form, Sound}
+use Rattle.table.specs.Memory.{countIndex, size, numberOf, placeOf, rowAt, countOf, stateOf, Permutation, Form, Sound}
 
 decMap : {P Q : Type 0} → (P → Q) → (Q → P) → Dec P → Dec Q
 decMap f g (yes p) = yes (f p)
@@ -30,6 +30,11 @@ decBoth (no n) d = no (λ z. n (z .0))
 decNot : {P : Type 0} → Dec P → Dec (P → ⊥)
 decNot (yes p) = no (λ n. n p)
 decNot (no n) = yes n
+
+decFrom : {P Q : Type 0} → Dec P → Dec Q → Dec (P → Q)
+decFrom d (yes q) = yes (λ p. q)
+decFrom (yes p) (no n) = no (λ f. n (f p))
+decFrom (no m) (no n) = yes (λ p. absurd (m p))
 
 decBool : (a b : Bool) → Dec (a ≡ b)
 decBool true true = yes refl
@@ -85,12 +90,19 @@ decTable st =
     (decBoth (decEach decSizes (st .entries)) (decBoth (decPairs (λ e f. decNot (decEq (e .version) (f .version))) (st .entries))
     (decBoth (decEach (λ e. decBoth (decLe 1 (e .version)) (decLe (e .version) (st .last))) (st .entries)) (decLe (st .last) lastVersion))))))
 
+decPlaces : (t : List ℕ) → Dec (Permutation t)
+decPlaces t =
+    decMap (λ z. record { below = z .0; once = λ i j l m. z .1 i l j m }) (λ p. (p .below, λ i l j m. p .once i j l m))
+    (decBoth (decBelow _ (λ i. decLt (placeOf t i) mostKeys) mostKeys)
+    (decBelow _ (λ i. decBelow _ (λ j. decFrom (decEq (placeOf t i) (placeOf t j)) (decEq i j)) mostKeys) mostKeys))
+
 decForm : (t : List ℕ) → Dec (Form t)
 decForm t =
-    decMap (λ z. record { long = z .0; counted = z .1 .0; lengths = z .1 .1 .0; order = z .1 .1 .1 }) (λ f. (f .long, (f .counted, (f .lengths, f .order))))
-    (decBoth (decEq (length t) size) (decBoth (decLe (be8 t 0) mostKeys)
-    (decBoth (decBelow _ (λ i. decBoth (decLe (be8 t (rowAt i + 16)) keyLimit) (decLe (be8 t (rowAt i + 24)) valueLimit)) (countOf t))
-    (decPairs (λ e f. decLt (e .version) (f .version)) (stateOf t .entries)))))
+    decMap (λ z. record { long = z .0; counted = z .1 .0; places = z .1 .1 .0; lengths = z .1 .1 .1 .0; order = z .1 .1 .1 .1 })
+    (λ f. (f .long, (f .counted, (f .places, (f .lengths, f .order)))))
+    (decBoth (decEq (length t) size) (decBoth (decLe (numberOf t countIndex) mostKeys) (decBoth (decPlaces t)
+    (decBoth (decBelow _ (λ i. decBoth (decLe (be8 t (rowAt t i + 16)) keyLimit) (decLe (be8 t (rowAt t i + 24)) valueLimit)) (countOf t))
+    (decPairs (λ e f. decLt (e .version) (f .version)) (stateOf t .entries))))))
 
 pub decSound : (t : List ℕ) → Dec (Sound t)
 decSound t = decMap (λ z. record { form = z .0; table = z .1 }) (λ s. (s .form, s .table)) (decBoth (decForm t) (decTable (stateOf t)))

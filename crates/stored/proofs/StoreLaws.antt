@@ -24,7 +24,7 @@ use Rattle.hex.specs.Coding as hex
 use Rattle.hex.proofs.HexLaws.{line-length}
 use Rattle.hex.proofs.InPlace.{line-over}
 use Rattle.table.specs.Bytes.{be8, part}
-use Rattle.table.specs.Memory.{size, rowAt, entry, entryOf, entriesOf, stateOf}
+use Rattle.table.specs.Memory.{lastIndex, numberAt, size, numberOf, rowAt, entry, entryOf, entriesOf, stateOf}
 use Rattle.table.specs.Found.{entryAt}
 use Rattle.table.proofs.Lists.{lt-or-ge}
 use Rattle.table.proofs.Parts.{bytes-part}
@@ -63,7 +63,7 @@ blank-good f = entry-good f (entry [] [] 0 0) (omega arith) (omega arith) (omega
 pub held-good : (f : Form) (t : List ℕ) (i : ℕ) → Bytes t → Valid (entryLine f) (entryAt t i)
 held-good f t i b =
     ⊎-elim
-    (λ l. let h = held-row t i l in rw (entry-is t (h .0) i (h .1)) (row-good f t (rowAt i) b))
+    (λ l. let h = held-row t i l in rw (entry-is t (h .0) i (h .1)) (row-good f t (rowAt t i) b))
     (λ l. rw (no-row t i l) (blank-good f))
     (lt-or-ge i (length (stateOf t .entries)))
 
@@ -138,9 +138,9 @@ line-none f st k h = rw (le-ltb k (length (st .entries)) h)
 
 -- a row's last version fits its eight bytes
 pub last-small : (t : List ℕ) → Bytes t → stateOf t .last < 256 ^ 8
-unfolding stateOf
+unfolding stateOf numberOf
 last-small t b = go (eqb (length t) size) refl
   where
-    go : (x : Bool) → eqb (length t) size ≡ x → cond x (record { entries = entriesOf t; last = be8 t 8 }) fresh .last < 256 ^ 8
-    go true e = be8-small t 8 b
+    go : (x : Bool) → eqb (length t) size ≡ x → cond x (record { entries = entriesOf t; last = numberOf t lastIndex }) fresh .last < 256 ^ 8
+    go true e = be8-small t (numberAt lastIndex) b
     go false e = omega arith

@@ -19,9 +19,9 @@ use Rattle.map.specs.State.{Entry, State}
 use Rattle.map.specs.Table.{Each, IsTable}
 use Rattle.hex.specs.Hex.{toHex, line}
 use Rattle.table.specs.Memory.{size, entry, stateOf, Sound}
-use Rattle.table.specs.Change.{Changed, Left, isSome}
+use Rattle.table.specs.Change.{Left, isSome}
 use Rattle.table.specs.declared.Outcome.the-variants.{Done, Refused}
-use Rattle.table.proofs.Restores.{started-is, started-says, restored-says, restored-sound, each-restored, each-mid}
+use Rattle.table.proofs.Restores.{started-is, started-says, started-long, restored-long, restored-sound, each-restored, each-mid}
 use Rattle.table.proofs.HasForm.{started-sound}
 use Rattle.stored.specs.File.{Form, form1, entryLine, headLine, entryLines, file, Stores}
 use Rattle.stored.specs.Answer.{readLine, startWith, restoreTo, headLoaded, lineLoaded, loaded, NoEnd, Loads, no-line, a-line, Ends, LoadsLines, Loaded}
@@ -49,22 +49,35 @@ to-end (x ∷ s) h = go (eqb x 0x0a) refl (to-end s) h
         (rw n (ap (λ (y : List ℕ). x ∷ y) (i .0)), rw e (ap suc (i .1)))
 
 -- what a loader left
-left-none : {t u : List ℕ} (o : Option State) → isSome o ≡ false → Left t o u → (o ≡ none) × (t ≡ u)
+left-none : {t u : List ℕ} (o : Option (List ℕ)) → isSome o ≡ false → Left t o u → (o ≡ none) × (t ≡ u)
 left-none none e l = (refl, sym l)
-left-none (some st) e l = never (cc)
+left-none (some x) e l = never (cc)
 
-left-some : {t u : List ℕ} (o : Option State) → isSome o ≡ true → Left t o u → (st : State) × (o ≡ some st) × Changed t u st
-left-some none e l = never (cc)
-left-some (some st) e l = (st, refl, l)
+left-some : (t u : List ℕ) (o : Option (List ℕ)) → isSome o ≡ true → Left t o u → o ≡ some u
+left-some t u none e l = never (cc)
+left-some t u (some x) e l = ap some (sym l)
 
 -- lines behind lines: the cuts do not matter
 pub loads-both : {f : Form} {b c d : Bool} {x y t u v : List ℕ} → Loads f b x t c u → Loads f c y u d v → Loads f b (x ++ y) t d v
 loads-both no-line q = q
-loads-both (a-line l o e c r) q = rw append-assoc (a-line l o e c (loads-both r q))
+loads-both (a-line l o e r) q = rw append-assoc (a-line l o e (loads-both r q))
+
+loaded-long : (f : Form) (b : Bool) (l t u : List ℕ) → loaded f b l t ≡ some u → length u ≡ length t
+unfolding headLoaded lineLoaded
+loaded-long f false l t u e = go (readLine (headLine f) l) e
+  where
+    go : (o : Option ℕ) → startWith t o ≡ some u → length u ≡ length t
+    go none q = never (cc)
+    go (some n) q = started-long n t u q
+loaded-long f true l t u e = go (readLine (entryLine f) l) e
+  where
+    go : (o : Option Entry) → restoreTo t o ≡ some u → length u ≡ length t
+    go none q = never (cc)
+    go (some x) q = restored-long (x .key) (x .value) (x .version) (x .deadline) t u q
 
 pub loads-long : {f : Form} {b c : Bool} {s t u : List ℕ} → Loads f b s t c u → length u ≡ length t
 loads-long no-line = refl
-loads-long (a-line l o e c r) = loads-long r ∙ c .long
+loads-long {f} {b} {t = t} (a-line {u = u} l o e r) = loads-long r ∙ loaded-long f b l t u e
 
 -- the line end that was found from `at` on, or the end of the list
 module _ (s : List ℕ) (at r : ℕ) (found : r ≡ at + indexOf 0x0a (slice at (length s) s)) where
@@ -97,9 +110,9 @@ module _ (s : List ℕ) (at r : ℕ) (found : r ≡ at + indexOf 0x0a (slice at 
 
     pub good-next : isSome (loaded f c next t) ≡ true → Left t (loaded f c next t) u → Loads f b (take (r + 1) s) t₀ true u
     good-next e l =
-        let x = left-some (loaded f c next t) e l in
+        let x = left-some t u (loaded f c next t) e l in
         let y = next-line h in
-        rw (y .0) (loads-both g (a-line next (y .1) (x .1) (x .2) no-line))
+        rw (y .0) (loads-both g (a-line next (y .1) x no-line))
 
 ends-on : (f : Form) (b : Bool) (s t y : List ℕ) → Ends f b s t false → Ends f b (s ++ y) t false
 ends-on f b s t y e = (e .0, e .1 ++ y, rw (e .2, append-assoc), e .3, e .4)
@@ -127,52 +140,51 @@ module _ {f : Form} {b : Bool} {p t u : List ℕ} {r : Loading} (q : List ℕ) (
       }
 
 -- a first line that is loaded is the file of the table that it leaves
-head-sound : (l t u : List ℕ) (st : State) → headLoaded form1 l t ≡ some st → Changed t u st → Sound u × (file form1 (stateOf u) ≡ l ++ (0x0a ∷ []))
+head-sound : (l t u : List ℕ) → headLoaded form1 l t ≡ some u → Sound u × (file form1 (stateOf u) ≡ l ++ (0x0a ∷ []))
 unfolding headLoaded file entryLines line
-head-sound l t u st e c = go (readLine (headLine form1) l) refl e
+head-sound l t u e = go (readLine (headLine form1) l) refl e
   where
-    go : (o : Option ℕ) → readLine (headLine form1) l ≡ o → startWith t o ≡ some st → Sound u × (file form1 (stateOf u) ≡ l ++ (0x0a ∷ []))
+    go : (o : Option ℕ) → readLine (headLine form1) l ≡ o → startWith t o ≡ some u → Sound u × (file form1 (stateOf u) ≡ l ++ (0x0a ∷ []))
     go none p q = never (cc)
     go (some n) p q =
-        let s = started-says n t st q in
-        let d = started-sound n t u (s .0) (s .1) (rw q c) in
+        let s = started-says n t u q in
+        let d = started-sound n t u (s .0) (s .1) (rw q refl) in
         let x = line-read (headLine form1) (head-laws form1) l n p in
         (d .0, ap (file form1) (d .1) ∙ append-nil (line (headLine form1 .enc n)) ∙ ap (λ (y : List ℕ). y ++ (0x0a ∷ [])) (sym (x .same)))
 
 -- an entry's line that is loaded is behind the file of the table before it
-line-sound : (l t u : List ℕ) (st : State) → Sound t → lineLoaded form1 l t ≡ some st → Changed t u st
+line-sound : (l t u : List ℕ) → Sound t → lineLoaded form1 l t ≡ some u
     → Sound u × (file form1 (stateOf u) ≡ file form1 (stateOf t) ++ (l ++ (0x0a ∷ [])))
 unfolding lineLoaded file entryLines entry line
-line-sound l t u st h e c = go (readLine (entryLine form1) l) refl e
+line-sound l t u h e = go (readLine (entryLine form1) l) refl e
   where
-    go : (o : Option Entry) → readLine (entryLine form1) l ≡ o → restoreTo t o ≡ some st
+    go : (o : Option Entry) → readLine (entryLine form1) l ≡ o → restoreTo t o ≡ some u
         → Sound u × (file form1 (stateOf u) ≡ file form1 (stateOf t) ++ (l ++ (0x0a ∷ [])))
     go none p q = never (cc)
     go (some x) p q =
         let y = line-read (entryLine form1) (entry-laws form1) l x p in
         let k = parts x (y .good) .1 .1 in
-        let d = restored-sound (x .key) (x .value) (x .version) (x .deadline) t u st h
-        (bytes-are _ (limited-valid keyLimit (x .key) (k .0) .1)) (bytes-are _ (limited-valid valueLimit (x .value) (k .1) .1)) q (rw q c) in
-        let r = restored-says (x .key) (x .value) (x .version) (x .deadline) t st q in
-        (d .0, ap (file form1) (d .1 ∙ r .same) ∙ rw (lines-append, append-nil, y .same) (sym (append-assoc (line (headLine form1 .enc (stateOf t .last))) (entryLines form1 (stateOf t .entries)) (line (entryLine form1 .enc x)))))
+        let d = restored-sound (x .key) (x .value) (x .version) (x .deadline) t u h
+        (bytes-are _ (limited-valid keyLimit (x .key) (k .0) .1)) (bytes-are _ (limited-valid valueLimit (x .value) (k .1) .1)) q in
+        (d .0, ap (file form1) (d .1) ∙ rw (lines-append, append-nil, y .same) (sym (append-assoc (line (headLine form1 .enc (stateOf t .last))) (entryLines form1 (stateOf t .entries)) (line (entryLine form1 .enc x)))))
 
 -- lines behind a file
 loads-true : {f : Form} {c : Bool} {s t u : List ℕ} → Loads f true s t c u → c ≡ true
 loads-true no-line = refl
-loads-true (a-line l o e c r) = loads-true r
+loads-true (a-line l o e r) = loads-true r
 
 loads-sound : {c : Bool} {s t u : List ℕ} → Loads form1 true s t c u → Sound t → Sound u × (file form1 (stateOf u) ≡ file form1 (stateOf t) ++ s)
 loads-sound {t = t} no-line h = (h, sym (append-nil (file form1 (stateOf t))))
-loads-sound {t = t} (a-line {u = u} {st = st} l o e c r) h =
-    let a = line-sound l t u st h e c in
+loads-sound {t = t} (a-line {u = u} l o e r) h =
+    let a = line-sound l t u h e in
     let d = loads-sound r (a .0) in
     (d .0, d .1 ∙ rw (a .1, append-assoc, append-assoc))
 
 -- a file of lines that are all loaded stores the table that they leave
 pub loads-stores : {c : Bool} {s t u : List ℕ} → Loads form1 false s t c u → c ≡ true → Sound u × Stores form1 s (stateOf u)
 loads-stores no-line p = never (cc)
-loads-stores {t = t} (a-line {u = u} {st = st} l o e c r) p =
-    let a = head-sound l t u st e c in
+loads-stores {t = t} (a-line {u = u} l o e r) p =
+    let a = head-sound l t u e in
     let d = loads-sound r (a .0) in
     (d .0, record { table = d .0 .table; order = d .0 .form .order; same = sym (d .1 ∙ rw (a .1, append-assoc)) })
 
@@ -213,9 +225,9 @@ pub all-loaded : {c : Bool} {x t u : List ℕ} (g : Bool) (y : List ℕ) (st : S
 unfolding file
 all-loaded {t = t} g y st no-line n q h =
     absurd (stuck false (headLine form1 .enc (st .last)) (entryLines form1 (st .entries)) t g (head-loads st t (q .table) h) (rw (q .same) at n))
-all-loaded {u = u} g y st (a-line l o e c r) n q h =
+all-loaded {u = u} g y st (a-line l o e r) n q h =
     let i = loads-true r in
-    let w = loads-stores (a-line l o e c r) i in
+    let w = loads-stores (a-line l o e r) i in
     let p = file-front form1 (stateOf u) st y (w .0 .table) (q .table) (ap (λ (z : List ℕ). z ++ y) (sym (w .1 .same)) ∙ q .same) in
     let z = rest-loads u y g (p .entries) q (w .0 .form .long) (p .all) (p .last) (p .behind) (rw i at n) in
     (i, z .0, z .1)

@@ -11,7 +11,7 @@ use Rattle.wire.specs.Codec.{Read, whole, more, refused, Codec}
 use Rattle.wire.specs.Write.{Sent, kept, sent}
 use Rattle.map.specs.State.{Entry, State}
 use Rattle.table.specs.Memory.{size, entry, stateOf, Sound}
-use Rattle.table.specs.Change.{Changed, started, restored}
+use Rattle.table.specs.Change.{started, restored}
 use Rattle.table.specs.declared.Outcome.{Outcome}
 use Rattle.table.specs.declared.Outcome.the-variants.{Done, Refused}
 use Rattle.hex.specs.Hex.{fromHex, line}
@@ -42,23 +42,23 @@ readBytes c (some bs) = exactly (length bs) (c .dec bs)
 unfoldable pub readLine : {A : Type 0} → Codec A → List ℕ → Option A
 readLine c s = readBytes c (fromHex s)
 
--- the table that the first line starts, and the one that an entry's line leaves
-abbrev pub startWith : List ℕ → Option ℕ → Option State
+-- the memory that the first line starts, and the one that an entry's line leaves
+abbrev pub startWith : List ℕ → Option ℕ → Option (List ℕ)
 startWith t none = none
 startWith t (some n) = started n t
 
-abbrev pub restoreTo : List ℕ → Option Entry → Option State
+abbrev pub restoreTo : List ℕ → Option Entry → Option (List ℕ)
 restoreTo t none = none
 restoreTo t (some e) = restored (e .key) (e .value) (e .version) (e .deadline) t
 
-unfoldable pub headLoaded : Form → List ℕ → List ℕ → Option State
+unfoldable pub headLoaded : Form → List ℕ → List ℕ → Option (List ℕ)
 headLoaded f s t = startWith t (readLine (headLine f) s)
 
-unfoldable pub lineLoaded : Form → List ℕ → List ℕ → Option State
+unfoldable pub lineLoaded : Form → List ℕ → List ℕ → Option (List ℕ)
 lineLoaded f s t = restoreTo t (readLine (entryLine f) s)
 
--- the table that a line leaves: the first line of a file where none is loaded yet, else an entry's line
-abbrev pub loaded : Form → Bool → List ℕ → List ℕ → Option State
+-- the memory that a line leaves: the first line of a file where none is loaded yet, else an entry's line
+abbrev pub loaded : Form → Bool → List ℕ → List ℕ → Option (List ℕ)
 loaded f false l t = headLoaded f l t
 loaded f true l t = lineLoaded f l t
 
@@ -70,8 +70,7 @@ NoEnd s = indexOf 0x0a s ≡ length s
 -- and after them. The lists behind the bytes: the memory before, and after.
 pub data Loads (f : Form) : Bool → List ℕ → List ℕ → Bool → List ℕ → Type 0 where
   no-line : {b : Bool} {t : List ℕ} → Loads f b [] t b t
-  a-line : {b c : Bool} {s t u v : List ℕ} {st : State} (l : List ℕ) → NoEnd l → loaded f b l t ≡ some st → Changed t u st → Loads f true s u c v
-      → Loads f b (l ++ (0x0a ∷ s)) t c v
+  a-line : {b c : Bool} {s t u v : List ℕ} (l : List ℕ) → NoEnd l → loaded f b l t ≡ some u → Loads f true s u c v → Loads f b (l ++ (0x0a ∷ s)) t c v
 
 -- Why loading ends before these bytes. Good: no line end stands in them. Not good: their first line can't be loaded into the memory.
 abbrev pub Ends : Form → Bool → List ℕ → List ℕ → Bool → Type 0

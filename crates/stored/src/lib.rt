@@ -153,10 +153,10 @@ pub fn load_lines(piece: &[u8], t: &mut [u8], begun: bool) -> Loading
 }
 
 // Memory of a table.
-fn memory() -> [u8; 45072]
+fn memory() -> [u8; 45200]
     ensures { λ r. ⌜ size ≡ length r ⌝ }
 {
-    [0; 45072]
+    [0; 45200]
 }
 
 // Loads a stored file: the table is built in memory of its own, and takes the place of t only when the last line is good. Else it is 17.

@@ -4,23 +4,23 @@ use mathlib.Core.List.{List, []}
 use mathlib.Core.Bool.{Bool, true, false, cond, _&&_}
 use mathlib.Core.Option.{none, some}
 use mathlib.Core.Logic.{⊎-elim}
-use Prim.Native.Nat.{ℕ, _+_, _≤_, _<_}
+use Prim.Native.Nat.{ℕ, suc, _+_, _-_, _≤_, _<_}
 use native.Mathlib.Omega.{arith}
 use lib.ListN.{length, List·getD-eq-default}
 use lib.Dec.{eqb, leb, ltb}
-use borrow.Author.Tests.{eqb-true, eqb-false, eq-eqb, ne-eqb, ltb-true, lt-ltb, le-ltb, leb-true}
+use borrow.Author.Tests.{eqb-true, eqb-false, eq-eqb, ne-eqb, ltb-true, lt-ltb, le-ltb, leb-true, le-leb, lt-leb}
 use Rattle.wire.proofs.Laws.{never, both, and, and-false}
 use Rattle.message.specs.Request.{keyLimit, valueLimit}
-use Rattle.map.specs.State.{Entry, State, withEntries, fresh}
+use Rattle.map.specs.State.{Entry, State, fresh}
 use Rattle.map.specs.Step.{mostKeys, lastVersion}
 use Rattle.table.specs.Bytes.{be8}
-use Rattle.table.specs.Memory.{size, rowAt, entry, entryOf, countOf, stateOf}
+use Rattle.table.specs.Memory.{countIndex, lastIndex, size, rowAt, entry, entryOf, countOf, stateOf}
 use Rattle.table.specs.Found.{entryAt, FoundIs, NumberAt}
 use Rattle.table.specs.Check.{FoundFrom}
 use Rattle.table.specs.declared.Found.{Found}
 use Rattle.table.specs.declared.Found.the-variants.{At, Absent}
-use Rattle.table.specs.Change.{Changed, Answers, fitsRow, hasRoom, added, removed, cleared}
-use Rattle.table.specs.Write.{grown, shrunk}
+use Rattle.table.specs.Change.{Answers, fitsRow, hasRoom, added, renewed, removed, cleared}
+use Rattle.table.specs.Write.{withNumber, turned, withValue, withEntry}
 use Rattle.table.proofs.Lists.{lt-or-ge}
 use Rattle.table.proofs.RowLaws.{length-entries, entry-is}
 
@@ -48,7 +48,7 @@ field-is : (f : Entry → ℕ) (t : List ℕ) (i o r : ℕ) → ((a : ℕ) → f
     → r ≡ f (entryAt t i)
 field-is f t i o r h z n =
     ⊎-elim
-    (λ l. let g = held-row t i l in n .held l ∙ sym (ap f (entry-is t (g .0) i (g .1)) ∙ h (rowAt i)))
+    (λ l. let g = held-row t i l in n .held l ∙ sym (ap f (entry-is t (g .0) i (g .1)) ∙ h (rowAt t i)))
     (λ l. n .none l ∙ sym (ap f (no-row t i l) ∙ z))
     (lt-or-ge i (length (stateOf t .entries)))
 
@@ -61,30 +61,55 @@ unfolding entryOf entry
 deadline-at t i r n = field-is (λ (e : Entry). e .deadline) t i 8 r (λ a. refl) refl n
 
 -- what a writer answers
-pub taken : (old new : List ℕ) (st : State) (b : Bool) → b ≡ true → Changed old new st → Answers old (cond b (some st) none) true new
-taken old new st true e h = (refl, h)
-taken old new st false e h = never (cc)
+pub taken : (old u : List ℕ) {new : List ℕ} (b : Bool) → b ≡ true → new ≡ u → Answers old (cond b (some u) none) true new
+taken old u true e h = (refl, h)
+taken old u false e h = never (cc)
 
-pub left : (old : List ℕ) (st : State) (b : Bool) → b ≡ false → Answers old (cond b (some st) none) false old
-left old st true e = never (cc)
-left old st false e = (refl, refl)
+pub left : (old u : List ℕ) (b : Bool) → b ≡ false → Answers old (cond b (some u) none) false old
+left old u true e = never (cc)
+left old u false e = (refl, refl)
 
 module _ (t : List ℕ) where
-  pub cleared-yes : (u : List ℕ) → length t ≡ size → Changed t u (withEntries [] (stateOf t)) → Answers t (cleared t) true u
+  pub cleared-yes : (u : List ℕ) → length t ≡ size → u ≡ withNumber countIndex 0 t → Answers t (cleared t) true u
   unfolding cleared
-  cleared-yes u h x = taken t u _ _ (eq-eqb (length t) size h) x
+  cleared-yes u h x = taken t _ _ (eq-eqb (length t) size h) x
 
   pub cleared-no : (length t ≡ size → ⊥) → Answers t (cleared t) false t
   unfolding cleared
   cleared-no h = left t _ _ (ne-eqb (length t) size h)
 
-  pub removed-yes : (i : ℕ) (u : List ℕ) → i < length (stateOf t .entries) → Changed t u (shrunk i (stateOf t)) → Answers t (removed i t) true u
-  unfolding removed
-  removed-yes i u l x = taken t u _ _ (lt-ltb i (length (stateOf t .entries)) l) x
+  module _ (i : ℕ) where
+    pub removed-yes : (u : List ℕ) → i < length (stateOf t .entries) → u ≡ withNumber countIndex (countOf t - 1) (turned i (countOf t - 1) t) → Answers t (removed i t) true u
+    unfolding removed
+    removed-yes u l x = taken t _ _ (lt-ltb i (length (stateOf t .entries)) l) x
 
-  pub removed-no : (i : ℕ) → length (stateOf t .entries) ≤ i → Answers t (removed i t) false t
-  unfolding removed
-  removed-no i l = left t _ _ (le-ltb i (length (stateOf t .entries)) l)
+    pub removed-no : length (stateOf t .entries) ≤ i → Answers t (removed i t) false t
+    unfolding removed
+    removed-no l = left t _ _ (le-ltb i (length (stateOf t .entries)) l)
+
+    -- entry i renewed
+    module _ (v : List ℕ) (d : ℕ) where
+      abbrev renewal : List ℕ
+      renewal =
+          let n = suc (stateOf t .last) in
+          withNumber lastIndex n (turned i (countOf t - 1) (withValue (rowAt t i) v n d t))
+
+      pub renewed-yes : (u : List ℕ) → length v ≤ valueLimit → i < length (stateOf t .entries) → stateOf t .last < lastVersion → u ≡ renewal → Answers t (renewed i v d t) true u
+      unfolding renewed
+      renewed-yes u hv l hl x = taken t _ _ (and (le-leb _ _ hv) (and (lt-ltb _ _ l) (lt-ltb _ _ hl))) x
+
+      not-renewed : (leb (length v) valueLimit && (ltb i (length (stateOf t .entries)) && ltb (stateOf t .last) lastVersion)) ≡ false → Answers t (renewed i v d t) false t
+      unfolding renewed
+      not-renewed e = left t _ _ e
+
+      pub renewed-unfit : valueLimit < length v → Answers t (renewed i v d t) false t
+      renewed-unfit h = not-renewed (rw (lt-leb (length v) valueLimit h))
+
+      pub renewed-none : length (stateOf t .entries) ≤ i → Answers t (renewed i v d t) false t
+      renewed-none h = not-renewed (rw (le-ltb i (length (stateOf t .entries)) h) (and-false (leb (length v) valueLimit)))
+
+      pub renewed-last : lastVersion ≤ stateOf t .last → Answers t (renewed i v d t) false t
+      renewed-last h = not-renewed (rw (le-ltb (stateOf t .last) lastVersion h) (simp and-false))
 
 -- what a row can hold, and whether one is free
 pub row-fits : (k v : List ℕ) → fitsRow k v ≡ true → (length k ≤ keyLimit) × (length v ≤ valueLimit)
@@ -97,10 +122,12 @@ room-is t e = let x = both (eqb (length t) size) (ltb (length (stateOf t .entrie
 
 -- what an entry more takes
 module _ (k v : List ℕ) (d : ℕ) (t : List ℕ) where
-  pub added-yes : (u : List ℕ) → fitsRow k v ≡ true → hasRoom t ≡ true → stateOf t .last < lastVersion → Changed t u (grown k v d (stateOf t))
-      → Answers t (added k v d t) true u
+  abbrev addition : List ℕ
+  addition = let n = suc (stateOf t .last) in withNumber lastIndex n (withEntry k v n d t)
+
+  pub added-yes : (u : List ℕ) → fitsRow k v ≡ true → hasRoom t ≡ true → stateOf t .last < lastVersion → u ≡ addition → Answers t (added k v d t) true u
   unfolding added
-  added-yes u hk ht hl x = taken t u _ _ (and hk (and ht (lt-ltb _ _ hl))) x
+  added-yes u hk ht hl x = taken t _ _ (and hk (and ht (lt-ltb _ _ hl))) x
 
   none-more : (fitsRow k v && (hasRoom t && ltb (stateOf t .last) lastVersion)) ≡ false → Answers t (added k v d t) false t
   unfolding added

@@ -1,8 +1,13 @@
 pub mod Lists
 pub mod Parts
 pub mod RowLaws
+pub mod Regions
+pub mod Places
+pub mod Seen
 pub mod Order
 pub mod Writes
+pub mod Entries
+pub mod Changes
 pub mod Answers
 pub mod Compare
 pub mod Keys

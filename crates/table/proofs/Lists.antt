@@ -88,3 +88,13 @@ module _ {A : Type 0} where
       (λ b. before k b ∙ sym (removeAt-before i (upto f n) (f 0) l k b ∙ getD-upto f n k (f 0) (omega arith)))
       (λ b. after k b (omega arith) ∙ sym (removeAt-after i (upto f n) (f 0) l k b ∙ getD-upto f n (k + 1) (f 0) (omega arith)))
       (lt-or-ge k i))
+
+  -- the element at index i gone, and another one behind the rest
+  pub upto-renew : (f g : ℕ → A) (n i : ℕ) (e : A) → i < n → ((k : ℕ) → k < i → g k ≡ f k) → ((k : ℕ) → i ≤ k → k + 1 < n → g k ≡ f (k + 1)) → g (n - 1) ≡ e
+      → upto g n ≡ removeAt i (upto f n) ++ (e ∷ [])
+  unfolding upto
+  upto-renew f g n i e h before after q =
+      let m : n ≡ suc (n - 1) = omega arith in
+      ap (upto g) m
+      ∙ ap (λ (l : List A). l ++ (g (n - 1) ∷ [])) (upto-remove f g n i h before after)
+      ∙ ap (λ (x : A). removeAt i (upto f n) ++ (x ∷ [])) q

@@ -57,7 +57,7 @@ module _ (xs : List ℕ) (a : ℕ) (vs : List ℕ) (fits : a + length vs ≤ len
       ∙ ap (λ (i : ℕ). getD xs i 0) (sym e′)
 
   -- one more element is laid over
-  put-more : (v : ℕ) → a + length vs < length xs → set (put xs a vs) (a + length vs) v ≡ put xs a (vs ++ (v ∷ []))
+  pub put-more : (v : ℕ) → a + length vs < length xs → set (put xs a vs) (a + length vs) v ≡ put xs a (vs ++ (v ∷ []))
   unfolding put
   put-more v h =
       let n : ℕ = a + length vs in
@@ -97,10 +97,6 @@ unfolding put
 lent-put xs a k ys e =
     ap (λ (l : List ℕ). take a xs ++ (ys ++ l)) (drop-drop k a xs ∙ ap (λ (n : ℕ). drop (a + n) xs) (sym e))
     ∙ sym (append-assoc (take a xs) ys (drop (a + length ys) xs))
-
-pub part-before : (t : List ℕ) (a : ℕ) (vs : List ℕ) (b n : ℕ) → a + length vs ≤ length t → b + n ≤ a → part (put t a vs) b n ≡ part t b n
-part-before t a vs b n h g =
-    part-ext (put t a vs) t b b n (omega (arith, length-put t a vs h)) (omega arith) (λ k l. put-before t a vs h (b + k) (omega arith))
 
 pub part-put : (t : List ℕ) (a : ℕ) (vs : List ℕ) → a + length vs ≤ length t → part (put t a vs) a (length vs) ≡ vs
 part-put t a vs h =

@@ -16,25 +16,27 @@ use Rattle.map.specs.State.{Entry, State, find, hasKey}
 use Rattle.map.specs.Step.{mostKeys, lastVersion, isNone}
 use Rattle.map.specs.Table.{Each, Pairs, lastDeadline, Sizes, OtherKey, OtherVersion, Issued, IsTable, Ascending}
 use Rattle.map.proofs.Laws.{same-other, other-differ}
-use Rattle.table.specs.Memory.{size, rowAt, entry, countOf, stateOf, Sound}
+use Rattle.table.specs.Memory.{countIndex, lastIndex, size, rowAt, entry, countOf, stateOf, Sound}
 use Rattle.table.specs.Bytes.{be8}
 use Rattle.table.specs.Found.{entryAt}
-use Rattle.table.specs.Change.{Changed, Left, Answers, started, newest, fitsRow, hasRoom, fitting, next, restored}
-use Rattle.table.specs.Write.{extended}
+use Rattle.table.specs.Change.{Answers, extended, started, newest, fitsRow, hasRoom, fitting, next, restored}
+use Rattle.table.specs.Write.{withNumber, inOrder, withEntry}
 use Rattle.map.proofs.Each.{each-map, each-add, pairs-add}
-use Rattle.table.proofs.Order.{each-at, to-newest}
+use Rattle.table.proofs.Order.{each-at}
 use Rattle.table.proofs.RowLaws.{length-entries}
 use Rattle.table.proofs.SoundLaws.{version-is}
 use Rattle.table.proofs.Answers.{taken, left, row-fits, room-is}
+use Rattle.table.proofs.Writes.{entry-long}
+use Rattle.table.proofs.Changes.{newest-above, entry-changed, started-changed}
 
-passed : (new : State) (b : Bool) (s : State) → cond b (some new) none ≡ some s → (b ≡ true) × (s ≡ new)
-passed new true s e = (refl, cc)
-passed new false s e = never (cc)
+passed : (new : List ℕ) (b : Bool) (u : List ℕ) → cond b (some new) none ≡ some u → (b ≡ true) × (u ≡ new)
+passed new true u e = (refl, cc)
+passed new false u e = never (cc)
 
 -- the answers of `start`
 module _ (x : ℕ) (t : List ℕ) where
-  abbrev bare : State
-  bare = record { entries = []; last = x }
+  abbrev bare : List ℕ
+  bare = withNumber lastIndex x (inOrder (withNumber countIndex 0 t))
 
   abbrev may-start : Bool
   may-start = eqb (length t) size && leb x lastVersion
@@ -43,16 +45,16 @@ module _ (x : ℕ) (t : List ℕ) where
   unfolding started
   started-is h l = rw (and (eq-eqb _ _ h) (le-leb _ _ l))
 
-  pub started-says : (s : State) → started x t ≡ some s → (length t ≡ size) × (x ≤ lastVersion)
+  pub started-says : (u : List ℕ) → started x t ≡ some u → (length t ≡ size) × (x ≤ lastVersion) × (u ≡ bare)
   unfolding started
-  started-says s e =
-      let a = passed bare may-start s e in
+  started-says u e =
+      let a = passed bare may-start u e in
       let b = both (eqb (length t) size) (leb x lastVersion) (a .0) in
-      (eqb-true _ _ (b .0), leb-true _ _ (b .1))
+      (eqb-true _ _ (b .0), leb-true _ _ (b .1), a .1)
 
-  pub started-yes : (u : List ℕ) → length t ≡ size → x ≤ lastVersion → Changed t u bare → Answers t (started x t) true u
+  pub started-yes : (u : List ℕ) → length t ≡ size → x ≤ lastVersion → u ≡ bare → Answers t (started x t) true u
   unfolding started
-  started-yes u h l c = taken t u bare may-start (and (eq-eqb _ _ h) (le-leb _ _ l)) c
+  started-yes u h l c = taken t bare may-start (and (eq-eqb _ _ h) (le-leb _ _ l)) c
 
   pub started-sized : (length t ≡ size → ⊥) → Answers t (started x t) false t
   unfolding started
@@ -71,7 +73,7 @@ module _ (t : List ℕ) (h : length t ≡ size) where
       (ap (λ (x : Entry). x .version)
       (List·getD-eq-default (stateOf t .entries) (entry [] [] 0 0) {n = length (stateOf t .entries) - 1} (omega (arith, length-entries t h))))
 
-  pub newest-row : (n : ℕ) → n ≡ countOf t → 0 < n → be8 t (rowAt (n - 1)) ≡ newest (stateOf t .entries)
+  pub newest-row : (n : ℕ) → n ≡ countOf t → 0 < n → be8 t (rowAt t (n - 1)) ≡ newest (stateOf t .entries)
   unfolding newest entryAt
   newest-row n e l =
       sym (version-is t h (n - 1) (omega arith))
@@ -152,8 +154,8 @@ module _ (k : List ℕ) (n : ℕ) (t : List ℕ) where
 
 -- the answers of `restore`
 module _ (k v : List ℕ) (n d : ℕ) (t : List ℕ) where
-  abbrev new : State
-  new = extended k v n d (stateOf t)
+  abbrev new : List ℕ
+  new = withEntry k v n d t
 
   abbrev may-restore : Bool
   may-restore = fitting k v d && next k n t
@@ -166,25 +168,34 @@ module _ (k v : List ℕ) (n d : ℕ) (t : List ℕ) where
   unfolding restored
   restored-no e = left t new may-restore (rw (e, and-false))
 
-  pub restored-yes : (u : List ℕ) → fitting k v d ≡ true → next k n t ≡ true → Changed t u new → Answers t (restored k v n d t) true u
+  pub restored-yes : (u : List ℕ) → fitting k v d ≡ true → next k n t ≡ true → u ≡ new → Answers t (restored k v n d t) true u
   unfolding restored
-  restored-yes u p q c = taken t u new may-restore (and p q) c
+  restored-yes u p q c = taken t new may-restore (and p q) c
 
   restored-is : fitting k v d ≡ true → next k n t ≡ true → restored k v n d t ≡ some new
   unfolding restored
   restored-is p q = rw (p, q)
 
-  pub record Restored (s : State) : Type 0 where
-    pub fits : Fits k v d
-    pub follows : Follows k n t
-    pub same : s ≡ new
+  record Restored (u : List ℕ) : Type 0 where
+    fits : Fits k v d
+    follows : Follows k n t
+    same : u ≡ new
 
-  pub restored-says : (s : State) → restored k v n d t ≡ some s → Restored s
+  restored-says : (u : List ℕ) → restored k v n d t ≡ some u → Restored u
   unfolding restored
-  restored-says s e =
-      let a = passed new may-restore s e in
+  restored-says u e =
+      let a = passed new may-restore u e in
       let b = both (fitting k v d) (next k n t) (a .0) in
       record { fits = fits k v d (b .0); follows = follows k n t (b .1); same = a .1 }
+
+-- a change keeps the length
+pub started-long : (x : ℕ) (t u : List ℕ) → started x t ≡ some u → length u ≡ length t
+started-long x t u e = let s = started-says x t u e in started-changed x t u (s .0) (s .1) (rw e refl) .long
+
+pub restored-long : (k v : List ℕ) (n d : ℕ) (t u : List ℕ) → restored k v n d t ≡ some u → length u ≡ length t
+restored-long k v n d t u e =
+    let r = restored-says k v n d t u e in
+    rw (r .same) (entry-long k v n d t (r .follows .long) (r .fits .key) (r .fits .value))
 
 -- entries that lack a key
 lacks : (k : List ℕ) (es : List Entry) → find (hasKey k) es ≡ none → Each (λ e. e .key ≡ k → ⊥) es
@@ -203,32 +214,29 @@ lacking k [] h = refl
 lacking k (e ∷ es) h = rw (same-other (e .key) k (h .0)) (lacking k es (h .1))
 
 -- what `restore` leaves is a table
-restored-table : (k v : List ℕ) (n d : ℕ) (t : List ℕ) (s : State) → Sound t → Bytes k → Bytes v → restored k v n d t ≡ some s
-    → IsTable s × Ascending (s .entries)
+restored-table : (k v : List ℕ) (n d : ℕ) (t u : List ℕ) → Sound t → Bytes k → Bytes v → Restored k v n d t u → IsTable (extended k v n d (stateOf t))
 unfolding entry
-restored-table k v n d t s h bk bv e =
-    let r = restored-says k v n d t s e in
+restored-table k v n d t u h bk bv r =
     let es : List Entry = stateOf t .entries in
     let old = h .table in
-    let low : Each (λ e. e .version < n) es = each-map _ _ (λ e l. omega (arith, r .follows .above)) es (to-newest es (h .form .order)) in
-    subst (λ (x : State). IsTable x × Ascending (x .entries)) (sym (r .same)) (
-      record {
-        few = omega (arith, length-append es (entry k v n d ∷ []), r .follows .room);
-        keys = pairs-add _ OtherKey es (old .keys) (lacks k es (r .follows .absent));
-        sizes = each-add _ Sizes es (old .sizes)
-            (record { key = r .fits .key; value = r .fits .value; keyBytes = is-bytes k bk; valueBytes = is-bytes v bv; deadline = r .fits .deadline });
-        versions = pairs-add _ OtherVersion es (old .versions) (each-map _ _ (λ e l q. omega arith) es low);
-        issued = each-add _ (Issued (stateOf t .last)) es (old .issued) (omega (arith, r .follows .above), r .follows .most);
-        last = old .last;
-      },
-      pairs-add _ _ es (h .form .order) low,
-    )
+    let low = newest-above t n h (r .follows .above) in
+    record {
+      few = omega (arith, length-append es (entry k v n d ∷ []), r .follows .room);
+      keys = pairs-add _ OtherKey es (old .keys) (lacks k es (r .follows .absent));
+      sizes = each-add _ Sizes es (old .sizes)
+          (record { key = r .fits .key; value = r .fits .value; keyBytes = is-bytes k bk; valueBytes = is-bytes v bv; deadline = r .fits .deadline });
+      versions = pairs-add _ OtherVersion es (old .versions) (each-map _ _ (λ e l q. omega arith) es low);
+      issued = each-add _ (Issued (stateOf t .last)) es (old .issued) (omega (arith, r .follows .above), r .follows .most);
+      last = old .last;
+    }
 
-pub restored-sound : (k v : List ℕ) (n d : ℕ) (t u : List ℕ) (s : State) → Sound t → Bytes k → Bytes v → restored k v n d t ≡ some s
-    → Left t (restored k v n d t) u → Sound u × (stateOf u ≡ s)
-restored-sound k v n d t u s h bk bv e l =
-    let c : Changed t u s = subst (λ (o : Option State). Left t o u) e l in
-    (record { form = c .form h; table = subst IsTable (sym (c .state)) (restored-table k v n d t s h bk bv e .0) }, c .state)
+pub restored-sound : (k v : List ℕ) (n d : ℕ) (t u : List ℕ) → Sound t → Bytes k → Bytes v → restored k v n d t ≡ some u
+    → Sound u × (stateOf u ≡ extended k v n d (stateOf t))
+restored-sound k v n d t u h bk bv e =
+    let r = restored-says k v n d t u e in
+    let c = entry-changed k v n d t h (r .follows .room) (r .fits .key) (r .fits .value) (omega (arith, r .follows .most, h .table .last)) (omega (arith, r .fits .deadline))
+    (newest-above t n h (r .follows .above)) in
+    rw (r .same) (record { form = c .form; table = subst IsTable (sym (c .state)) (restored-table k v n d t u h bk bv r) }, c .state)
 
 -- each entry of a table follows those before it
 pub each-mid : (p : Entry → Type 0) (es : List Entry) (e : Entry) (fs : List Entry) → Each p (es ++ (e ∷ fs)) → p e
@@ -246,7 +254,7 @@ newest-below n (e ∷ es) h l = each-at (λ e. e .version < n) (e ∷ es) (entry
 
 pub each-restored : (st : State) (e : Entry) (fs : List Entry) (t : List ℕ) → IsTable st → Ascending (st .entries) → length t ≡ size
     → st .entries ≡ stateOf t .entries ++ (e ∷ fs) → st .last ≡ stateOf t .last
-    → restored (e .key) (e .value) (e .version) (e .deadline) t ≡ some (extended (e .key) (e .value) (e .version) (e .deadline) (stateOf t))
+    → restored (e .key) (e .value) (e .version) (e .deadline) t ≡ some (withEntry (e .key) (e .value) (e .version) (e .deadline) t)
 unfolding fitting fitsRow
 each-restored st e fs t h a l p q =
     let es : List Entry = stateOf t .entries in

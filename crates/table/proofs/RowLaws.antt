@@ -8,11 +8,11 @@ use borrow.Author.Tests.{eq-eqb}
 use Rattle.map.specs.State.{Entry, State}
 use Rattle.map.specs.Step.{mostKeys}
 use Rattle.table.specs.Bytes.{be8}
-use Rattle.table.specs.Memory.{size, rowAt, entry, entryOf, countOf, entriesOf, stateOf}
+use Rattle.table.specs.Memory.{lastIndex, size, numberOf, rowAt, entry, entryOf, countOf, entriesOf, stateOf}
 use Rattle.table.specs.Found.{entryAt}
 use Rattle.table.specs.Write.{put, digits}
 use Rattle.table.proofs.Lists.{length-upto, getD-upto}
-use Rattle.table.proofs.Parts.{part-ext, length-put, put-before, put-after, put-in}
+use Rattle.table.proofs.Parts.{part-ext, length-put, put-before, put-in}
 
 -- eight-byte numbers
 pub be8-same : (t u : List ℕ) (a b : ℕ) → ((k : ℕ) → k < 8 → getD t (a + k) 0 ≡ getD u (b + k) 0) → be8 t a ≡ be8 u b
@@ -49,12 +49,6 @@ module _ (t : List ℕ) (a x : ℕ) (fits : a + 8 ≤ length t) where
       (λ k l. let e : 0 + k ≡ k = omega arith in
       cc (put-in t a (digits x) (omega (arith, length-digits x)) k (omega (arith, length-digits x))))
       ∙ spelt x h
-
-  pub put8-after : (k : ℕ) → a + 8 ≤ k → getD (put t a (digits x)) k 0 ≡ getD t k 0
-  put8-after k h = put-after t a (digits x) (omega (arith, length-digits x)) k (omega (arith, length-digits x))
-
-  pub be8-after : (b : ℕ) → a + 8 ≤ b → be8 (put t a (digits x)) b ≡ be8 t b
-  be8-after b h = be8-same _ _ b b (λ k l. put8-after (b + k) (omega arith))
 
 pub be8-before : (t : List ℕ) (a : ℕ) (vs : List ℕ) (b : ℕ) → a + length vs ≤ length t → b + 8 ≤ a → be8 (put t a vs) b ≡ be8 t b
 be8-before t a vs b h g = be8-same (put t a vs) t b b (λ k l. put-before t a vs h (b + k) (omega arith))
@@ -98,29 +92,29 @@ module _ (t u : List ℕ) (a b : ℕ) (ht : a + 352 ≤ length t) (hu : b + 352 
   row-same = record { entry = entry-same; key = n₁; value = n₂ }
 
 -- the state of memory of the right length, and of another
-pub state-is : (t : List ℕ) (st : State) → length t ≡ size → entriesOf t ≡ st .entries → be8 t 8 ≡ st .last → stateOf t ≡ st
+pub state-is : (t : List ℕ) (st : State) → length t ≡ size → entriesOf t ≡ st .entries → numberOf t lastIndex ≡ st .last → stateOf t ≡ st
 unfolding stateOf
 state-is t st h e f = rw (eq-eqb (length t) size h, e, f)
 
 module _ (t : List ℕ) (h : length t ≡ size) where
-  sized : stateOf t ≡ record { entries = entriesOf t; last = be8 t 8 }
+  sized : stateOf t ≡ record { entries = entriesOf t; last = numberOf t lastIndex }
   sized = state-is t _ h refl refl
 
   pub entries-are : stateOf t .entries ≡ entriesOf t
   entries-are = ap (λ (st : State). st .entries) sized
 
-  pub last-is : stateOf t .last ≡ be8 t 8
+  pub last-is : stateOf t .last ≡ numberOf t lastIndex
   last-is = ap (λ (st : State). st .last) sized
 
   pub length-entries : length (stateOf t .entries) ≡ countOf t
   unfolding entriesOf
   length-entries = ap length entries-are ∙ length-upto _ _
 
-  pub entry-is : (i : ℕ) → i < countOf t → entryAt t i ≡ entryOf t (rowAt i)
+  pub entry-is : (i : ℕ) → i < countOf t → entryAt t i ≡ entryOf t (rowAt t i)
   unfolding entryAt entriesOf
   entry-is i l =
       ap (λ (es : List Entry). getD es i (entry [] [] 0 0)) entries-are
-      ∙ getD-upto (λ (j : ℕ). entryOf t (rowAt j)) (countOf t) i (entry [] [] 0 0) l
+      ∙ getD-upto (λ (j : ℕ). entryOf t (rowAt t j)) (countOf t) i (entry [] [] 0 0) l
 
 pub count-most : (t : List ℕ) → countOf t ≤ mostKeys
 unfolding countOf

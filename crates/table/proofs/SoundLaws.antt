@@ -12,7 +12,7 @@ use Rattle.map.specs.State.{Entry}
 use Rattle.map.specs.Step.{mostKeys, lastVersion}
 use Rattle.map.specs.Table.{Each, Pairs, Sizes, OtherKey, OtherVersion, Issued, Ascending}
 use Rattle.table.specs.Bytes.{be8}
-use Rattle.table.specs.Memory.{size, rowAt, entry, entryOf, countOf, stateOf, Sound}
+use Rattle.table.specs.Memory.{countIndex, lastIndex, size, numberOf, rowAt, entry, entryOf, countOf, stateOf, Permutation, Sound}
 use Rattle.table.specs.Found.{entryAt}
 use Rattle.table.specs.Check.{Within, AllWithin, Rising, Differ}
 use Rattle.table.proofs.Lists.{lt-or-ge}
@@ -21,60 +21,60 @@ use Rattle.table.proofs.Parts.{length-part, bytes-part}
 use Rattle.table.proofs.RowLaws.{entry-is, length-entries, last-is, count-most}
 
 -- a version more, above those passed
-pub rising-more : (t : List ℕ) (i low v : ℕ) → Rising t i low → v ≡ be8 t (rowAt i) → low < v → Rising t (i + 1) v
+pub rising-more : (t : List ℕ) (i low v : ℕ) → Rising t i low → v ≡ be8 t (rowAt t i) → low < v → Rising t (i + 1) v
 rising-more t i low v r e l =
     record {
-      first = below-more (λ (j : ℕ). 1 ≤ be8 t (rowAt j)) i (r .first) (omega arith);
+      first = below-more (λ (j : ℕ). 1 ≤ be8 t (rowAt t j)) i (r .first) (omega arith);
       rise = λ j h.
           ⊎-elim
           (λ q. r .rise j q)
-          (λ q. let f : be8 t (rowAt (j + 1)) ≡ v = ap (λ (n : ℕ). be8 t (rowAt n)) (omega arith) ∙ sym e in omega (arith, r .most j (omega arith)))
+          (λ q. let f : be8 t (rowAt t (j + 1)) ≡ v = ap (λ (n : ℕ). be8 t (rowAt t n)) (omega arith) ∙ sym e in omega (arith, r .most j (omega arith)))
           (lt-or-ge (j + 1) i);
-      most = below-more (λ (j : ℕ). be8 t (rowAt j) ≤ v) i (λ j h. omega (arith, r .most j h)) (omega arith);
+      most = below-more (λ (j : ℕ). be8 t (rowAt t j) ≤ v) i (λ j h. omega (arith, r .most j h)) (omega arith);
     }
 
 -- versions rise between any two rows
-pub climbs : (t : List ℕ) (n top : ℕ) → Rising t n top → (i j : ℕ) → i < j → j < n → be8 t (rowAt i) < be8 t (rowAt j)
+pub climbs : (t : List ℕ) (n top : ℕ) → Rising t n top → (i j : ℕ) → i < j → j < n → be8 t (rowAt t i) < be8 t (rowAt t j)
 climbs t n top r i zero l h = absurd (omega arith)
 climbs t n top r i (suc j) l h =
-    let s : be8 t (rowAt j) < be8 t (rowAt (j + 1)) = r .rise j (omega arith) in
-    let e : be8 t (rowAt (j + 1)) ≡ be8 t (rowAt (suc j)) = ap (λ (n : ℕ). be8 t (rowAt n)) (omega arith) in
+    let s : be8 t (rowAt t j) < be8 t (rowAt t (j + 1)) = r .rise j (omega arith) in
+    let e : be8 t (rowAt t (j + 1)) ≡ be8 t (rowAt t (suc j)) = ap (λ (n : ℕ). be8 t (rowAt t n)) (omega arith) in
     ⊎-elim
     (λ q. omega (arith, climbs t n top r i j q (omega arith)))
-    (λ q. let f : be8 t (rowAt i) ≡ be8 t (rowAt j) = ap (λ (n : ℕ). be8 t (rowAt n)) (omega arith) in omega arith)
+    (λ q. let f : be8 t (rowAt t i) ≡ be8 t (rowAt t j) = ap (λ (n : ℕ). be8 t (rowAt t n)) (omega arith) in omega arith)
     (lt-or-ge i j)
 
 -- the fields of a row that is held
 module _ (t : List ℕ) (h : length t ≡ size) (i : ℕ) (l : i < countOf t) where
-  key-is : entryAt t i .key ≡ entryOf t (rowAt i) .key
+  key-is : entryAt t i .key ≡ entryOf t (rowAt t i) .key
   key-is = ap (λ (e : Entry). e .key) (entry-is t h i l)
 
-  pub version-is : entryAt t i .version ≡ be8 t (rowAt i)
+  pub version-is : entryAt t i .version ≡ be8 t (rowAt t i)
   unfolding entryOf entry
   version-is = ap (λ (e : Entry). e .version) (entry-is t h i l)
 
-  deadline-is : entryAt t i .deadline ≡ be8 t (rowAt i + 8)
+  deadline-is : entryAt t i .deadline ≡ be8 t (rowAt t i + 8)
   unfolding entryOf entry
   deadline-is = ap (λ (e : Entry). e .deadline) (entry-is t h i l)
 
-  sizes-are : Bytes t → Within t (rowAt i) → Sizes (entryAt t i)
+  sizes-are : Bytes t → Within t (rowAt t i) → Sizes (entryAt t i)
   unfolding entryOf entry
   sizes-are b w =
-      let k : ℕ = min (be8 t (rowAt i + 16)) 64 in
-      let v : ℕ = min (be8 t (rowAt i + 24)) 256 in
+      let k : ℕ = min (be8 t (rowAt t i + 16)) 64 in
+      let v : ℕ = min (be8 t (rowAt t i + 24)) 256 in
       let m : countOf t ≤ 128 = count-most t in
       subst Sizes (sym (entry-is t h i l))
       (record {
-        key = omega (arith, length-part t (rowAt i + 32) k (omega arith));
-        value = omega (arith, length-part t (rowAt i + 96) v (omega arith));
-        keyBytes = is-bytes _ (bytes-part t (rowAt i + 32) k b);
-        valueBytes = is-bytes _ (bytes-part t (rowAt i + 96) v b);
+        key = omega (arith, length-part t (rowAt t i + 32) k (omega arith));
+        value = omega (arith, length-part t (rowAt t i + 96) v (omega arith));
+        keyBytes = is-bytes _ (bytes-part t (rowAt t i + 32) k b);
+        valueBytes = is-bytes _ (bytes-part t (rowAt t i + 96) v b);
         deadline = w .deadline;
       })
 
 -- memory that passes the check is sound
-module _ (t : List ℕ) (h : length t ≡ size) (counted : be8 t 0 ≤ mostKeys) (last : be8 t 8 ≤ lastVersion) (all : AllWithin t)
-    (r : Rising t (countOf t) (be8 t 8)) (d : Differ t) (b : Bytes t) where
+module _ (t : List ℕ) (h : length t ≡ size) (counted : numberOf t countIndex ≤ mostKeys) (last : numberOf t lastIndex ≤ lastVersion) (p : Permutation t) (all : AllWithin t)
+    (r : Rising t (countOf t) (numberOf t lastIndex)) (d : Differ t) (b : Bytes t) where
   abbrev es : List Entry
   es = stateOf t .entries
 
@@ -97,7 +97,7 @@ module _ (t : List ℕ) (h : length t ≡ size) (counted : be8 t 0 ≤ mostKeys)
   pub checked : Sound t
   checked =
       record {
-        form = record { long = h; counted = counted; lengths = λ i l. (all i l .key, all i l .value); order = order };
+        form = record { long = h; counted = counted; places = p; lengths = λ i l. (all i l .key, all i l .value); order = order };
         table = record {
           few = omega (arith, length-entries t h, count-most t);
           keys = by-pairs OtherKey
@@ -132,7 +132,7 @@ module _ (t : List ℕ) (s : Sound t) where
         deadline = omega (arith, deadline-is t (s .form .long) i l, one Sizes (s .table .sizes) i l .deadline);
       }
 
-  pub sound-rising : Rising t (countOf t) (be8 t 8)
+  pub sound-rising : Rising t (countOf t) (numberOf t lastIndex)
   sound-rising =
       let h = s .form .long in
       record {
@@ -147,5 +147,5 @@ module _ (t : List ℕ) (s : Sound t) where
       let h = s .form .long in
       two OtherKey (s .table .keys) i j (omega arith) m (key-is t h i l ∙ sym e ∙ sym (key-is t h j m))
 
-  pub sound-last : be8 t 8 ≤ lastVersion
+  pub sound-last : numberOf t lastIndex ≤ lastVersion
   sound-last = omega (arith, last-is t (s .form .long), s .table .last)

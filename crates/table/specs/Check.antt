@@ -1,4 +1,4 @@
--- What the row functions find in memory of the right length, row by row.
+-- What the row functions find in memory of the right length, entry by entry.
 use mathlib.Core.Path.{_≡_}
 use mathlib.Core.List.{List}
 use Prim.Native.Nat.{ℕ, _+_, _-_, _%_, _≤_, _<_}
@@ -6,39 +6,39 @@ use lib.ListN.{length}
 use Rattle.message.specs.Request.{keyLimit, valueLimit}
 use Rattle.map.specs.Table.{lastDeadline}
 use Rattle.table.specs.Bytes.{be8}
-use Rattle.table.specs.Memory.{rowAt, entryOf, countOf}
+use Rattle.table.specs.Memory.{deadlineAt, keyLengthAt, valueLengthAt, rowAt, entryOf, countOf}
 use Rattle.table.specs.declared.Found.{Found}
 use Rattle.table.specs.declared.Found.the-variants.{At, Absent}
 
--- row i has the key
+-- entry i has the key
 abbrev pub Has : List ℕ → List ℕ → ℕ → Type 0
-Has t k i = entryOf t (rowAt i) .key ≡ k
+Has t k i = entryOf t (rowAt t i) .key ≡ k
 
--- the first row from `from` on that has the key, or that none has it
+-- the first entry from `from` on that has the key, or that none has it
 abbrev pub FoundFrom : List ℕ → List ℕ → ℕ → Found → Type 0
 FoundFrom t k from (At i) = (from ≤ i) × (i < countOf t) × Has t k i × ((j : ℕ) → j < i → from ≤ j → Has t k j → ⊥)
 FoundFrom t k from Absent = (j : ℕ) → j < countOf t → from ≤ j → Has t k j → ⊥
 
--- no two rows have the same key
+-- no two entries have the same key
 abbrev pub Differ : List ℕ → Type 0
-Differ t = (i : ℕ) → i < countOf t → FoundFrom t (entryOf t (rowAt i) .key) (i + 1) Absent
+Differ t = (i : ℕ) → i < countOf t → FoundFrom t (entryOf t (rowAt t i) .key) (i + 1) Absent
 
 -- the lengths and the deadline of the row at a are within their limits
 pub record Within (t : List ℕ) (a : ℕ) : Type 0 where
-  pub key : be8 t (a + 16) ≤ keyLimit
-  pub value : be8 t (a + 24) ≤ valueLimit
-  pub deadline : be8 t (a + 8) ≤ lastDeadline
+  pub key : be8 t (a + keyLengthAt) ≤ keyLimit
+  pub value : be8 t (a + valueLengthAt) ≤ valueLimit
+  pub deadline : be8 t (a + deadlineAt) ≤ lastDeadline
 
 abbrev pub AllWithin : List ℕ → Type 0
-AllWithin t = (i : ℕ) → i < countOf t → Within t (rowAt i)
+AllWithin t = (i : ℕ) → i < countOf t → Within t (rowAt t i)
 
--- the versions of the first n rows are 1 at least, rise, and are at most `top`
+-- the versions of the first n entries are 1 at least, rise, and are at most `top`
 pub record Rising (t : List ℕ) (n top : ℕ) : Type 0 where
-  pub first : (i : ℕ) → i < n → 1 ≤ be8 t (rowAt i)
-  pub rise : (i : ℕ) → i + 1 < n → be8 t (rowAt i) < be8 t (rowAt (i + 1))
-  pub most : (i : ℕ) → i < n → be8 t (rowAt i) ≤ top
+  pub first : (i : ℕ) → i < n → 1 ≤ be8 t (rowAt t i)
+  pub rise : (i : ℕ) → i + 1 < n → be8 t (rowAt t i) < be8 t (rowAt t (i + 1))
+  pub most : (i : ℕ) → i < n → be8 t (rowAt t i) ≤ top
 
--- no row before row i has the key
+-- no entry before entry i has the key
 abbrev pub NoneBefore : List ℕ → List ℕ → ℕ → Type 0
 NoneBefore t k i = (j : ℕ) → j < i → Has t k j → ⊥
 

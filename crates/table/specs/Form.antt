@@ -1,27 +1,17 @@
 -- The memory that a state is written to: its rows in order, and 0 behind them.
 use mathlib.Core.List.{List, [], _∷_}
-use Prim.Native.Nat.{ℕ, _+_}
-use lib.ListN.{length}
+use Prim.Native.Nat.{ℕ}
 use Rattle.map.specs.State.{Entry, State}
 use Rattle.table.specs.Bytes.{upto}
-use Rattle.table.specs.Memory.{size, rowWidth, rowAt, countOf}
-use Rattle.table.specs.Write.{put, digits}
+use Rattle.table.specs.Memory.{lastIndex, size}
+use Rattle.table.specs.Write.{withNumber, inOrder, withEntry}
 
 unfoldable pub zeros : ℕ → List ℕ
 zeros n = upto (λ i. 0) n
 
--- a row with its six fields
-unfoldable pub rowOf : Entry → List ℕ
-rowOf e =
-    put (put (put (put (put (put (zeros rowWidth) 0 (digits (e .version))) 8 (digits (e .deadline))) 16 (digits (length (e .key)))) 24 (digits (length (e .value)))) 32 (e .key)) 96 (e .value)
-
--- memory with a row more
-unfoldable pub withRow : List ℕ → Entry → List ℕ
-withRow t e = put (put (put t (rowAt (countOf t)) (rowOf e)) 0 (digits (countOf t + 1))) 8 (digits (e .version))
-
-unfoldable pub withRows : List ℕ → List Entry → List ℕ
-withRows t [] = t
-withRows t (e ∷ es) = withRows (withRow t e) es
+unfoldable pub withEntries : List ℕ → List Entry → List ℕ
+withEntries t [] = t
+withEntries t (e ∷ es) = withEntries (withEntry (e .key) (e .value) (e .version) (e .deadline) t) es
 
 unfoldable pub form : State → List ℕ
-form st = put (withRows (zeros size) (st .entries)) 8 (digits (st .last))
+form st = withNumber lastIndex (st .last) (withEntries (inOrder (zeros size)) (st .entries))

@@ -1,10 +1,12 @@
--- The table in lent memory: a header of count and last version, and 128 rows of fixed width, dense, ascending by version. A row has version,
--- deadline, key length and value length, 8 bytes each, highest first, then 64 bytes for the key and 256 for the value.
+-- The table in lent memory. First a header of numbers, 8 bytes each, highest first: the count of entries and the last version issued. Then the
+-- places, a byte for each row: the row of each entry held, ascending by version, and behind them the rows that are free. Then 128 rows of fixed
+-- width, which never move. A row has version, deadline, key length and value length, 8 bytes each, then 64 bytes for the key and 256 for the
+-- value.
 use mathlib.Core.Path.{_≡_}
 use mathlib.Core.List.{List}
 use mathlib.Core.Bool.{cond}
-use Prim.Native.Nat.{ℕ, _+_, _*_, _≤_, _<_, min}
-use lib.ListN.{length}
+use Prim.Native.Nat.{ℕ, _+_, _*_, _%_, _≤_, _<_, min}
+use lib.ListN.{length, getD}
 use lib.Dec.{eqb}
 use Rattle.message.specs.Request.{keyLimit, valueLimit}
 use Rattle.map.specs.State.{Entry, State, fresh}
@@ -12,18 +14,58 @@ use Rattle.map.specs.Step.{mostKeys}
 use Rattle.map.specs.Table.{IsTable, Ascending}
 use Rattle.table.specs.Bytes.{be8, part, upto}
 
-abbrev pub headWidth : ℕ
-headWidth = 16
+-- how many numbers the header has, which of them are the count of entries and the last version issued, and where number i stands
+abbrev pub headCount : ℕ
+headCount = 2
+
+abbrev pub countIndex : ℕ
+countIndex = 0
+
+abbrev pub lastIndex : ℕ
+lastIndex = 1
+
+abbrev pub numberAt : ℕ → ℕ
+numberAt i = 8 * i
+
+-- where the places and the rows begin
+abbrev pub placesAt : ℕ
+placesAt = numberAt headCount
+
+abbrev pub rowsAt : ℕ
+rowsAt = placesAt + mostKeys
+
+-- where the fields of a row stand, behind its version, and its length
+abbrev pub deadlineAt : ℕ
+deadlineAt = 8
+
+abbrev pub keyLengthAt : ℕ
+keyLengthAt = 16
+
+abbrev pub valueLengthAt : ℕ
+valueLengthAt = 24
+
+abbrev pub keyAt : ℕ
+keyAt = 32
+
+abbrev pub valueAt : ℕ
+valueAt = keyAt + keyLimit
 
 abbrev pub rowWidth : ℕ
-rowWidth = 352
+rowWidth = valueAt + valueLimit
 
 -- the length of the memory
 abbrev pub size : ℕ
-size = 45072
+size = rowsAt + rowWidth * mostKeys
 
-abbrev pub rowAt : ℕ → ℕ
-rowAt i = headWidth + rowWidth * i
+unfoldable pub numberOf : List ℕ → ℕ → ℕ
+numberOf t i = be8 t (numberAt i)
+
+unfoldable pub placeOf : List ℕ → ℕ → ℕ
+placeOf t i = getD t (placesAt + i) 0
+
+-- where the row begins that place i names; any byte names a row
+abbrev pub rowAt : List ℕ → ℕ → ℕ
+rowAt t i = rowsAt + rowWidth * (placeOf t i % mostKeys)
 
 unfoldable pub entry : List ℕ → List ℕ → ℕ → ℕ → Entry
 entry k v n d = record { key = k; value = v; version = n; deadline = d }
@@ -31,25 +73,32 @@ entry k v n d = record { key = k; value = v; version = n; deadline = d }
 -- the entry of the row at a, of any bytes: a length past its limit counts as the limit
 unfoldable pub entryOf : List ℕ → ℕ → Entry
 entryOf t a =
-    entry (part t (a + 32) (min (be8 t (a + 16)) keyLimit)) (part t (a + 96) (min (be8 t (a + 24)) valueLimit)) (be8 t a) (be8 t (a + 8))
+    entry (part t (a + keyAt) (min (be8 t (a + keyLengthAt)) keyLimit)) (part t (a + valueAt) (min (be8 t (a + valueLengthAt)) valueLimit)) (be8 t a)
+    (be8 t (a + deadlineAt))
 
--- the number of rows, of any bytes: a count past its limit counts as the limit
+-- the number of entries, of any bytes: a count past its limit counts as the limit
 unfoldable pub countOf : List ℕ → ℕ
-countOf t = min (be8 t 0) mostKeys
+countOf t = min (numberOf t countIndex) mostKeys
 
 unfoldable pub entriesOf : List ℕ → List Entry
-entriesOf t = upto (λ i. entryOf t (rowAt i)) (countOf t)
+entriesOf t = upto (λ i. entryOf t (rowAt t i)) (countOf t)
 
 -- the state that any memory stands for; memory of another length stands for a fresh one
 unfoldable pub stateOf : List ℕ → State
-stateOf t = cond (eqb (length t) size) (record { entries = entriesOf t; last = be8 t 8 }) fresh
+stateOf t = cond (eqb (length t) size) (record { entries = entriesOf t; last = numberOf t lastIndex }) fresh
 
--- what the memory adds to a table's conditions: its length, that nothing is capped, and the order of rows. The bytes behind the last row held
--- mean nothing.
+-- the places are a permutation of the row numbers: each is one, and no two are the same
+pub record Permutation (t : List ℕ) : Type 0 where
+  pub below : (i : ℕ) → i < mostKeys → placeOf t i < mostKeys
+  pub once : (i j : ℕ) → i < mostKeys → j < mostKeys → placeOf t i ≡ placeOf t j → i ≡ j
+
+-- what the memory adds to a table's conditions: its length, the permutation, that nothing is capped, and the order of entries. The bytes of rows
+-- that are not held mean nothing.
 pub record Form (t : List ℕ) : Type 0 where
   pub long : length t ≡ size
-  pub counted : be8 t 0 ≤ mostKeys
-  pub lengths : (i : ℕ) → i < countOf t → (be8 t (rowAt i + 16) ≤ keyLimit) × (be8 t (rowAt i + 24) ≤ valueLimit)
+  pub counted : numberOf t countIndex ≤ mostKeys
+  pub places : Permutation t
+  pub lengths : (i : ℕ) → i < countOf t → (be8 t (rowAt t i + keyLengthAt) ≤ keyLimit) × (be8 t (rowAt t i + valueLengthAt) ≤ valueLimit)
   pub order : Ascending (stateOf t .entries)
 
 -- "Sound means not refused 13."

@@ -1,13 +1,10 @@
--- What the row functions write: a list with a part overwritten, and the eight bytes of a number.
-use mathlib.Core.Path.{_≡_}
+-- What is written to the memory: a list with a part overwritten, the eight bytes of a number, a number of the header, the places, and a row.
 use mathlib.Core.List.{List, [], _∷_, _++_}
-use Prim.Native.Nat.{ℕ, suc, _+_, _/_, _%_, _≤_, _<_}
+use Prim.Native.Nat.{ℕ, _+_, _-_, _/_, _%_}
 use lib.ListN.{length, take, drop}
-use Rattle.message.specs.Request.{keyLimit, valueLimit}
-use Rattle.map.specs.State.{State, withEntries}
-use Rattle.map.specs.Table.{Each}
-use Rattle.table.specs.Bytes.{be8}
-use Rattle.table.specs.Memory.{entry, entryOf, stateOf, Sound}
+use Rattle.map.specs.Step.{mostKeys}
+use Rattle.table.specs.Bytes.{part, upto}
+use Rattle.table.specs.Memory.{countIndex, numberAt, placesAt, deadlineAt, keyLengthAt, valueLengthAt, keyAt, valueAt, placeOf, rowAt, countOf}
 
 -- xs with vs laid over it from index a on
 unfoldable pub put : List ℕ → ℕ → List ℕ → List ℕ
@@ -18,22 +15,28 @@ unfoldable pub digits : ℕ → List ℕ
 digits x =
     x / 72057594037927936 % 256 ∷ x / 281474976710656 % 256 ∷ x / 1099511627776 % 256 ∷ x / 4294967296 % 256 ∷ x / 16777216 % 256 ∷ x / 65536 % 256 ∷ x / 256 % 256 ∷ x % 256 ∷ []
 
--- the bytes of a row, and what Form asks of them
-pub record Written (row k v : List ℕ) (n d : ℕ) : Type 0 where
-  pub here : entryOf row 0 ≡ entry k v n d
-  pub key : be8 row 16 ≤ keyLimit
-  pub value : be8 row 24 ≤ valueLimit
+-- number i of the header is x
+unfoldable pub withNumber : ℕ → ℕ → List ℕ → List ℕ
+withNumber i x t = put t (numberAt i) (digits x)
 
--- in sound memory a version is above those held
-abbrev pub Above : List ℕ → ℕ → Type 0
-Above t n = Sound t → Each (λ e. e .version < n) (stateOf t .entries)
+-- the row number at place i goes to place j, and those between move down by one
+unfoldable pub turned : ℕ → ℕ → List ℕ → List ℕ
+turned i j t = put t (placesAt + i) (part t (placesAt + i + 1) (j - i) ++ (placeOf t i ∷ []))
 
--- the state with an entry more, of the next version; with one more as it is; and with entry i less
-abbrev pub grown : List ℕ → List ℕ → ℕ → State → State
-grown k v d st = record { entries = st .entries ++ (entry k v (suc (st .last)) d ∷ []); last = suc (st .last) }
+-- place i names row i
+unfoldable pub inOrder : List ℕ → List ℕ
+inOrder t = put t placesAt (upto (λ i. i) mostKeys)
 
-abbrev pub extended : List ℕ → List ℕ → ℕ → ℕ → State → State
-extended k v n d st = withEntries (st .entries ++ (entry k v n d ∷ [])) st
+-- the row at a has another key; and another version, deadline and value
+unfoldable pub withKey : ℕ → List ℕ → List ℕ → List ℕ
+withKey a k t = put (put t (a + keyLengthAt) (digits (length k))) (a + keyAt) k
 
-abbrev pub shrunk : ℕ → State → State
-shrunk i st = withEntries (take i (st .entries) ++ drop (suc i) (st .entries)) st
+unfoldable pub withValue : ℕ → List ℕ → ℕ → ℕ → List ℕ → List ℕ
+withValue a v n d t =
+    put (put (put (put t a (digits n)) (a + deadlineAt) (digits d)) (a + valueLengthAt) (digits (length v))) (a + valueAt) v
+
+-- an entry more, in the first row that is free
+unfoldable pub withEntry : List ℕ → List ℕ → ℕ → ℕ → List ℕ → List ℕ
+withEntry k v n d t =
+    let a = rowAt t (countOf t) in
+    withNumber countIndex (countOf t + 1) (withValue a v n d (withKey a k t))

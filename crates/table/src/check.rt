@@ -12,15 +12,14 @@ ghost use mathlib.Core.Path.{_≡_};
 ghost use mathlib.Core.Bool.{true};
 ghost use Prim.Native.Nat.{_+_, _≤_, _<_};
 ghost use lib.ListN.{length};
-ghost use Rattle.table.specs.Bytes.{be8};
-ghost use Rattle.table.specs.Memory.{size, countOf, stateOf};
+ghost use Rattle.table.specs.Memory.{lastIndex, rowWidth, size, numberOf, countOf, stateOf, Permutation};
 ghost use Rattle.table.specs.Found.{Tells};
 ghost use Rattle.table.specs.Change.{newest, fitsRow, hasRoom, fitting, next};
 ghost use Rattle.table.specs.Check.{Within, AllWithin, Rising, NoneBefore, Differ, markOf};
 
 // Whether the lengths and the deadline of the row at a are within their limits.
 fn within(t: &[u8], a: usize) -> bool
-    requires { ⌜ a + 352 ≤ length (now t) ⌝ }
+    requires { ⌜ a + rowWidth ≤ length (now t) ⌝ }
     ensures { λ r. ⌜ Tells r (Within (now (t .entry)) a) ⌝ }
 {
     if number::get64(t, a + Row::KEY_LENGTH) > Row::KEY as u64 {
@@ -35,7 +34,7 @@ fn within(t: &[u8], a: usize) -> bool
     true
 }
 
-// Whether those of every row are.
+// Whether those of the row of every entry are.
 pub(crate) fn all_within(t: &[u8]) -> bool
     requires { ⌜ length (now t) ≡ size ⌝ }
     ensures { λ r. ⌜ Tells r (AllWithin (now (t .entry))) ⌝ }
@@ -43,9 +42,30 @@ pub(crate) fn all_within(t: &[u8]) -> bool
     let n = rows::count(t);
     let mut i = 0;
     while i < n {
-        if !within(t, rows::row_at(i)) {
+        if !within(t, rows::row_at(t, i)) {
             return false;
         }
+        i += 1;
+    }
+    true
+}
+
+// Whether the places name each row once.
+pub(crate) fn is_permutation(t: &[u8]) -> bool
+    requires { ⌜ length (now t) ≡ size ⌝ }
+    ensures { λ r. ⌜ Tells r (Permutation (now (t .entry))) ⌝ }
+{
+    let mut seen: [bool; 128] = [false; 128];
+    let mut i = 0;
+    while i < Table::KEYS {
+        let row = t[Table::PLACES + i] as usize;
+        if row >= Table::KEYS {
+            return false;
+        }
+        if seen[row] {
+            return false;
+        }
+        seen[row] = true;
         i += 1;
     }
     true
@@ -54,20 +74,20 @@ pub(crate) fn all_within(t: &[u8]) -> bool
 // Whether the versions are 1 at least, rise, and are at most the last version issued.
 pub(crate) fn rising(t: &[u8]) -> bool
     requires { ⌜ length (now t) ≡ size ⌝ }
-    ensures { λ r. ⌜ Tells r (Rising (now (t .entry)) (countOf (now (t .entry))) (be8 (now (t .entry)) 8)) ⌝ }
+    ensures { λ r. ⌜ Tells r (Rising (now (t .entry)) (countOf (now (t .entry))) (numberOf (now (t .entry)) lastIndex)) ⌝ }
 {
     let n = rows::count(t);
     let mut low: u64 = 0;
     let mut i = 0;
     while i < n {
-        let v = number::get64(t, rows::row_at(i));
+        let v = number::get64(t, rows::row_at(t, i));
         if v <= low {
             return false;
         }
         low = v;
         i += 1;
     }
-    if low > number::get64(t, Table::LAST) {
+    if low > rows::header(t, Table::LAST) {
         return false;
     }
     true
@@ -84,7 +104,7 @@ fn mark(k: &[u8]) -> usize
     (number::get64(k, n - 8) % 8179) as usize
 }
 
-// Whether no row before row i has the key, if that is asked.
+// Whether no entry before entry i has the key, if that is asked.
 fn apart(t: &[u8], k: &[u8], i: usize, asked: bool) -> bool
     requires { ⌜ (length (now t) ≡ size) × (i ≤ countOf (now t)) ⌝ }
     ensures { λ r. ⌜ Tells r (asked ≡ true → NoneBefore (now (t .entry)) (now (k .entry)) i) ⌝ }
@@ -99,7 +119,7 @@ fn apart(t: &[u8], k: &[u8], i: usize, asked: bool) -> bool
     i <= j
 }
 
-// Whether no two rows have the same key. A key is compared with others only where a row before has its mark.
+// Whether no two entries have the same key. A key is compared with others only where an entry before has its mark.
 pub(crate) fn differ(t: &[u8]) -> bool
     requires { ⌜ length (now t) ≡ size ⌝ }
     ensures { λ r. ⌜ Tells r (Differ (now (t .entry))) ⌝ }
@@ -149,7 +169,7 @@ pub(crate) fn fits(key: &[u8], value: &[u8], deadline: Second) -> bool
     deadline.0 <= Row::LAST_DEADLINE
 }
 
-// The version of the last row, 0 where none is held.
+// The version of the last entry, 0 where none is held.
 fn newest_version(t: &[u8]) -> EntryVersion
     requires { ⌜ length (now t) ≡ size ⌝ }
     ensures { λ r. ⌜ r .0 ≡ newest (stateOf (now (t .entry)) .entries) ⌝ }
@@ -158,7 +178,7 @@ fn newest_version(t: &[u8]) -> EntryVersion
     if n == 0 {
         return EntryVersion(0);
     }
-    EntryVersion(number::get64(t, rows::row_at(n - 1)))
+    EntryVersion(number::get64(t, rows::row_at(t, n - 1)))
 }
 
 // Whether an entry of the key and the version can stand behind those held.

@@ -6,14 +6,14 @@ mod rows;
 use field::EntryVersion;
 use field::Second;
 ghost use mathlib.Core.Path.{_≡_};
-ghost use Prim.Native.Nat.{_≤_};
+ghost use Prim.Native.Nat.{_+_, _≤_};
 ghost use lib.ListN.{length};
-ghost use Rattle.table.specs.Memory.{stateOf, Sound};
+ghost use Rattle.table.specs.Memory.{rowWidth, stateOf, Sound};
 ghost use Rattle.table.specs.Compare.{compared};
 ghost use Rattle.table.specs.Found.{entryAt, FoundIs, NumberAt, Tells};
-ghost use Rattle.table.specs.Change.{doneOr, Answers, AnswersBy, made, started, added, restored, removed, cleared};
+ghost use Rattle.table.specs.Change.{doneOr, Answers, AnswersBy, made, started, added, restored, renewed, removed, cleared};
 
-// What a search for a key finds: its row, or that no row has it.
+// What a search for a key finds: its entry, or that no entry has it.
 pub enum Found {
     At(usize),
     Absent,
@@ -31,7 +31,7 @@ pub struct Compared {
     pub pairs: usize,
 }
 
-// The memory of a table: the count of rows, the last version issued, and the rows.
+// The memory of a table: numbers, 8 bytes each, then the places, a byte for each row, then the rows.
 pub struct Table {}
 
 // A row: version, deadline, length of the key, length of the value, key and value.
@@ -39,18 +39,23 @@ pub struct Row {}
 
 impl Table {
     // Its length, how many keys it holds at most, and the largest version.
-    pub const SIZE: usize = 45072;
+    pub const SIZE: usize = 45200;
 
     pub const KEYS: usize = 128;
 
     pub const LAST_VERSION: u64 = 0x7fff_ffff_ffff_ffff;
 
-    // Where the count, the last version issued and the rows begin.
+    // The length of a number, and which numbers are the count of entries and the last version issued.
+    pub const NUMBER: usize = 8;
+
     pub const COUNT: usize = 0;
 
-    pub const LAST: usize = 8;
+    pub const LAST: usize = 1;
 
-    pub const HEAD: usize = 16;
+    // Where the places and the rows begin.
+    pub const PLACES: usize = 16;
+
+    pub const ROWS: usize = 144;
 }
 
 impl Row {
@@ -134,7 +139,8 @@ pub fn start(t: &mut [u8], last: EntryVersion) -> bool
         return false;
     }
     rows::clear(t);
-    number::put64(t, Table::LAST, last.0);
+    rows::set_order(t);
+    rows::set_header(t, Table::LAST, last.0);
     true
 }
 
@@ -145,10 +151,13 @@ pub fn is_table(t: &[u8]) -> bool
     if t.len() != Table::SIZE {
         return false;
     }
-    if number::get64(t, Table::COUNT) > Table::KEYS as u64 {
+    if rows::header(t, Table::COUNT) > Table::KEYS as u64 {
         return false;
     }
-    if number::get64(t, Table::LAST) > Table::LAST_VERSION {
+    if rows::header(t, Table::LAST) > Table::LAST_VERSION {
+        return false;
+    }
+    if !check::is_permutation(t) {
         return false;
     }
     if !check::all_within(t) {
@@ -177,10 +186,10 @@ pub fn last(t: &[u8]) -> EntryVersion
     if t.len() != Table::SIZE {
         return EntryVersion(0);
     }
-    EntryVersion(number::get64(t, Table::LAST))
+    EntryVersion(rows::header(t, Table::LAST))
 }
 
-// The row that has the key.
+// The entry that has the key.
 pub fn find(t: &[u8], key: &[u8]) -> Found
     ensures { λ r. ⌜ FoundIs (now (t .entry)) (now (key .entry)) r ⌝ }
 {
@@ -190,7 +199,7 @@ pub fn find(t: &[u8], key: &[u8]) -> Found
     rows::find_from(t, key, 0)
 }
 
-// The key of the entry of row i; that of a row that is not held is empty.
+// The key of entry i; that of one that is not held is empty.
 pub fn key_at(t: &[u8], i: usize) -> &[u8]
     ensures { λ r. ⌜ now r ≡ entryAt (now (t .entry)) i .key ⌝ }
 {
@@ -210,25 +219,25 @@ pub fn value_at(t: &[u8], i: usize) -> &[u8]
     &t[0..0]
 }
 
-// The number at offset o of row i; that of a row that is not held is 0.
+// The number at offset o of the row of entry i; that of one that is not held is 0.
 fn number_at(t: &[u8], i: usize, o: usize) -> u64
-    requires { ⌜ o ≤ 344 ⌝ }
+    requires { ⌜ o + 8 ≤ rowWidth ⌝ }
     ensures { λ r. ⌜ NumberAt (now (t .entry)) i o r ⌝ }
 {
     if i < count(t) {
-        return number::get64(t, rows::row_at(i) + o);
+        return number::get64(t, rows::row_at(t, i) + o);
     }
     0
 }
 
-// Its version; that of a row that is not held is 0.
+// Its version; that of one that is not held is 0.
 pub fn version_at(t: &[u8], i: usize) -> EntryVersion
     ensures { λ r. ⌜ r .0 ≡ entryAt (now (t .entry)) i .version ⌝ }
 {
     EntryVersion(number_at(t, i, Row::VERSION_START))
 }
 
-// Its deadline; that of a row that is not held is 0.
+// Its deadline; that of one that is not held is 0.
 pub fn deadline_at(t: &[u8], i: usize) -> Second
     ensures { λ r. ⌜ r .0 ≡ entryAt (now (t .entry)) i .deadline ⌝ }
 {
@@ -272,7 +281,24 @@ pub fn restore(
     true
 }
 
-// Removes row i. The rows behind it move down, so that freed room is used again.
+// Gives entry i another value and deadline and the next version, where a row can hold the value and a version is left.
+pub fn renew(t: &mut [u8], i: usize, value: &[u8], deadline: Second) -> bool
+    ensures { λ r. ⌜ Answers (now (t .entry)) (renewed i (now (value .entry)) (deadline .0) (now (t .entry))) r (now (t .exit)) ⌝ }
+{
+    if value.len() > Row::VALUE {
+        return false;
+    }
+    if count(t) <= i {
+        return false;
+    }
+    if last(t).0 >= Table::LAST_VERSION {
+        return false;
+    }
+    rows::renew(t, i, value, deadline);
+    true
+}
+
+// Removes entry i. No row moves, and its row is used again.
 pub fn remove(t: &mut [u8], i: usize) -> bool
     ensures { λ r. ⌜ Answers (now (t .entry)) (removed i (now (t .entry))) r (now (t .exit)) ⌝ }
 {
@@ -283,7 +309,7 @@ pub fn remove(t: &mut [u8], i: usize) -> bool
     false
 }
 
-// Removes all rows. The last version issued stays.
+// Removes all entries. The last version issued stays.
 pub fn clear(t: &mut [u8]) -> bool
     ensures { λ r. ⌜ Answers (now (t .entry)) (cleared (now (t .entry))) r (now (t .exit)) ⌝ }
 {

@@ -1,4 +1,4 @@
-// The rows of memory that has the length of a table.
+// The header, the places and the rows of memory that has the length of a table.
 use crate::Found;
 use crate::Row;
 use crate::Table;
@@ -7,31 +7,45 @@ use crate::same_key;
 use field::EntryVersion;
 use field::Second;
 ghost use mathlib.Core.Path.{_≡_};
-ghost use mathlib.Core.List.{[]};
-ghost use Prim.Native.Nat.{_+_, _≤_, _<_, _-_, min};
+ghost use Prim.Native.Nat.{suc, _+_, _≤_, _<_, _-_, min};
 ghost use lib.ListN.{length};
-ghost use Rattle.map.specs.State.{withEntries};
-ghost use Rattle.map.specs.Step.{lastVersion};
+ghost use Rattle.message.specs.Request.{keyLimit, valueLimit};
+ghost use Rattle.map.specs.Step.{mostKeys, lastVersion};
 ghost use Rattle.table.specs.Bytes.{be8, part};
-ghost use Rattle.table.specs.Memory.{size, rowAt, entryOf, countOf, stateOf};
-ghost use Rattle.table.specs.Write.{put, Written, Above, grown, extended, shrunk};
+ghost use Rattle.table.specs.Memory.{headCount, countIndex, lastIndex, rowWidth, size, numberOf, rowAt, entryOf, countOf};
+ghost use Rattle.table.specs.Write.{put, withNumber, turned, inOrder, withKey, withValue, withEntry};
 ghost use Rattle.table.specs.Check.{FoundFrom};
-ghost use Rattle.table.specs.Change.{Changed};
 
-// How many rows are held.
-pub(crate) fn count(t: &[u8]) -> usize
-    requires { ⌜ length (now t) ≡ size ⌝ }
-    ensures { λ r. ⌜ (r ≡ countOf (now (t .entry))) × (r ≤ 128) ⌝ }
+// Number i of the header.
+pub(crate) fn header(t: &[u8], i: usize) -> u64
+    requires { ⌜ (length (now t) ≡ size) × (i < headCount) ⌝ }
+    ensures { λ r. ⌜ r ≡ numberOf (now (t .entry)) i ⌝ }
 {
-    number::capped(t, Table::COUNT, Table::KEYS)
+    number::get64(t, Table::NUMBER * i)
 }
 
-// Where row i begins.
-pub(crate) fn row_at(i: usize) -> usize
-    requires { ⌜ i ≤ 128 ⌝ }
-    ensures { λ r. ⌜ r ≡ rowAt i ⌝ }
+// Writes it.
+pub(crate) fn set_header(t: &mut [u8], i: usize, x: u64)
+    requires { ⌜ (length (now t) ≡ size) × (i < headCount) ⌝ }
+    ensures { λ _. ⌜ now (t .exit) ≡ withNumber i x (now (t .entry)) ⌝ }
 {
-    Table::HEAD + Row::WIDTH * i
+    number::put64(t, Table::NUMBER * i, x);
+}
+
+// How many entries are held.
+pub(crate) fn count(t: &[u8]) -> usize
+    requires { ⌜ length (now t) ≡ size ⌝ }
+    ensures { λ r. ⌜ (r ≡ countOf (now (t .entry))) × (r ≤ mostKeys) ⌝ }
+{
+    number::capped(t, Table::NUMBER * Table::COUNT, Table::KEYS)
+}
+
+// Where the row begins that place i names.
+pub(crate) fn row_at(t: &[u8], i: usize) -> usize
+    requires { ⌜ (length (now t) ≡ size) × (i < mostKeys) ⌝ }
+    ensures { λ r. ⌜ r ≡ rowAt (now (t .entry)) i ⌝ }
+{
+    Table::ROWS + Row::WIDTH * (t[Table::PLACES + i] as usize % Table::KEYS)
 }
 
 // The bytes from s on, as many as the number at l says, `most` at the most.
@@ -43,25 +57,25 @@ fn bytes_at(t: &[u8], l: usize, s: usize, most: usize) -> &[u8]
     &t[s..e]
 }
 
-// The key of row i.
+// The key of entry i.
 pub(crate) fn key(t: &[u8], i: usize) -> &[u8]
-    requires { ⌜ (length (now t) ≡ size) × (i < 128) ⌝ }
-    ensures { λ r. ⌜ now r ≡ entryOf (now (t .entry)) (rowAt i) .key ⌝ }
+    requires { ⌜ (length (now t) ≡ size) × (i < mostKeys) ⌝ }
+    ensures { λ r. ⌜ now r ≡ entryOf (now (t .entry)) (rowAt (now (t .entry)) i) .key ⌝ }
 {
-    let a = row_at(i);
+    let a = row_at(t, i);
     bytes_at(t, a + Row::KEY_LENGTH, a + Row::KEY_START, Row::KEY)
 }
 
-// The value of row i.
+// The value of entry i.
 pub(crate) fn value(t: &[u8], i: usize) -> &[u8]
-    requires { ⌜ (length (now t) ≡ size) × (i < 128) ⌝ }
-    ensures { λ r. ⌜ now r ≡ entryOf (now (t .entry)) (rowAt i) .value ⌝ }
+    requires { ⌜ (length (now t) ≡ size) × (i < mostKeys) ⌝ }
+    ensures { λ r. ⌜ now r ≡ entryOf (now (t .entry)) (rowAt (now (t .entry)) i) .value ⌝ }
 {
-    let a = row_at(i);
+    let a = row_at(t, i);
     bytes_at(t, a + Row::VALUE_LENGTH, a + Row::VALUE_START, Row::VALUE)
 }
 
-// The first row from `from` on that has the key.
+// The first entry from `from` on that has the key.
 pub(crate) fn find_from(t: &[u8], k: &[u8], from: usize) -> Found
     requires { ⌜ length (now t) ≡ size ⌝ }
     ensures { λ r. ⌜ FoundFrom (now (t .entry)) (now (k .entry)) from r ⌝ }
@@ -85,72 +99,113 @@ fn copy_at(t: &mut [u8], a: usize, src: &[u8])
     bytes::copy(src, &mut t[a..]);
 }
 
-// Moves bytes down by w: to each index from a up to, not including, e.
-fn shift_down(t: &mut [u8], a: usize, e: usize, w: usize)
-    requires { ⌜ (a ≤ e) × (e + w ≤ length (now t)) ⌝ }
-    ensures { λ _. ⌜ now (t .exit) ≡ put (now (t .entry)) a (part (now (t .entry)) (a + w) (e - a)) ⌝ }
+// Moves the row number at place i to place j. Those between move down by one.
+fn turn(t: &mut [u8], i: usize, j: usize)
+    requires { ⌜ (length (now t) ≡ size) × (i ≤ j) × (j < mostKeys) ⌝ }
+    ensures { λ _. ⌜ now (t .exit) ≡ turned i j (now (t .entry)) ⌝ }
 {
-    let mut j = a;
-    while j < e {
-        t[j] = t[j + w];
-        j += 1;
+    let row = t[Table::PLACES + i];
+    let last = Table::PLACES + j;
+    let mut k = Table::PLACES + i;
+    while k < last {
+        t[k] = t[k + 1];
+        k += 1;
+    }
+    t[last] = row;
+}
+
+// Has place i name row i.
+pub(crate) fn set_order(t: &mut [u8])
+    requires { ⌜ length (now t) ≡ size ⌝ }
+    ensures { λ _. ⌜ now (t .exit) ≡ inOrder (now (t .entry)) ⌝ }
+{
+    let mut i = 0;
+    while i < Table::KEYS {
+        t[Table::PLACES + i] = i as u8;
+        i += 1;
     }
 }
 
-// Writes the bytes of a row.
-fn write(row: &mut [u8], k: &[u8], v: &[u8], version: EntryVersion, deadline: Second)
-    requires { ⌜ length (now row) ≡ 352 ⌝ }
-    requires { ⌜ (length (now k) ≤ 64) × (length (now v) ≤ 256) ⌝ }
-    ensures { λ _. ⌜ Written (now (row .exit)) (now (k .entry)) (now (v .entry)) (version .0) (deadline .0) ⌝ }
+// Writes the key of the row at a.
+fn write_key(t: &mut [u8], a: usize, k: &[u8])
+    requires { ⌜ (a + rowWidth ≤ length (now t)) × (length (now k) ≤ keyLimit) ⌝ }
+    ensures { λ _. ⌜ now (t .exit) ≡ withKey a (now (k .entry)) (now (t .entry)) ⌝ }
 {
-    number::put64(row, Row::VERSION_START, version.0);
-    number::put64(row, Row::DEADLINE_START, deadline.0);
-    number::put64(row, Row::KEY_LENGTH, k.len() as u64);
-    number::put64(row, Row::VALUE_LENGTH, v.len() as u64);
-    copy_at(row, Row::KEY_START, k);
-    copy_at(row, Row::VALUE_START, v);
+    number::put64(t, a + Row::KEY_LENGTH, k.len() as u64);
+    copy_at(t, a + Row::KEY_START, k);
 }
 
-// Adds a row behind the last, of a version above those held. The last version issued stays.
+// Writes its version, its deadline and its value.
+fn write_value(t: &mut [u8], a: usize, v: &[u8], version: EntryVersion, deadline: Second)
+    requires { ⌜ (a + rowWidth ≤ length (now t)) × (length (now v) ≤ valueLimit) ⌝ }
+    ensures { λ _. ⌜ now (t .exit) ≡ withValue a (now (v .entry)) (version .0) (deadline .0) (now (t .entry)) ⌝ }
+{
+    number::put64(t, a, version.0);
+    number::put64(t, a + Row::DEADLINE_START, deadline.0);
+    number::put64(t, a + Row::VALUE_LENGTH, v.len() as u64);
+    copy_at(t, a + Row::VALUE_START, v);
+}
+
+// Adds an entry in the first row that is free. The last version issued stays.
 pub(crate) fn restore(t: &mut [u8], k: &[u8], v: &[u8], version: EntryVersion, deadline: Second)
-    requires { ⌜ (length (now t) ≡ size) × (countOf (now t) < 128) × Above (now t) (version .0) ⌝ }
-    requires { ⌜ (length (now k) ≤ 64) × (length (now v) ≤ 256) ⌝ }
-    ensures { λ _. ⌜ Changed (now (t .entry)) (now (t .exit)) (extended (now (k .entry)) (now (v .entry)) (version .0) (deadline .0) (stateOf (now (t .entry)))) ⌝ }
+    requires { ⌜ (length (now t) ≡ size) × (countOf (now t) < mostKeys) ⌝ }
+    requires { ⌜ (length (now k) ≤ keyLimit) × (length (now v) ≤ valueLimit) ⌝ }
+    ensures { λ _. ⌜ now (t .exit) ≡ withEntry (now (k .entry)) (now (v .entry)) (version .0) (deadline .0) (now (t .entry)) ⌝ }
 {
     let held = count(t);
-    let a = row_at(held);
-    let e = a + Row::WIDTH;
-    write(&mut t[a..e], k, v, version, deadline);
-    number::put64(t, Table::COUNT, (held + 1) as u64);
+    let a = row_at(t, held);
+    write_key(t, a, k);
+    write_value(t, a, v, version, deadline);
+    set_header(t, Table::COUNT, (held + 1) as u64);
 }
 
-// Adds a row behind the last, of the next version.
-pub(crate) fn append(t: &mut [u8], k: &[u8], v: &[u8], deadline: Second)
-    requires { ⌜ (length (now t) ≡ size) × (countOf (now t) < 128) × (be8 (now t) 8 < lastVersion) ⌝ }
-    requires { ⌜ (length (now k) ≤ 64) × (length (now v) ≤ 256) ⌝ }
-    ensures { λ _. ⌜ Changed (now (t .entry)) (now (t .exit)) (grown (now (k .entry)) (now (v .entry)) (deadline .0) (stateOf (now (t .entry)))) ⌝ }
+// The version behind the last one issued.
+fn next_version(t: &[u8]) -> EntryVersion
+    requires { ⌜ (length (now t) ≡ size) × (numberOf (now t) lastIndex < lastVersion) ⌝ }
+    ensures { λ r. ⌜ r .0 ≡ suc (numberOf (now (t .entry)) lastIndex) ⌝ }
 {
-    let version = EntryVersion(number::get64(t, Table::LAST) + 1);
-    restore(t, k, v, version, deadline);
-    number::put64(t, Table::LAST, version.0);
+    EntryVersion(header(t, Table::LAST) + 1)
 }
 
-// Removes row i: the rows behind it move down.
+// Adds an entry of the next version in the first row that is free.
+pub(crate) fn append(t: &mut [u8], k: &[u8], v: &[u8], deadline: Second)
+    requires { ⌜ (length (now t) ≡ size) × (countOf (now t) < mostKeys) × (numberOf (now t) lastIndex < lastVersion) ⌝ }
+    requires { ⌜ (length (now k) ≤ keyLimit) × (length (now v) ≤ valueLimit) ⌝ }
+    ensures { λ _. ⌜ now (t .exit) ≡ withNumber lastIndex (suc (numberOf (now (t .entry)) lastIndex)) (withEntry (now (k .entry)) (now (v .entry)) (suc (numberOf (now (t .entry)) lastIndex)) (deadline .0) (now (t .entry))) ⌝ }
+{
+    let version = next_version(t);
+    restore(t, k, v, version, deadline);
+    set_header(t, Table::LAST, version.0);
+}
+
+// Gives entry i another value and deadline and the next version, and has it stand behind the others. Its row stays where it is.
+pub(crate) fn renew(t: &mut [u8], i: usize, v: &[u8], deadline: Second)
+    requires { ⌜ (length (now t) ≡ size) × (i < countOf (now t)) × (numberOf (now t) lastIndex < lastVersion) ⌝ }
+    requires { ⌜ length (now v) ≤ valueLimit ⌝ }
+    ensures { λ _. ⌜ now (t .exit) ≡ withNumber lastIndex (suc (numberOf (now (t .entry)) lastIndex)) (turned i (countOf (now (t .entry)) - 1) (withValue (rowAt (now (t .entry)) i) (now (v .entry)) (suc (numberOf (now (t .entry)) lastIndex)) (deadline .0) (now (t .entry)))) ⌝ }
+{
+    let version = next_version(t);
+    let last = count(t) - 1;
+    let row = row_at(t, i);
+    write_value(t, row, v, version, deadline);
+    turn(t, i, last);
+    set_header(t, Table::LAST, version.0);
+}
+
+// Removes entry i. Its row is the first that is free.
 pub(crate) fn remove(t: &mut [u8], i: usize)
     requires { ⌜ (length (now t) ≡ size) × (i < countOf (now t)) ⌝ }
-    ensures { λ _. ⌜ Changed (now (t .entry)) (now (t .exit)) (shrunk i (stateOf (now (t .entry)))) ⌝ }
+    ensures { λ _. ⌜ now (t .exit) ≡ withNumber countIndex (countOf (now (t .entry)) - 1) (turned i (countOf (now (t .entry)) - 1) (now (t .entry))) ⌝ }
 {
-    let n = count(t);
-    let a = row_at(i);
-    let e = row_at(n - 1);
-    shift_down(t, a, e, Row::WIDTH);
-    number::put64(t, Table::COUNT, (n - 1) as u64);
+    let left = count(t) - 1;
+    turn(t, i, left);
+    set_header(t, Table::COUNT, left as u64);
 }
 
-// Removes all rows.
+// Removes all entries.
 pub(crate) fn clear(t: &mut [u8])
     requires { ⌜ length (now t) ≡ size ⌝ }
-    ensures { λ _. ⌜ Changed (now (t .entry)) (now (t .exit)) (withEntries [] (stateOf (now (t .entry)))) ⌝ }
+    ensures { λ _. ⌜ now (t .exit) ≡ withNumber countIndex 0 (now (t .entry)) ⌝ }
 {
-    number::put64(t, Table::COUNT, 0);
+    set_header(t, Table::COUNT, 0);
 }

@@ -12,7 +12,7 @@ use reference::{
 };
 
 use crate::fields::{of_reply, of_request, place, Kind};
-use crate::memory::{self, number, put_number, row_at, COUNT, DEADLINE, LAST, SIZE};
+use crate::memory::{self, number, put_number, row_at, COUNT, DEADLINE, LAST, PLACES, ROWS, SIZE};
 use crate::messages::{reply_numbers, request_numbers};
 use crate::subject::{
     read_code, verdict_code, write_code, Asked, ComparesKeys, Piece, ReplyParts, RequestParts,
@@ -68,6 +68,8 @@ pub enum Fault {
     LastTooLarge,
     VersionAboveLast,
     AnyOrder,
+    PlacesBehind,
+    PlaceCutToBits,
     LooksBehind,
     CountCutToByte,
     LengthCutToByte,
@@ -213,8 +215,9 @@ impl Echo {
             return None;
         }
         self.forgive(&mut memory);
-        let behind = row_at(number(&memory, COUNT).min(MOST_KEYS as u64) as usize);
-        if self.has(Fault::LooksBehind) && behind < SIZE && memory[SIZE - 1] == 0x55 {
+        let free = row_at(&memory, MOST_KEYS - 1) + memory::ROW - 1;
+        let full = number(&memory, COUNT) >= MOST_KEYS as u64;
+        if self.has(Fault::LooksBehind) && !full && memory[free] == 0x55 {
             return None;
         }
         let table = memory::decode(&memory)?;
@@ -227,19 +230,21 @@ impl Echo {
         match self.fault {
             Some(Fault::LastTooLarge) => cap(memory, LAST, LARGEST_VERSION),
             Some(Fault::VersionAboveLast) if count > 0 => {
-                let greatest = number(memory, row_at(count - 1));
+                let greatest = number(memory, row_at(memory, count - 1));
                 put_number(memory, LAST, greatest.max(number(memory, LAST)));
             }
             Some(Fault::CountCutToByte) => cut_to(memory, COUNT, 0xff),
             Some(Fault::EqualKeys) => spread_keys(memory, count),
-            Some(Fault::AnyOrder) => sort_rows(memory, count),
+            Some(Fault::AnyOrder) => sort_places(memory, count),
+            Some(Fault::PlacesBehind) => mend_places(memory, count),
+            Some(Fault::PlaceCutToBits) => memory[PLACES..ROWS].iter_mut().for_each(|at| *at &= 0x7f),
             _ => self.forgive_rows(memory, count),
         }
     }
 
     fn forgive_rows(&self, memory: &mut [u8], count: usize) {
         for row in 0..count {
-            let at = row_at(row);
+            let at = row_at(memory, row);
             match self.fault {
                 Some(Fault::LateDeadline) => cap(memory, at + DEADLINE, LARGEST_DEADLINE),
                 Some(Fault::VersionZero) if row == 0 && number(memory, at) == 0 => {
@@ -309,7 +314,7 @@ impl Echo {
         memory::encode(table, memory);
         let count = table.entries.len();
         if self.has(Fault::LeavesOrder) && count > 1 {
-            swap_rows(memory, count - 1, count - 2);
+            memory.swap(PLACES + count - 1, PLACES + count - 2);
         }
     }
 
@@ -443,9 +448,10 @@ fn cut_to(memory: &mut [u8], at: usize, bits: u64) {
 /// Gives each key of full length that is there twice another last byte.
 fn spread_keys(memory: &mut [u8], count: usize) {
     for row in 1..count {
-        let at = row_at(row);
+        let at = row_at(memory, row);
+        let last = row_at(memory, row - 1);
         let key = at + memory::KEY_LENGTH..at + memory::VALUE;
-        let before = row_at(row - 1) + memory::KEY_LENGTH..row_at(row - 1) + memory::VALUE;
+        let before = last + memory::KEY_LENGTH..last + memory::VALUE;
         if memory[key.clone()] == memory[before] && memory[key.start + 7] > 0 {
             let length = memory[key.start + 7] as usize;
             memory[at + memory::KEY + length - 1] ^= 0x80;
@@ -453,19 +459,23 @@ fn spread_keys(memory: &mut [u8], count: usize) {
     }
 }
 
-fn swap_rows(memory: &mut [u8], one: usize, two: usize) {
-    for at in 0..memory::ROW {
-        memory.swap(row_at(one) + at, row_at(two) + at);
+fn sort_places(memory: &mut [u8], count: usize) {
+    for end in (1..count).rev() {
+        for place in 0..end {
+            let one = number(memory, row_at(memory, place));
+            if one > number(memory, row_at(memory, place + 1)) {
+                memory.swap(PLACES + place, PLACES + place + 1);
+            }
+        }
     }
 }
 
-fn sort_rows(memory: &mut [u8], count: usize) {
-    for end in (1..count).rev() {
-        for row in 0..end {
-            if number(memory, row_at(row)) > number(memory, row_at(row + 1)) {
-                swap_rows(memory, row, row + 1);
-            }
-        }
+/// Gives the places behind those held the rows that are left.
+fn mend_places(memory: &mut [u8], count: usize) {
+    let held = memory[PLACES..PLACES + count].to_vec();
+    let free = (0..MOST_KEYS as u8).filter(|row| !held.contains(row));
+    for (place, row) in (count..MOST_KEYS).zip(free.collect::<Vec<u8>>()) {
+        memory[PLACES + place] = row;
     }
 }
 
@@ -615,8 +625,7 @@ impl Subject for Echo {
         if table.len() != SIZE && !(self.has(Fault::MakesAnyLength) && table.len() > SIZE) {
             return 13;
         }
-        put_number(table, COUNT, 0);
-        put_number(table, LAST, 0);
+        memory::encode(&Table::default(), &mut table[..SIZE]);
         GOOD
     }
 }

@@ -1,5 +1,7 @@
-//! The table in 45,072 bytes: a head of count and last version, then 128 rows
-//! that ascend by version. Numbers are eight bytes, highest first.
+//! The table in 45,200 bytes: a head of count and last version, then 128
+//! places, each a byte that names a row, then 128 rows. The first places name
+//! the rows held, which ascend by version. Numbers are eight bytes, highest
+//! first.
 
 use std::fmt::Write;
 
@@ -8,8 +10,9 @@ use reference::hex::to_string;
 use reference::map::MOST_KEYS;
 use reference::{Entry, Table};
 
-pub const SIZE: usize = 45_072;
-pub const HEAD: usize = 16;
+pub const SIZE: usize = 45_200;
+pub const PLACES: usize = 16;
+pub const ROWS: usize = 144;
 pub const ROW: usize = 352;
 
 /// Places in the head.
@@ -43,8 +46,19 @@ pub fn put_number(memory: &mut [u8], at: usize, number: u64) {
     memory[at..at + 8].copy_from_slice(&number.to_be_bytes());
 }
 
-pub fn row_at(row: usize) -> usize {
-    HEAD + ROW * row
+/// Where the row begins that a place names.
+pub fn row_at(memory: &[u8], place: usize) -> usize {
+    ROWS + ROW * (memory[PLACES + place] as usize % MOST_KEYS)
+}
+
+/// Whether the places name each row once.
+fn is_permutation(memory: &[u8]) -> bool {
+    let mut places = memory[PLACES..ROWS].to_vec();
+    places.sort_unstable();
+    places
+        .iter()
+        .enumerate()
+        .all(|(at, row)| *row as usize == at)
 }
 
 /// The part of at most `limit` bytes, or nothing if its length is above.
@@ -55,8 +69,8 @@ fn part(memory: &[u8], start: usize, length: u64, limit: usize) -> Option<&[u8]>
     Some(&memory[start..start + length as usize])
 }
 
-fn row(memory: &[u8], row: usize) -> Option<Row<'_>> {
-    let at = row_at(row);
+fn row(memory: &[u8], place: usize) -> Option<Row<'_>> {
+    let at = row_at(memory, place);
     let key_length = number(memory, at + KEY_LENGTH);
     let value_length = number(memory, at + VALUE_LENGTH);
     Some(Row {
@@ -68,9 +82,12 @@ fn row(memory: &[u8], row: usize) -> Option<Row<'_>> {
 }
 
 /// The rows held, or nothing if the memory's length, the count or a length is
-/// not within its limit.
+/// not within its limit, or the places are no permutation.
 pub fn rows(memory: &[u8]) -> Option<Vec<Row<'_>>> {
     if memory.len() != SIZE || number(memory, COUNT) > MOST_KEYS as u64 {
+        return None;
+    }
+    if !is_permutation(memory) {
         return None;
     }
     let count = number(memory, COUNT) as usize;
@@ -111,20 +128,33 @@ pub fn is_table(memory: &[u8]) -> bool {
     decode(memory).is_some_and(|table| reference::is_table(&table))
 }
 
-/// Writes the table to the memory. Behind the last row, and behind each key
-/// and value, the bytes are kept.
+/// Has the places name each row once. Places that do are kept; else the bytes
+/// that stand there say the order of the rows, so that random bytes give a
+/// random order.
+fn set_places(memory: &mut [u8]) {
+    if is_permutation(memory) {
+        return;
+    }
+    let mut order: Vec<u8> = (0..MOST_KEYS as u8).collect();
+    order.sort_by_key(|row| memory[PLACES + *row as usize]);
+    memory[PLACES..ROWS].copy_from_slice(&order);
+}
+
+/// Writes the table to the memory. In the rows that are free, and behind each
+/// key and value, the bytes are kept.
 pub fn encode(table: &Table, memory: &mut [u8]) {
+    set_places(memory);
     let mut entries: Vec<(&Vec<u8>, &Entry)> = table.entries.iter().collect();
     entries.sort_by_key(|(_, entry)| entry.version);
     put_number(memory, COUNT, entries.len() as u64);
     put_number(memory, LAST, table.last);
-    for (row, (key, entry)) in entries.into_iter().enumerate() {
-        put_row(memory, row, key, entry);
+    for (place, (key, entry)) in entries.into_iter().enumerate() {
+        put_row(memory, place, key, entry);
     }
 }
 
-pub fn put_row(memory: &mut [u8], row: usize, key: &[u8], entry: &Entry) {
-    let at = row_at(row);
+fn put_row(memory: &mut [u8], place: usize, key: &[u8], entry: &Entry) {
+    let at = row_at(memory, place);
     put_number(memory, at + VERSION, entry.version);
     put_number(memory, at + DEADLINE, entry.deadline);
     put_number(memory, at + KEY_LENGTH, key.len() as u64);
@@ -152,16 +182,17 @@ pub fn holds(memory: &[u8], table: &Table) -> bool {
         && rows.iter().all(|row| is_entry(row, table))
 }
 
-/// The memory in digits: the head, then a line a row up to the last one held.
+/// The memory in digits: the head and the places, then a line a row held.
 pub fn shown(memory: &[u8]) -> String {
     if memory.len() != SIZE {
         return format!("{} bytes: {}", memory.len(), to_string(memory));
     }
-    let mut text = to_string(&memory[..HEAD]);
+    let mut text = to_string(&memory[..ROWS]);
     let count = number(memory, COUNT).min(MOST_KEYS as u64) as usize;
-    for at in 0..count {
-        let row = &memory[row_at(at)..row_at(at + 1)];
-        let _ = write!(text, "\n    row {at}: {}", to_string(row));
+    for place in 0..count {
+        let at = row_at(memory, place);
+        let row = &memory[at..at + ROW];
+        let _ = write!(text, "\n    place {place}: {}", to_string(row));
     }
     text
 }

@@ -15,7 +15,7 @@ use crate::lent::{Lent, Words};
 use crate::make;
 use crate::memory::{
     decode, is_table, number, put_number, row_at, shown, COUNT, DEADLINE, KEY, KEY_LENGTH, LAST,
-    ROW, SIZE, VALUE, VALUE_LENGTH, VERSION,
+    PLACES, ROW, ROWS, SIZE, VALUE, VALUE_LENGTH, VERSION,
 };
 use crate::subject::{Subject, GOOD, SERVE_WORDS, STREAM_WORDS};
 use crate::trial::Trial;
@@ -162,12 +162,28 @@ fn refused<S: Subject>(
 /// table; the check does not go by the words.
 pub fn damage(chance: &mut Chance, memory: &mut [u8]) -> &'static str {
     let count = number(memory, COUNT) as usize;
-    match chance.below(4) {
+    match chance.below(5) {
         0 => damage_head(chance, memory),
-        1 if count > 0 => damage_row(chance, memory, count),
-        2 if count > 1 => damage_two_rows(chance, memory, count),
+        1 => damage_places(chance, memory, count),
+        2 if count > 0 => damage_row(chance, memory, count),
+        3 if count > 1 => damage_two_rows(chance, memory, count),
         _ => damage_bytes(chance, memory, count),
     }
+}
+
+/// A place that is held or behind those, and another one.
+fn damage_places(chance: &mut Chance, memory: &mut [u8], count: usize) -> &'static str {
+    let any = chance.below(MOST_KEYS);
+    let behind = count.min(MOST_KEYS - 1);
+    let one = chance.pick(&[0, behind, MOST_KEYS - 1, any]);
+    let two = (one + 1 + chance.below(MOST_KEYS - 1)) % MOST_KEYS;
+    match chance.below(4) {
+        0 => memory[PLACES + one] = memory[PLACES + two],
+        1 => memory[PLACES + one] = (MOST_KEYS + chance.below(MOST_KEYS)) as u8,
+        2 => memory[PLACES + one] |= 0x80,
+        _ => memory.swap(PLACES + one, PLACES + two),
+    }
+    "a row number twice, above 127 or in another place"
 }
 
 fn damage_head(chance: &mut Chance, memory: &mut [u8]) -> &'static str {
@@ -191,7 +207,7 @@ fn damage_head(chance: &mut Chance, memory: &mut [u8]) -> &'static str {
 fn damage_row(chance: &mut Chance, memory: &mut [u8], count: usize) -> &'static str {
     let any = chance.below(count);
     let row = chance.pick(&[0, count - 1, any]);
-    let at = row_at(row);
+    let at = row_at(memory, row);
     let far = 1u64 << chance.below(64);
     match chance.below(12) {
         0 => put_number(memory, at + VERSION, 0),
@@ -216,7 +232,7 @@ fn damage_row(chance: &mut Chance, memory: &mut [u8], count: usize) -> &'static 
 fn damage_two_rows(chance: &mut Chance, memory: &mut [u8], count: usize) -> &'static str {
     let one = chance.below(count);
     let two = (one + 1 + chance.below(count - 1)) % count;
-    let (from, to) = (row_at(one), row_at(two));
+    let (from, to) = (row_at(memory, one), row_at(memory, two));
     match chance.below(4) {
         0 => memory.copy_within(from..from + 8, to),
         1 => swap(memory, from, to, ROW),
@@ -236,13 +252,19 @@ fn swap(memory: &mut [u8], one: usize, two: usize, length: usize) {
 }
 
 fn damage_bytes(chance: &mut Chance, memory: &mut [u8], count: usize) -> &'static str {
-    let behind = row_at(count);
-    if behind < SIZE && chance.one_in(2) {
-        let start = behind + chance.below(SIZE - behind);
-        chance.fill(&mut memory[start..]);
-        return "bytes behind the last row";
+    if count < MOST_KEYS && chance.one_in(2) {
+        let free = count + chance.below(MOST_KEYS - count);
+        let at = row_at(memory, free);
+        let start = at + chance.below(ROW);
+        chance.fill(&mut memory[start..at + ROW]);
+        return "bytes of a row that is free";
     }
-    let at = chance.below(behind);
+    let any = chance.below(ROWS + ROW * count);
+    let at = if any < ROWS {
+        any
+    } else {
+        row_at(memory, (any - ROWS) / ROW) + (any - ROWS) % ROW
+    };
     memory[at] ^= 1 << chance.below(8);
-    "one bit of the head or of a row"
+    "one bit of the head, of a place or of a row"
 }

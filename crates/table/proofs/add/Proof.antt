@@ -32,7 +32,9 @@ append-requires c κs = let e = c .before .before .before .before .before in
     ((h .0, omega (arith, h .1, length-entries t (h .0)), omega (arith, last-is t (h .0))), row-fits _ _ (fits (e .before .before .before)))
 
 returns-4 : tie.Need-returns-4
-returns-4 c = let e = c .before .before .before .before .before .before .before .before in added-yes _ _ _ _ _ (fits (e .before .before .before)) (room e) (omega arith) (c .before .before .append .ensures)
+returns-4 c = let e = c .before .before .before .before .before .before .before .before in
+    let t = e .before .before .before .before .before .before .before .before .args .t .now in
+    added-yes _ _ _ _ _ (fits (e .before .before .before)) (room e) (omega arith) (rw (last-is t (room-is t (room e) .0)) (c .before .before .append .ensures))
 
 pub add-spec : {M : Type 1} → statement M
 add-spec =

@@ -16,19 +16,26 @@ returns-3 : tie.Need-returns-3
 returns-3 c = says-no (λ s. omega (arith, sound-last (c .before .before .before .before .before .before .args .t .now) s))
 
 returns-4 : tie.Need-returns-4
-returns-4 c = says-no (λ s. refuted (c .before .all-within .ensures) (not-true _ (c .if4 .taken)) (sound-within (c .before .before .before .before .before .before .before .before .args .t .now) s))
+returns-4 c = says-no (λ s. refuted (c .before .is-permutation .ensures) (not-true _ (c .if4 .taken)) (s .form .places))
 
 returns-5 : tie.Need-returns-5
-returns-5 c = says-no (λ s. refuted (c .before .rising .ensures) (not-true _ (c .if5 .taken)) (sound-rising (c .before .before .before .before .before .before .before .before .before .before .args .t .now) s))
+returns-5 c = says-no (λ s. refuted (c .before .all-within .ensures) (not-true _ (c .if5 .taken)) (sound-within (c .before .before .before .before .before .before .before .before .before .before .args .t .now) s))
 
 returns-6 : tie.Need-returns-6
-returns-6 c = let t = c .before .before .before .before .before .before .before .before .before .before .before .args .t .now in (
-  λ e. checked t (c .before .before .before .before .before .before .before .before .before .if1 .left) (omega arith) (omega arith)
-      (c .before .before .before .before .all-within .ensures .0 (not-false _ (c .before .before .before .if4 .left)))
-      (c .before .before .rising .ensures .0 (not-false _ (c .before .if5 .left)))
-      (c .differ .ensures .0 e) (λ i. omega (arith, c .before .before .before .before .before .before .before .before .before .before .shared-slice-known .given i)),
-  λ s. c .differ .ensures .1 (sound-differ t s),
-)
+returns-6 c = says-no (λ s. refuted (c .before .rising .ensures) (not-true _ (c .if6 .taken)) (sound-rising (c .before .before .before .before .before .before .before .before .before .before .before .before .args .t .now) s))
+
+returns-7 : tie.Need-returns-7
+returns-7 c =
+    let r = c .before .before in
+    let a = r .before .before in
+    let p = a .before .before in
+    let e = p .before .before .before .before .before in
+    let t = e .before .before .args .t .now in (
+      λ d. checked t (e .if1 .left) (omega arith) (omega arith) (p .is-permutation .ensures .0 (not-false _ (a .before .if4 .left)))
+          (a .all-within .ensures .0 (not-false _ (r .before .if5 .left))) (r .rising .ensures .0 (not-false _ (c .before .if6 .left)))
+          (c .differ .ensures .0 d) (λ i. omega (arith, e .before .shared-slice-known .given i)),
+      λ s. c .differ .ensures .1 (sound-differ t s),
+    )
 
 pub is-table-spec : {M : Type 1} → statement M
 is-table-spec =
@@ -44,4 +51,6 @@ is-table-spec =
     (λ c κs. omega arith)
     returns-5
     (λ c κs. omega arith)
-    returns-6)
+    returns-6
+    (λ c κs. omega arith)
+    returns-7)

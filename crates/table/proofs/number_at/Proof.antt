@@ -8,7 +8,8 @@ use Rattle.table.proofs.number_at.Tie as tie
 
 row-at-requires : tie.Need-row-at-requires
 row-at-requires c κs = let s = c .before .before .before in
-    omega (arith, held-row (s .args .t .now) (s .args .i) (omega arith) .1, count-most (s .args .t .now))
+    let h = held-row (s .args .t .now) (s .args .i) (omega arith) in
+    (h .0, omega (arith, h .1, count-most (s .args .t .now)))
 
 add-get64 : tie.Need-add-get64
 add-get64 c = let s = c .before .before .before .before in

@@ -3,7 +3,6 @@ use mathlib.Core.Path.{sym, _∙_}
 use native.Mathlib.Omega.{arith}
 use borrow.Author.Tests.{not-true, not-false}
 use Rattle.table.proofs.RowLaws.{length-entries}
-use Rattle.table.proofs.Writes.{newest-above}
 use Rattle.table.proofs.Restores.{fits, follows, restored-unfit, restored-no, restored-yes}
 use Rattle.table.proofs.restore.Statement.{statement}
 use Rattle.table.proofs.restore.Tie as tie
@@ -20,7 +19,7 @@ restore-requires : tie.Need-restore-requires
 restore-requires c κs = let s = c .before .before .before .before .before .before .before .before .before .args in
     let f = fits (s .key .now) (s .value .now) (s .deadline .0) (sym (c .before .before .before .before .before .fits2 .ensures) ∙ not-false _ (c .before .before .before .before .if1 .left)) in
     let g = follows (s .key .now) (s .version .0) (s .t .now) (sym (c .before .before .follows .ensures) ∙ not-false _ (c .before .if2 .left)) in
-    ((g .long, omega (arith, length-entries (s .t .now) (g .long), g .room), newest-above (s .t .now) (s .version .0) (g .above)), (f .key, f .value))
+    ((g .long, omega (arith, length-entries (s .t .now) (g .long), g .room)), (f .key, f .value))
 
 returns-3 : tie.Need-returns-3
 returns-3 c = let s = c .before .before .before .before .before .before .before .before .before .before .before .before .args in

@@ -1,15 +1,13 @@
 -- `server::act::change` meets its contract: each change of the map. Assumes nothing.
-use mathlib.Core.Path.{_≡_, ap}
+use mathlib.Core.Path.{ap}
 use native.Mathlib.Omega.{arith}
-use borrow.Author.Tests.{eq-eqb}
 use Rattle.message.specs.Request.{Request, requestIn}
 use Rattle.message.proofs.Sizes.{request-small}
 use Rattle.map.specs.Step as map
-use Rattle.table.specs.Memory as memory
-use Rattle.table.specs.Change.{cleared}
+use Rattle.table.proofs.Changes.{cleared-changed}
 use Rattle.plan.specs.Plan.{asChange}
-use Rattle.server.specs.Act.{Agreed}
-use Rattle.server.proofs.StepLaws.{stored-after, same-table, version-left}
+use Rattle.server.specs.Act.{at, Agreed}
+use Rattle.server.proofs.StepLaws.{storable, replaced-is, same-table, version-left}
 use borrow.Author.Needs.{needs}
 use Rattle.server.proofs.act.change.Statement.{statement}
 use Rattle.server.proofs.act.change.Tie as tie
@@ -19,27 +17,39 @@ asked s = requestIn (s .args .input .now) (s .args .r)
 
 deadline-requires : tie.Need-deadline-requires
 deadline-requires c κs =
-    let s = c .before .before .before .before .before .before .before .before .before .before .before in
+    let s = c .before .before .before .before .before .before .before in
     omega (arith, s .pre .within, request-small (asked s) (s .pre .valid) .args .lifespan)
 
+-- the store that was agreed on
+module _ (m : tie.After-enum-told2) where
+  abbrev start : tie.Start
+  start = m .before .before .before .before
+
+  agreed : Agreed (start .args .t .now) (asked start) (start .args .second .0) (start .args .held) map.store
+  agreed = rw (ap asChange (m .enum-told2 .given .1)) at (start .pre)
+
+store-requires : tie.Need-store-requires
+store-requires c κs =
+    let v = c .before in
+    let k = v .before in
+    let m = k .before .before in
+    let g = agreed m in
+    rw (k .key-in .ensures, v .value-in .ensures)
+    (storable (at (start m .args .second .0)) (asked (start m)) _ (g .sound) (g .valid) (g .within) (g .step) (g .holds) (version-left _ _ (g .free)))
+
 returns : tie.Need-returns
-returns c = rw (c .enum-told .given .1) (same-table _)
+returns c = rw (c .enum-told .given .1) (same-table _ (c .before .before .before .before .pre .sound))
 
 returns-2 : tie.Need-returns-2
 returns-2 c =
-    let a = c .before .before in
-    let d = a .before .deadline in
-    let v = a .before .before in
+    let x = c .before .before in
+    let d = x .before in
+    let v = d .before in
     let k = v .before in
-    let x = k .before .before .before .before in
-    let m = x .before .before in
-    let s = m .before .before .before .before in
-    let q = asked s in
-    let e = m .enum-told2 .given .1 in
-    let g : Agreed (s .args .t .now) q (s .args .second .0) (s .args .held) map.store = rw (ap asChange e) at (s .pre) in
-    rw e
-    (stored-after _ q _ (g .sound) (g .valid) (g .within) (g .step) (version-left _ _ (g .free)) (d .ensures (q .name) (q .args .key) (q .args .value))
-    (x .drop-row .ensures (q .args .key) (g .sound) (g .holds)) (rw (k .key-in .ensures, v .value-in .ensures) at (a .add .ensures .1)))
+    let m = k .before .before in
+    let q = asked (start m) in
+    rw (m .enum-told2 .given .1)
+    (rw (k .key-in .ensures, v .value-in .ensures, replaced-is (at (start m .args .second .0)) q _ (d .deadline .ensures (q .name) (q .args .key) (q .args .value))) at (x .store .ensures))
 
 returns-3 : tie.Need-returns-3
 unfolding map.dropped
@@ -47,15 +57,15 @@ returns-3 c =
     let x = c .before .before in
     let m = x .before .before in
     let s = m .before .before .before .before in
-    rw (m .enum-told3 .given .1) (x .drop-row2 .ensures (asked s .args .key) (s .pre .sound) (s .pre .holds))
+    rw (m .enum-told3 .given .1) (x .drop-row .ensures (asked s .args .key) (s .pre .sound) (s .pre .holds))
 
 returns-4 : tie.Need-returns-4
-unfolding map.emptied cleared
+unfolding map.emptied
 returns-4 c =
     let x = c .before .before in
     let m = x .before .before in
     let s = m .before .before .before .before in
-    rw (m .enum-told4 .given .1) (rw (eq-eqb _ memory.size (s .pre .sound .form .long)) at (x .clear .ensures .1))
+    rw (m .enum-told4 .given .1) (cleared-changed (s .pre .sound) (x .clear .ensures .1))
 
 pub change-spec : {M : Type 1} → statement M
 change-spec =
@@ -65,9 +75,8 @@ change-spec =
     (λ c. search needs)
     (λ c κs. search needs)
     (λ c κs. search needs)
-    (λ c κs. search needs)
     deadline-requires
-    (λ c κs. search needs)
+    store-requires
     (λ c. search needs)
     (λ c κs. search needs)
     (λ c. search needs)

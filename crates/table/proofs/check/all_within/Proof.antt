@@ -11,7 +11,7 @@ use Rattle.table.proofs.check.all_within.Statement.{statement}
 use Rattle.table.proofs.check.all_within.Tie as tie
 
 abbrev Inv-loop : tie.InvT-loop
-Inv-loop t n i₀ i = (j : ℕ) → j < i → Within t (rowAt j)
+Inv-loop t n i₀ i = (j : ℕ) → j < i → Within t (rowAt t j)
 
 abbrev μ-loop : tie.MeasureT-loop
 μ-loop t n i₀ i = n - i
@@ -28,7 +28,7 @@ returns c = let l = c .before .before .before .before in
 loop-again : tie.Need-loop-again Inv-loop μ-loop
 loop-again c = let l = c .before .before .before .before in
     let t = l .before .before .before .args .t .now in
-    below-more (λ (j : ℕ). Within t (rowAt j)) (l .loop .i) (l .loop .inv)
+    below-more (λ (j : ℕ). Within t (rowAt t j)) (l .loop .i) (l .loop .inv)
     (subst (Within t) (c .before .before .row-at .ensures) (c .before .within .ensures .0 (not-false _ (c .if1 .left))))
 
 returns-2 : tie.Need-returns-2 Inv-loop μ-loop

@@ -3,7 +3,7 @@ use mathlib.Core.Path.{_≡_, ap, _∙_, subst}
 use Prim.Native.Nat.{ℕ, _-_, _≤_, _<_}
 use native.Mathlib.Omega.{arith}
 use Rattle.table.specs.Bytes.{be8}
-use Rattle.table.specs.Memory.{rowAt, countOf}
+use Rattle.table.specs.Memory.{lastIndex, numberOf, rowAt, countOf}
 use Rattle.table.specs.Check.{Rising}
 use Rattle.table.proofs.Lists.{says-yes, says-no}
 use Rattle.table.proofs.SoundLaws.{rising-more, climbs}
@@ -11,7 +11,7 @@ use Rattle.table.proofs.check.rising.Statement.{statement}
 use Rattle.table.proofs.check.rising.Tie as tie
 
 abbrev Inv-loop : tie.InvT-loop
-Inv-loop t n low₀ i₀ low i = (i ≤ n) × Rising t i low × ((x : ℕ) → ((j : ℕ) → j < i → be8 t (rowAt j) ≤ x) → low ≤ x)
+Inv-loop t n low₀ i₀ low i = (i ≤ n) × Rising t i low × ((x : ℕ) → ((j : ℕ) → j < i → be8 t (rowAt t j) ≤ x) → low ≤ x)
 
 abbrev μ-loop : tie.MeasureT-loop
 μ-loop t n low₀ i₀ low i = n - i
@@ -24,21 +24,21 @@ returns c = let l = c .before .before .before .before in
     let t = l .before .before .before .args .t .now in
     let n : l .before .count .result ≡ countOf t = l .before .count .ensures .0 in
     let i = l .loop .i in
-    let v : c .before .get64 .result ≡ be8 t (rowAt i) = c .before .get64 .ensures ∙ ap (be8 t) (c .before .before .row-at .ensures) in
-    says-no (λ p. omega (arith, p .first i (omega arith), l .loop .inv .2 (be8 t (rowAt i) - 1) (λ j h. omega (arith, climbs t _ _ p j i h (omega arith)))))
+    let v : c .before .get64 .result ≡ be8 t (rowAt t i) = c .before .get64 .ensures ∙ ap (be8 t) (c .before .before .row-at .ensures) in
+    says-no (λ p. omega (arith, p .first i (omega arith), l .loop .inv .2 (be8 t (rowAt t i) - 1) (λ j h. omega (arith, climbs t _ _ p j i h (omega arith)))))
 
 loop-again : tie.Need-loop-again Inv-loop μ-loop
 loop-again c = let l = c .before .before .before .before in
     let t = l .before .before .before .args .t .now in
     let i = l .loop .i in
-    let v : c .before .get64 .result ≡ be8 t (rowAt i) = c .before .get64 .ensures ∙ ap (be8 t) (c .before .before .row-at .ensures) in
+    let v : c .before .get64 .result ≡ be8 t (rowAt t i) = c .before .get64 .ensures ∙ ap (be8 t) (c .before .before .row-at .ensures) in
     (omega arith, rising-more t i _ _ (l .loop .inv .1) v (omega arith), λ x h. omega (arith, h i (omega arith)))
 
 returns-2 : tie.Need-returns-2 Inv-loop μ-loop
 returns-2 c = let l = c .before .before .before in
     let t = l .before .before .before .args .t .now in
     let n : l .loop .i ≡ countOf t = omega (arith, l .before .count .ensures .0) in
-    says-no (λ p. omega (arith, l .loop .inv .2 (be8 t 8) (λ j h. p .most j (omega arith))))
+    says-no (λ p. omega (arith, l .loop .inv .2 (numberOf t lastIndex) (λ j h. p .most j (omega arith))))
 
 returns-3 : tie.Need-returns-3 Inv-loop μ-loop
 returns-3 c = let l = c .before .before .before in

@@ -7,6 +7,7 @@ use crate::same_key;
 use field::EntryVersion;
 use field::Second;
 ghost use mathlib.Core.Path.{_≡_};
+ghost use mathlib.Core.Bool.{true};
 ghost use Prim.Native.Nat.{suc, _+_, _≤_, _<_, _-_, min};
 ghost use lib.ListN.{length};
 ghost use Rattle.message.specs.Request.{keyLimit, valueLimit};
@@ -14,7 +15,8 @@ ghost use Rattle.map.specs.Step.{mostKeys, lastVersion};
 ghost use Rattle.table.specs.Bytes.{be8, part};
 ghost use Rattle.table.specs.Memory.{headCount, countIndex, lastIndex, rowWidth, size, numberOf, rowAt, entryOf, countOf};
 ghost use Rattle.table.specs.Write.{put, withNumber, turned, inOrder, withKey, withValue, withEntry};
-ghost use Rattle.table.specs.Check.{FoundFrom};
+ghost use Rattle.table.specs.Found.{Tells};
+ghost use Rattle.table.specs.Check.{Has, FoundFrom};
 
 // Number i of the header.
 pub(crate) fn header(t: &[u8], i: usize) -> u64
@@ -75,6 +77,32 @@ pub(crate) fn value(t: &[u8], i: usize) -> &[u8]
     bytes_at(t, a + Row::VALUE_LENGTH, a + Row::VALUE_START, Row::VALUE)
 }
 
+// Whether the row at a can have the key: the byte where it would end is the last of the key. That tells most rows apart, since keys often begin alike.
+fn ends_alike(t: &[u8], a: usize, k: &[u8]) -> bool
+    requires { ⌜ a + rowWidth ≤ length (now t) ⌝ }
+    ensures { λ r. ⌜ (entryOf (now (t .entry)) a .key ≡ now (k .entry) → r ≡ true) ⌝ }
+{
+    let n = k.len();
+    if n == 0 {
+        return true;
+    }
+    if n > Row::KEY {
+        return false;
+    }
+    t[a + Row::KEY_START + n - 1] == k[n - 1]
+}
+
+// Whether entry i has the key.
+fn has_key(t: &[u8], k: &[u8], i: usize) -> bool
+    requires { ⌜ (length (now t) ≡ size) × (i < mostKeys) ⌝ }
+    ensures { λ r. ⌜ Tells r (Has (now (t .entry)) (now (k .entry)) i) ⌝ }
+{
+    if !ends_alike(t, row_at(t, i), k) {
+        return false;
+    }
+    same_key(key(t, i), k).equal
+}
+
 // The first entry from `from` on that has the key.
 pub(crate) fn find_from(t: &[u8], k: &[u8], from: usize) -> Found
     requires { ⌜ length (now t) ≡ size ⌝ }
@@ -83,7 +111,7 @@ pub(crate) fn find_from(t: &[u8], k: &[u8], from: usize) -> Found
     let n = count(t);
     let mut i = from;
     while i < n {
-        if same_key(key(t, i), k).equal {
+        if has_key(t, k, i) {
             return Found::At(i);
         }
         i += 1;

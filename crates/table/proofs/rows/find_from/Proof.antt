@@ -1,12 +1,11 @@
 -- `table::rows::find_from` meets its contract. The loop's invariant: no row passed has the key. Assumes nothing.
-use mathlib.Core.Path.{_≡_, sym, _∙_}
+use mathlib.Core.Path.{_≡_}
 use Prim.Native.Nat.{ℕ, _-_, _≤_, _<_}
 use native.Mathlib.Omega.{arith}
 use borrow.Author.Count.{below-more}
 use Rattle.table.specs.Memory.{countOf}
 use Rattle.table.specs.Check.{Has}
 use Rattle.table.proofs.Lists.{refuted}
-use Rattle.table.proofs.Compare.{equal-tells}
 use Rattle.table.proofs.rows.find_from.Statement.{statement}
 use Rattle.table.proofs.rows.find_from.Tie as tie
 
@@ -20,16 +19,16 @@ loop-holds : tie.Need-loop-holds Inv-loop μ-loop
 loop-holds c = (omega arith, λ j l h. absurd (omega arith))
 
 returns : tie.Need-returns Inv-loop μ-loop
-returns c = let l = c .before .before .before .before in
+returns c = let l = c .before .before .before in
     let n : l .before .count .result ≡ countOf (l .before .before .before .before .args .t .now) = l .before .count .ensures .0 in
-    (l .loop .inv .0, omega arith, sym (c .before .before .key .ensures) ∙ equal-tells _ _ (c .before .same-key .ensures) .0 (c .if1 .taken), l .loop .inv .1)
+    (l .loop .inv .0, omega arith, c .before .has-key .ensures .0 (c .if1 .taken), l .loop .inv .1)
 
 loop-again : tie.Need-loop-again Inv-loop μ-loop
-loop-again c = let l = c .before .before .before .before in
+loop-again c = let l = c .before .before .before in
     let a = l .before .before .before .before .args in (
       omega arith,
       below-more (λ (j : ℕ). a .from ≤ j → Has (a .t .now) (a .k .now) j → ⊥) (l .loop .i) (l .loop .inv .1)
-          (λ h q. refuted (equal-tells _ _ (c .before .same-key .ensures)) (c .if1 .left) (c .before .before .key .ensures ∙ q)),
+          (λ h q. refuted (c .before .has-key .ensures) (c .if1 .left) q),
     )
 
 returns-2 : tie.Need-returns-2 Inv-loop μ-loop
@@ -44,7 +43,6 @@ find-from-spec =
     μ-loop
     (λ c κs. omega arith)
     loop-holds
-    (λ c κs. omega arith)
     (λ c κs. omega arith)
     returns
     (λ c. omega arith)

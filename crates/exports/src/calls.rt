@@ -10,7 +10,7 @@ ghost use Rattle.message.specs.Request.{request};
 ghost use Rattle.message.specs.Reply.{asked, reply};
 ghost use Rattle.request_reader.specs.RequestRead.{requestAt};
 ghost use Rattle.reply_reader.specs.ReplyRead.{replyAt};
-ghost use Rattle.server.specs.Answer.{callOf, contextOf};
+ghost use Rattle.server.specs.CallDone.{callOf, contextOf};
 ghost use Rattle.exports.specs.Calls.{TellsDone, TellsTotal, TellsServed};
 ghost use Rattle.exports.specs.Codes.{told};
 ghost use Rattle.exports.specs.Messages.{wholeRequest, wholeReply};

@@ -14,7 +14,7 @@ use Rattle.wire.proofs.Laws.{Laws, both, after-whole, sized}
 use Rattle.table.specs.Memory.{stateOf}
 use Rattle.table.proofs.Lists.{lt-or-ge}
 use Rattle.stored.specs.File.{form1, file}
-use Rattle.stored.specs.Answer.{Storing}
+use Rattle.stored.specs.StoreLoad.{Storing}
 use Rattle.exports.specs.Codes.{sentCode, tell, inRoom, IfRoom}
 use Rattle.exports.specs.Messages.{isHead, HeadFits, isReplyHead, ReplyHeadFits}
 

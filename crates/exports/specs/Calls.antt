@@ -15,7 +15,7 @@ use Rattle.server.specs.declared.Served.{Served}
 use Rattle.server.specs.declared.Served.the-variants as s
 use Rattle.server.specs.Lines.{ServesLines}
 use Rattle.stored.specs.File.{form1}
-use Rattle.stored.specs.Answer.{Storing, Loaded}
+use Rattle.stored.specs.StoreLoad.{Storing, Loaded}
 use Rattle.exports.specs.Codes.{sentCode, tell}
 
 abbrev pub verdictCode : Verdict → ℕ

@@ -11,7 +11,7 @@ ghost use Rattle.message.specs.Reply.{asked, reply};
 ghost use Rattle.request_reader.specs.RequestRead.{requestAt};
 ghost use Rattle.reply_reader.specs.ReplyRead.{replyAt};
 ghost use Rattle.table.specs.Compare.{compared};
-ghost use Rattle.server.specs.Answer.{callOf, contextOf};
+ghost use Rattle.server.specs.CallDone.{callOf, contextOf};
 ghost use Rattle.exports.specs.Calls.{TellsDone, TellsTotal, TellsServed, keysCompared};
 ghost use Rattle.exports.specs.Codes.{tell, told};
 ghost use Rattle.exports.specs.Messages.{wholeRequest, wholeReply};

@@ -23,7 +23,7 @@ ghost use Rattle.table.specs.Memory.{Sound};
 ghost use Rattle.table.specs.Compare.{compared};
 ghost use Rattle.table.specs.Found.{Tells as Says};
 ghost use Rattle.table.specs.Change.{Left, outcomeOf, made};
-ghost use Rattle.server.specs.Answer.{callOf, contextOf};
+ghost use Rattle.server.specs.CallDone.{callOf, contextOf};
 ghost use Rattle.exports.specs.Calls.{TellsDone, TellsTotal, TellsServed, TellsStored, TellsLoaded, outcomeCode, keysCompared, Untold};
 ghost use Rattle.exports.specs.Codes.{coded, tell, told, inRoom, IfRoom};
 ghost use Rattle.exports.specs.Messages.{wholeRequest, wholeReply, sendRequest, sendReply};

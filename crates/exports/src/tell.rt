@@ -7,7 +7,7 @@ use table::Outcome;
 ghost use mathlib.Core.Path.{_≡_};
 ghost use Prim.Native.Nat.{_<_, _^_};
 ghost use Rattle.message.specs.Sent.{asSent};
-ghost use Rattle.server.specs.Answer.{asVerdict};
+ghost use Rattle.server.specs.CallDone.{asVerdict};
 ghost use Rattle.exports.specs.Calls.{verdictCode, bit as bitOf, outcomeCode};
 ghost use Rattle.exports.specs.Codes.{sentCode, tell};
 ghost use Rattle.exports.specs.Messages.{wholeRequest, wholeReply};

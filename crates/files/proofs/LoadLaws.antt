@@ -19,7 +19,7 @@ use Rattle.table.specs.Bytes.{part}
 use Rattle.table.specs.Memory.{size, stateOf, Sound}
 use Rattle.table.proofs.Restores.{each-mid}
 use Rattle.stored.specs.File.{form1, entryLine, headLine, entryLines, file, Stores}
-use Rattle.stored.specs.Answer.{NoEnd, Loads as LoadsWhole, no-line, a-line, Ends}
+use Rattle.stored.specs.StoreLoad.{NoEnd, Loads as LoadsWhole, no-line, a-line, Ends}
 use Rattle.stored.proofs.LineLaws.{entry-most, head-most, head-good, table-good, no-end, first-end, line-cons}
 use Rattle.stored.proofs.OneTable.{file-front}
 use Rattle.stored.proofs.WholeLaws.{loads-both, loads-stores, all-loaded}

@@ -2,13 +2,14 @@
 use mathlib.Core.Path.{_≡_, refl, sym, ap, _∙_}
 use mathlib.Core.Logic.{inl, inr}
 use mathlib.Core.Bool.{Bool, true, false}
-use mathlib.Core.List.{List, [], _∷_}
+use mathlib.Core.List.{List, []}
 use Prim.Native.Nat.{ℕ, _+_, _-_, _≤_, _<_}
 use native.Mathlib.Omega.{arith}
 use lib.ListN.{length, drop, length-drop}
 use lib.Dec.{ltb}
 use borrow.Author.Tests.{ltb-true, ltb-false}
 use Rattle.wire.proofs.Laws.{never}
+use Rattle.hex.proofs.HexLaws.{length-none}
 use Rattle.service.specs.Line.{longest, stateLeft}
 use Rattle.service.specs.Turns.{lineRoom}
 use Rattle.server.specs.Lines.{Checked, Unserved, fedOf, TurnsDone, ServesLines}
@@ -25,10 +26,6 @@ use Rattle.files.specs.Window.{at, inside, Lies}
 use Rattle.files.specs.Serving.{Ready, Serves, Writes, Reads, Ends, Refuses}
 use Rattle.files.proofs.TurnsLaws.{turns-within, turns-end, rest-short}
 use Rattle.files.proofs.WindowLaws.{inside-long, inside-behind}
-
-pub no-text : (xs : List ℕ) → length xs ≡ 0 → xs ≡ []
-no-text [] e = refl
-no-text (x ∷ xs) e = absurd (omega arith)
 
 -- `serve_lines` was called with the bytes in the window
 pub record Called (buf t out : List ℕ) (s : Window) (r : Served) (out′ t′ : List ℕ) : Type 0 where
@@ -92,7 +89,7 @@ module _ {buf t out out′ t′ : List ℕ} {s : Window} {f : Fed} (r : Ready bu
 
   module _ (e : f .size ≡ 0) where
     quiet : u .turn .text ≡ []
-    quiet = no-text (u .turn .text) (sym size-is ∙ e)
+    quiet = length-none (u .turn .text) (sym size-is ∙ e)
 
     same-list : out′ ≡ out
     same-list = u .list ∙ rw quiet

@@ -10,6 +10,7 @@ use lib.Seq.{length-sets, length-take-le, take-at}
 use lib.Dec.{eqb}
 use borrow.Author.Tests.{eqb-true, ne-eqb}
 use Rattle.wire.proofs.Laws.{never}
+use Rattle.hex.proofs.HexLaws.{length-none}
 use Rattle.service.specs.Line.{longest}
 use Rattle.service.specs.Turns.{lineRoom}
 use Rattle.table.specs.Write.{put}
@@ -25,7 +26,6 @@ use Rattle.files.specs.Serving.{Ready, Writes, Reads, Refuses, ServesNex
 use Rattle.files.proofs.TurnsLaws.{no-pieces, turns-within, turns-some}
 use Rattle.files.proofs.WindowLaws.{inside-behind, lies-behind, inside-read, lies-read, inside-front, front-long, lies-more, long-more}
 use Rattle.files.proofs.RunLaws.{whole-served}
-use Rattle.files.proofs.NextLaws.{no-text}
 
 -- a number that falls with each call: a byte that is not yet read counts twice
 abbrev pub togo : List ℕ → List ℕ → Window → ℕ
@@ -81,7 +81,7 @@ cut c file {buf} {buf′} {s} {s′} {n} x =
       brings = b;
       lies = lies-read s′ z b;
       long = b .long ∙ long;
-      none = λ e. no-text (drop k file) (o (sym m ∙ eqb-true (length p) 0 e));
+      none = λ e. length-none (drop k file) (o (sym m ∙ eqb-true (length p) 0 e));
       less = omega (arith, counts (length p), q, ap length i, c .there room (length file), length-drop k file, length-drop n (inside buf s), ap {B = ℕ} (λ (b : Bool). cond b 0 1) (x .on));
     }
 

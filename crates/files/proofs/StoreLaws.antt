@@ -20,7 +20,7 @@ use Rattle.table.proofs.Restores.{each-mid}
 use Rattle.hex.specs.Hex.{line}
 use Rattle.hex.proofs.HexLaws.{line-length}
 use Rattle.stored.specs.File.{form1, entryLine, headLine, entryLines, file}
-use Rattle.stored.specs.Answer.{lineAt}
+use Rattle.stored.specs.StoreLoad.{lineAt}
 use Rattle.stored.proofs.LineLaws.{entry-most, head-most, head-good, table-good}
 use Rattle.files.specs.declared.NextStore.{NextStore}
 use Rattle.files.specs.declared.NextStore.the-variants as store

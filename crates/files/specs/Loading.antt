@@ -8,7 +8,7 @@ use Rattle.service.specs.Feed.{joined}
 use Rattle.map.specs.State.{State}
 use Rattle.table.specs.Memory.{stateOf}
 use Rattle.stored.specs.File.{form1}
-use Rattle.stored.specs.Answer.{LoadsLines}
+use Rattle.stored.specs.StoreLoad.{LoadsLines}
 use Rattle.stored.specs.declared.Loading.{Loading}
 use Rattle.files.specs.declared.Window.{Window}
 use Rattle.files.specs.declared.NextLoad.{NextLoad}

@@ -12,6 +12,10 @@ use Rattle.wire.proofs.Basics.{passed}
 use Rattle.hex.specs.Hex.{digitOf, isDigit, digitValue, toHex, line, onto, fromHex}
 use Rattle.hex.proofs.Digits.{value-below, digit-back, of-digit, of-value}
 
+pub length-none : (s : List ℕ) → length s ≡ 0 → s ≡ []
+length-none [] e = refl
+length-none (b ∷ s) e = absurd (omega arith)
+
 pub hex-length : (s : List ℕ) → length (toHex s) ≡ 2 * length s
 unfolding toHex
 hex-length [] = refl

@@ -12,7 +12,7 @@ use Rattle.wire.specs.Write.{laid}
 use Rattle.wire.proofs.WriteLaws.{sets-append, sets-after, sets-over, sets-part, laid-short, laid-done, laid-none}
 use Rattle.hex.specs.Hex.{digitOf, toHex, line}
 use Rattle.hex.specs.Coding.{part}
-use Rattle.hex.proofs.HexLaws.{hex-length, line-length}
+use Rattle.hex.proofs.HexLaws.{length-none, hex-length, line-length}
 
 getD-before : (vs l : List ℕ) (i j : ℕ) → j < i → getD (sets l i vs) j 0 ≡ getD l j 0
 getD-before [] l i j h = refl
@@ -23,10 +23,6 @@ pub record Spread (old : List ℕ) (at n : ℕ) (new : List ℕ) (i : ℕ) : Typ
   pub list : new ≡ sets old (at + 2 * i) (toHex (drop i (part old at n)))
   pub long : length new ≡ length old
   pub within : i ≤ n
-
-none-of : (s : List ℕ) → length s ≡ 0 → s ≡ []
-none-of [] e = refl
-none-of (b ∷ s) e = absurd (omega arith)
 
 module _ (old : List ℕ) (at n : ℕ) where
   some-length : length (part old at n) ≡ min n (length old - at)
@@ -40,7 +36,7 @@ module _ (old : List ℕ) (at n : ℕ) where
       go : Dec (length old < at + length (toHex (part old at n))) → (at, old) ≡ laid (toHex (part old at n)) at old
       go (yes l) = laid-short (toHex (part old at n)) at old l
       go (no l) =
-          let e : part old at n ≡ [] = none-of (part old at n) (omega (arith, some-length, hex-length (part old at n))) in
+          let e : part old at n ≡ [] = length-none (part old at n) (omega (arith, some-length, hex-length (part old at n))) in
           rw e (laid-none at old)
 
   pub line-short : length old < at + (2 * n + 1) → (at, old) ≡ laid (line (part old at n)) at old

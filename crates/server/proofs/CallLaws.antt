@@ -8,7 +8,7 @@ use lib.Seq.{take-all, take-at, drop-at, length-take-le}
 use Rattle.map.specs.Step.{Context}
 use Rattle.service.specs.Stream.{Serves}
 use Rattle.server.specs.declared.Answer.{Answer}
-use Rattle.server.specs.Answer.{doneOf, CallsAt}
+use Rattle.server.specs.CallDone.{doneOf, CallsAt}
 
 -- a part up to the end
 pub to-end : (n : ℕ) (s : List ℕ) → take (length s - n) (drop n s) ≡ drop n s

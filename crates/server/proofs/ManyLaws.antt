@@ -23,7 +23,7 @@ use Rattle.service.proofs.Decides.{isSound}
 use Rattle.service.proofs.Sounds.{tells-sound, effectIn, does-in}
 use Rattle.service.proofs.Bounds.{Facts, facts, stays-sound}
 use Rattle.server.specs.declared.Answer.{Answer}
-use Rattle.server.specs.Answer.{asVerdict, doneOf, CallsAt}
+use Rattle.server.specs.CallDone.{asVerdict, doneOf, CallsAt}
 use Rattle.server.proofs.SendLaws.{id-small}
 
 both-some : (a b : ℕ) → (ltb 0 a || ltb 0 b) ≡ ltb 0 (a + b)

@@ -43,7 +43,7 @@ use Rattle.service.specs.Serve.{room, errorPieces}
 use Rattle.plan.specs.declared.Held.{Held}
 use Rattle.plan.specs.Plan.{heldAt}
 use Rattle.server.specs.declared.Answer.{Answer}
-use Rattle.server.specs.Answer.{Says, Sends}
+use Rattle.server.specs.CallDone.{Says, Sends}
 use Rattle.server.specs.Act.{valueShown, entryShown, Planned}
 
 -- a message that fits is written, and its bytes are the pieces sent

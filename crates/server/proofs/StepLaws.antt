@@ -35,7 +35,7 @@ use Rattle.service.proofs.Calls.{roomy-within}
 use Rattle.plan.specs.declared.Held.{Held}
 use Rattle.plan.specs.Plan.{isFull, refusalOf, Holds}
 use Rattle.server.specs.declared.Answer.{Answer}
-use Rattle.server.specs.Answer.{callOf, doneOf, Says, Sends}
+use Rattle.server.specs.CallDone.{callOf, doneOf, Says, Sends}
 use Rattle.server.specs.Act.{at, less, replaced, Storable, after}
 
 -- what is sent, with the table that is left

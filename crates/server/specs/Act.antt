@@ -21,7 +21,7 @@ use Rattle.service.specs.Stream.{Done, Does}
 use Rattle.plan.specs.declared.Held.{Held}
 use Rattle.plan.specs.Plan.{Holds, heldVersion, refusalOf}
 use Rattle.server.specs.declared.Answer.{Answer}
-use Rattle.server.specs.Answer.{Sends}
+use Rattle.server.specs.CallDone.{Sends}
 
 abbrev pub at : ℕ → Context
 at second = record { second = second }

@@ -1,3 +1,3 @@
-pub mod Answer
+pub mod CallDone
 pub mod Act
 pub mod Lines

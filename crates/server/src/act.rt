@@ -30,7 +30,7 @@ ghost use Rattle.table.specs.Change as table;
 ghost use Rattle.service.specs.Serve as stream;
 ghost use Rattle.service.specs.Stream.{Serves};
 ghost use Rattle.plan.specs.Plan.{asChange, Holds, heldAt};
-ghost use Rattle.server.specs.Answer.{asVerdict, callOf, doneOf, Says, Sends};
+ghost use Rattle.server.specs.CallDone.{asVerdict, callOf, doneOf, Says, Sends};
 ghost use Rattle.server.specs.Act.{at, valueShown, entryShown, less, replaced, Storable, after, Planned, Agreed, Given, Replies, Performs};
 
 // Nothing taken and nothing sent.

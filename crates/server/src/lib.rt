@@ -7,7 +7,7 @@ ghost use mathlib.Core.Path.{_≡_};
 ghost use mathlib.Core.Bool.{false};
 ghost use Rattle.service.specs.Stream.{Serves};
 ghost use Rattle.service.specs.Many.{Streams};
-ghost use Rattle.server.specs.Answer.{callOf, doneOf, contextOf, totalOf, Ready, CallsAt};
+ghost use Rattle.server.specs.CallDone.{callOf, doneOf, contextOf, totalOf, Ready, CallsAt};
 ghost use Rattle.server.specs.Lines.{ServesLine, ServesLines};
 
 // How a call ended, or a stream: full is a stream that needs an emptied reply buffer.

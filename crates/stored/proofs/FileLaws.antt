@@ -24,7 +24,7 @@ use Rattle.table.proofs.Answers.{other-entries}
 use Rattle.hex.specs.Hex.{line}
 use Rattle.hex.proofs.HexLaws.{line-length}
 use Rattle.stored.specs.File.{Form, entryLine, headLine, entryLines, file}
-use Rattle.stored.specs.Answer.{lineAt, Storing}
+use Rattle.stored.specs.StoreLoad.{lineAt, Storing}
 use Rattle.stored.proofs.StoreLaws.{line-entry}
 
 pub lines-append : (f : Form) (a b : List Entry) → entryLines f (a ++ b) ≡ entryLines f a ++ entryLines f b

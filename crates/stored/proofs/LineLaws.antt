@@ -24,7 +24,7 @@ use Rattle.hex.specs.Hex.{digitOf, toHex, fromHex, line}
 use Rattle.hex.proofs.HexLaws.{to-from, from-to}
 use Rattle.hex.proofs.Digits.{of-decimal, of-letter}
 use Rattle.stored.specs.File.{Form, form1, formByte, Fields, toEntry, fromEntry, entryLine, headLine}
-use Rattle.stored.specs.Answer.{exactly, readBytes, readLine, NoEnd}
+use Rattle.stored.specs.StoreLoad.{exactly, readBytes, readLine, NoEnd}
 use Rattle.stored.proofs.Spelt.{Spelt, type-spelt, seq-spelt, guard-spelt, byte-spelt, big-spelt, limited-spelt}
 
 -- the formats

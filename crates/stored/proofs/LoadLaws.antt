@@ -26,7 +26,7 @@ use Rattle.hex.specs.declared.Decoded.the-variants as d
 use Rattle.hex.proofs.Decoded as decoded-type
 use Rattle.hex.proofs.HexLaws.{to-from}
 use Rattle.stored.specs.File.{form1, entryLine, headLine}
-use Rattle.stored.specs.Answer.{exactly, readLine, headLoaded, lineLoaded, loaded}
+use Rattle.stored.specs.StoreLoad.{exactly, readLine, headLoaded, lineLoaded, loaded}
 use Rattle.stored.proofs.LineLaws.{entry-laws, entry-most, head-laws, head-most, bytes-read}
 
 -- what stops a field stops the line

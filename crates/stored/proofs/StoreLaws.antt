@@ -31,7 +31,7 @@ use Rattle.table.proofs.Parts.{bytes-part}
 use Rattle.table.proofs.RowLaws.{entry-is}
 use Rattle.table.proofs.Answers.{held-row, no-row}
 use Rattle.stored.specs.File.{Form, form1, toEntry, fromEntry, entryLine, headLine}
-use Rattle.stored.specs.Answer.{lineAt}
+use Rattle.stored.specs.StoreLoad.{lineAt}
 use Rattle.stored.proofs.LineLaws.{fields, entry-good, entry-most}
 
 -- a line written at its place: the bytes, and then their digits

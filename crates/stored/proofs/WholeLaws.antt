@@ -24,7 +24,7 @@ use Rattle.table.specs.declared.Outcome.the-variants.{Done, Refused}
 use Rattle.table.proofs.Restores.{started-is, started-says, started-long, restored-long, restored-sound, each-restored, each-mid}
 use Rattle.table.proofs.HasForm.{started-sound}
 use Rattle.stored.specs.File.{Form, form1, entryLine, headLine, entryLines, file, Stores}
-use Rattle.stored.specs.Answer.{readLine, startWith, restoreTo, headLoaded, lineLoaded, loaded, NoEnd, Loads, no-line, a-line, Ends, LoadsLines, Loaded}
+use Rattle.stored.specs.StoreLoad.{readLine, startWith, restoreTo, headLoaded, lineLoaded, loaded, NoEnd, Loads, no-line, a-line, Ends, LoadsLines, Loaded}
 use Rattle.stored.specs.declared.Loading.{Loading}
 use Rattle.stored.proofs.LineLaws.{entry-laws, entry-spelt, table-good, head-laws, head-spelt, head-good, line-read, line-back, no-end, first-end, ends-split, line-cons}
 use Rattle.stored.proofs.StoreLaws.{parts}

@@ -14,7 +14,7 @@ ghost use Rattle.message.specs.Sent.{asSent};
 ghost use Rattle.table.specs.Memory.{size, stateOf};
 ghost use Rattle.table.specs.Change.{Answers, AnswersBy};
 ghost use Rattle.stored.specs.File.{form1, file};
-ghost use Rattle.stored.specs.Answer.{lineAt, Storing, headLoaded, lineLoaded, loaded, LoadsLines, Loaded};
+ghost use Rattle.stored.specs.StoreLoad.{lineAt, Storing, headLoaded, lineLoaded, loaded, LoadsLines, Loaded};
 
 // What a line is made of.
 pub struct Line {}

@@ -16,7 +16,7 @@ ghost use Rattle.table.specs.Found.{entryAt};
 ghost use Rattle.table.specs.Change.{Answers};
 ghost use Rattle.hex.specs.Hex.{line};
 ghost use Rattle.stored.specs.File.{form1, entryLine, headLine};
-ghost use Rattle.stored.specs.Answer.{exactly, startWith, restoreTo};
+ghost use Rattle.stored.specs.StoreLoad.{exactly, startWith, restoreTo};
 
 // Room for the bytes of a line.
 pub(crate) fn room() -> [u8; 339]

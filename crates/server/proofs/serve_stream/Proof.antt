@@ -6,7 +6,7 @@ use lib.ListN.{length, drop, length-drop}
 use borrow.Author.Tests.{not-true, not-false}
 use Rattle.wire.specs.Codec.{Bytes}
 use Rattle.service.specs.Serve.{room}
-use Rattle.server.specs.Answer.{contextOf}
+use Rattle.server.specs.CallDone.{contextOf}
 use Rattle.table.proofs.Lists.{refuted}
 use Rattle.server.proofs.ManyLaws.{Between, begin, short, unsound, no-room, call-takes, call-sends, call-kept, call-on, call-ends}
 use borrow.Author.Needs.{needs}

@@ -5,7 +5,7 @@ use native.Mathlib.Omega.{arith}
 use lib.ListN.{length, take}
 use borrow.Author.Tests.{not-true, not-false}
 use Rattle.stored.specs.File.{form1}
-use Rattle.stored.specs.Answer.{Loads, no-line}
+use Rattle.stored.specs.StoreLoad.{Loads, no-line}
 use Rattle.stored.proofs.WholeLaws.{loads-long, none-left, bad-next, good-next}
 use borrow.Author.Needs.{needs}
 use Rattle.stored.proofs.load_lines.Statement.{statement}

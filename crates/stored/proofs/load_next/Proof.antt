@@ -3,7 +3,7 @@ use mathlib.Core.Path.{refl}
 use native.Mathlib.Omega.{arith}
 use Rattle.wire.specs.Codec.{Codec}
 use Rattle.stored.specs.File.{form1, entryLine, headLine}
-use Rattle.stored.specs.Answer.{headLoaded, lineLoaded}
+use Rattle.stored.specs.StoreLoad.{headLoaded, lineLoaded}
 use Rattle.stored.proofs.LoadLaws.{Digits, digits-read, loaded-none}
 use borrow.Author.Needs.{needs}
 use Rattle.stored.proofs.load_next.Statement.{statement}

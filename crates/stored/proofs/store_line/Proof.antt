@@ -10,7 +10,7 @@ use Rattle.table.specs.Memory.{stateOf}
 use Rattle.table.specs.Found.{entryAt}
 use Rattle.hex.specs.Hex.{line}
 use Rattle.stored.specs.File.{form1, entryLine, headLine}
-use Rattle.stored.specs.Answer.{lineAt}
+use Rattle.stored.specs.StoreLoad.{lineAt}
 use Rattle.stored.proofs.LineLaws.{head-most, head-good, entry-most}
 use Rattle.stored.proofs.StoreLaws.{line-head, line-entry, line-none, held-good, last-small, wrote-front}
 use borrow.Author.Needs.{needs}

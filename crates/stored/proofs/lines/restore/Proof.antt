@@ -6,7 +6,7 @@ use borrow.Author.Tests.{eq-eqb, ne-eqb}
 use Rattle.wire.specs.Codec.{whole, more, readAt}
 use Rattle.wire.specs.Field.{bigEndian, limited}
 use Rattle.stored.specs.File.{form1, entryLine}
-use Rattle.stored.specs.Answer.{exactly}
+use Rattle.stored.specs.StoreLoad.{exactly}
 use Rattle.message.specs.Request.{keyLimit, valueLimit}
 use Rattle.wire.proofs.Laws.{after-after}
 use Rattle.field.proofs.Parts.{span-stops, limited-in}

@@ -1,4 +1,4 @@
--- What the answers of the serving functions say.
+-- What the answers of a call and of a stream of calls say: what was taken and sent, and what the call left.
 use mathlib.Core.Path.{_≡_}
 use mathlib.Core.List.{List}
 use Prim.Native.Nat.{ℕ, _-_, _≤_}

@@ -1,4 +1,4 @@
--- What the functions of a stored file answer, and what they leave of the memory that they were lent.
+-- Storing and loading a table: what the functions answer, and what they leave of the memory that they were lent.
 use mathlib.Core.Path.{_≡_}
 use mathlib.Core.List.{List, [], _∷_, _++_}
 use mathlib.Core.Bool.{Bool, true, false, cond}

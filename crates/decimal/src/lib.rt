@@ -8,7 +8,7 @@ ghost use Prim.Native.Nat.{_+_, _≤_};
 ghost use lib.ListN.{length};
 ghost use Rattle.wire.specs.Codec.{readAt};
 ghost use Rattle.wire.specs.Write.{putAt};
-ghost use Rattle.field.specs.FieldRead.{asNumber, asSpan, stopped};
+ghost use Rattle.field.specs.FieldRead.{asNumber};
 ghost use Rattle.decimal.specs.Decimal.{decimal, digitsOf, valueOf, isDigit, areDigits, isShortest};
 
 // The most digits that a decimal has, and the largest vLong.
@@ -69,24 +69,13 @@ fn value(s: &[u8]) -> u64
     v
 }
 
-// What a part that is not whole makes of the number.
-fn stop_span(r: SpanRead) -> NumberRead
-    ensures { λ h. ⌜ asNumber h ≡ stopped (asSpan r) ⌝ }
-{
-    match r {
-        SpanRead::Whole(_, _) => NumberRead::More,
-        SpanRead::More => NumberRead::More,
-        SpanRead::Refused(k) => NumberRead::Refused(k),
-    }
-}
-
 // A length of at most 19, and so many digits, which are judged when all are there.
 pub fn read_decimal(s: &[u8], c: Cursor) -> NumberRead
     ensures { λ r. ⌜ asNumber r ≡ readAt decimal (now (s .entry)) (c .at) ⌝ }
 {
     let r = field::read_limited(s, c, DIGITS);
     let SpanRead::Whole(p, next) = r else {
-        return stop_span(r);
+        return r.length();
     };
     let d = field::part(s, p);
     if !are_digits(d) {

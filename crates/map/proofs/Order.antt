@@ -12,7 +12,7 @@ use Rattle.map.specs.Step.{Context, Change, keep, store, drop, empty, An
 use Rattle.map.specs.Table.{Each, Pairs, OtherKey, IsTable}
 use Rattle.map.specs.Order as spec
 use Rattle.map.specs.Order.{Same, cons, swap, then, SameState, SameOutcome}
-use Rattle.map.proofs.Laws.{same-true}
+use Rattle.wire.proofs.SameLaws.{same-true}
 
 same-self : (es : List Entry) → Same es es
 same-self [] = spec.none

@@ -1,13 +1,12 @@
 -- `decimal::read_decimal` meets its contract: `at-decimal` says what its reading goes by, and each way out has those answers. Assumes nothing.
-use mathlib.Core.Path.{_≡_, refl, sym, ap, _∙_}
+use mathlib.Core.Path.{_≡_, sym, ap, _∙_}
 use mathlib.Core.Bool.{true}
 use native.Mathlib.Omega.{arith}
 use borrow.Author.Tests.{not-true, not-false}
 use Rattle.wire.specs.Codec.{readAt, whole}
 use Rattle.wire.specs.Field.{limited}
-use Rattle.wire.proofs.Laws.{after-after}
 use Rattle.field.specs.FieldRead.{partOf}
-use Rattle.field.proofs.Parts.{span-stops, limited-in}
+use Rattle.field.proofs.Parts.{limited-in, part-stops}
 use Rattle.decimal.specs.Decimal.{areDigits, isShortest}
 use Rattle.decimal.proofs.DecimalRead.{at-decimal, limited-short, not-digits, not-shortest, not-small, is-decimal}
 use borrow.Author.Needs.{needs}
@@ -17,13 +16,15 @@ use Rattle.decimal.proofs.read_decimal.Tie as tie
 -- a whole part
 found : (c : tie.After-known-told) → let r = c .before in let a = r .before .before .before .before .args in
     readAt (limited 19) (a .s .now) (a .c .at) ≡ whole (partOf (a .s .now) (r .r .given .0 .0)) (r .r .given .0 .1 .0 .at)
-found c = let r = c .before in limited-in _ _ 19 _ _ (r .before .before .read-limited .ensures) (r .r .given .1)
+found c = let r = c .before in
+    let a = r .before .before .before .before .args in
+    limited-in (a .s .now) (a .c .at) 19 _ _ (r .before .before .read-limited .ensures) (r .r .given .1)
 
 returns : tie.Need-returns
 returns c = let n = c .before .before in
     let a = n .before .before .args in
-    rw (at-decimal, limited-in (a .s .now) (a .c .at) 19 (n .read-limited .result) (n .read-limited .result) (n .read-limited .ensures) refl, after-after)
-    (c .stop-span .ensures ∙ sym (span-stops (n .read-limited .result) (c .before .match .keys2) _))
+    part-stops (a .s .now) (a .c .at) 19 (n .read-limited .result) (c .length .result) (n .read-limited .ensures) (c .before .match .keys2) (c .length .ensures) _
+    ∙ sym (at-decimal (a .s .now) (a .c .at))
 
 returns-2 : tie.Need-returns-2
 returns-2 c = let t = c .before in

@@ -1,7 +1,7 @@
--- `decimal::stop_span` meets its contract, by each answer. Assumes nothing.
+-- `statistics::stop` meets its contract, by each answer. Assumes nothing.
 use borrow.Author.Needs.{needs}
-use Rattle.decimal.proofs.stop_span.Statement.{statement}
-use Rattle.decimal.proofs.stop_span.Tie as tie
+use Rattle.statistics.proofs.stop.Statement.{statement}
+use Rattle.statistics.proofs.stop.Tie as tie
 
 returns : tie.Need-returns
 returns c = rw (c .enum-told .given .1)
@@ -12,6 +12,6 @@ returns-2 c = rw (c .enum-told2 .given .1)
 returns-3 : tie.Need-returns-3
 returns-3 c = rw (c .before .r .given .1)
 
-pub stop-span-spec : {M : Type 1} → statement M
-stop-span-spec =
+pub stop-spec : {M : Type 1} → statement M
+stop-spec =
     tie.close (tie.spec (λ c. search needs) (λ c. search needs) (λ c. search needs) returns returns-2 returns-3)

@@ -113,6 +113,15 @@ unfolding mapped
 limited-in s at lim r x e p =
     sym (rw (← p, e) (mapped-back (readAt (limited lim) s at) spanTo (λ p n. partOf s p) (λ bs n q. part-read s at lim bs n q)))
 
+-- a part that is not whole stops what comes after it
+pub part-stops : (s : List ℕ) (at lim : ℕ) (r : SpanRead) (l : NumberRead) → asSpan r ≡ mapped spanTo (readAt (limited lim) s at)
+    → OneOf (1 ∷ 2 ∷ []) (tagOf span-read.the-type r) → asNumber l ≡ mapped (λ p n. p .len) (asSpan r) → (f : List ℕ → ℕ → Read ℕ)
+    → asNumber l ≡ after (readAt (limited lim) s at) f
+unfolding mapped
+part-stops s at lim (p.Whole x c) l e k h f = not-whole k
+part-stops s at lim p.More l e k h f = rw (h, limited-in s at lim p.More p.More e refl)
+part-stops s at lim (p.Refused j) l e k h f = rw (h, limited-in s at lim (p.Refused j) (p.Refused j) e refl)
+
 -- a text is judged by that part
 pub at-text : (s : List ℕ) (at lim : ℕ)
     → mapped spanTo (readAt (limitedText lim) s at) ≡ after (mapped spanTo (readAt (limited lim) s at)) (λ p n. cond (isText (partOf s p)) (whole p n) (refused 7))

@@ -18,7 +18,7 @@ use Rattle.map.specs.Step.{mostKeys, lastVersion, Context, Change, keep,
 use Rattle.map.specs.Table.{Each, Sizes, OtherKey, OtherVersion, Issued, IsTable, Ascending}
 use Rattle.map.proofs.Each.{each-map, each-without, pairs-without, each-left, each-add, pairs-add}
 use Rattle.map.proofs.Answered.{changed, did}
-use Rattle.map.proofs.Laws.{other-differ}
+use Rattle.wire.proofs.SameLaws.{other-differ}
 use Rattle.map.proofs.Deadline.{deadline-most}
 
 -- no entry is above the last version

@@ -1,44 +1,20 @@
 -- What is found in a list of entries behind a write, and that no version is issued twice. Assumes nothing.
-use mathlib.Core.Path.{_≡_, refl, ap₂, _∙_}
+use mathlib.Core.Path.{_≡_, refl, _∙_}
 use mathlib.Core.List.{List, [], _∷_, _++_, map}
 use mathlib.Core.Bool.{Bool, true, false, cond}
 use mathlib.Core.Option.{Option, none, some}
 use mathlib.Core.Logic.{_⊎_, inl, inr}
 use Prim.Native.Nat.{ℕ, suc, _<_}
 use native.Mathlib.Omega.{arith}
-use lib.Dec.{eqb, ltb}
-use borrow.Author.Tests.{eqb-true, eq-eqb, lt-ltb, le-ltb}
-use Rattle.wire.proofs.Laws.{never, both}
+use borrow.Author.Tests.{lt-ltb, le-ltb}
+use Rattle.wire.proofs.SameLaws.{same-true}
 use Rattle.message.specs.Request.{Request}
-use Rattle.map.specs.State.{Entry, State, sameList, find, without, hasKey}
+use Rattle.map.specs.State.{Entry, State, find, without, hasKey}
 use Rattle.map.specs.Step.{Context, Outcome, refused, answered, step, stateAfter, Taken, run}
 use Rattle.map.specs.Table.{Each}
-use Rattle.map.specs.Issued.{issued, Above, Ascends, IssuedOnce}
+use Rattle.map.specs.Issued.{issued, Above, IssuedOnce}
 use Rattle.map.proofs.Each.{each-left}
 use Rattle.map.proofs.Commute.{issues}
-
--- equal keys
-pub same-true : (a b : List ℕ) → sameList a b ≡ true → a ≡ b
-unfolding sameList
-same-true [] [] e = refl
-same-true [] (y ∷ b) e = never (cc)
-same-true (x ∷ a) [] e = never (cc)
-same-true (x ∷ a) (y ∷ b) e = let h = both (eqb x y) (sameList a b) e in ap₂ _∷_ (eqb-true x y (h .0)) (same-true a b (h .1))
-
-pub same-refl : (a : List ℕ) → sameList a a ≡ true
-unfolding sameList
-same-refl [] = refl
-same-refl (x ∷ a) = rw (eq-eqb x x refl) (same-refl a)
-
-pub same-other : (a b : List ℕ) → (a ≡ b → ⊥) → sameList a b ≡ false
-same-other a b h = go (sameList a b) refl
-  where
-    go : (t : Bool) → sameList a b ≡ t → t ≡ false
-    go true e = absurd (h (same-true a b e))
-    go false e = refl
-
-pub other-differ : (a b : List ℕ) → sameList a b ≡ false → a ≡ b → ⊥
-other-differ a b e q = let y : sameList a b ≡ true = rw q (same-refl b) in never (cc)
 
 -- what is found behind a removal, and behind a write
 abbrev orElse : Option Entry → Option Entry → Option Entry

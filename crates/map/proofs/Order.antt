@@ -11,7 +11,7 @@ use Rattle.map.specs.State.{Entry, State, find, without, hasKey}
 use Rattle.map.specs.Step.{Context, Change, keep, store, drop, empty, Answer, Outcome, lastVersion, stored, dropped, emptied, names, held, full, planned, answer, act, step}
 use Rattle.map.specs.Table.{Each, Pairs, OtherKey, IsTable}
 use Rattle.map.specs.Order.{SameState, SameOutcome}
-use Rattle.map.proofs.Laws.{same-true}
+use Rattle.wire.proofs.SameLaws.{same-true}
 
 -- what is said of each entry, or of each two in either order, is said of a list in any order
 same-each : (P : Entry → Type 0) {es fs : List Entry} → Perm es fs → Each P es → Each P fs

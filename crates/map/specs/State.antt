@@ -1,9 +1,9 @@
 -- What the simple map holds (document 01, 'The table').
-use mathlib.Core.List.{List, [], _∷_, _++_}
-use mathlib.Core.Bool.{Bool, true, false, cond, _&&_}
+use mathlib.Core.List.{List, [], _∷_}
+use mathlib.Core.Bool.{Bool, cond}
 use mathlib.Core.Option.{Option, none, some}
 use Prim.Native.Nat.{ℕ}
-use lib.Dec.{eqb}
+use Rattle.wire.specs.Same.{sameList}
 
 -- "Each entry has key, value, entry version and deadline."
 pub record Entry : Type 0 where
@@ -24,12 +24,6 @@ withEntries es st = record { entries = es; last = st .last }
 -- "The table holds the last version issued, 0 when fresh."
 abbrev pub fresh : State
 fresh = record { entries = []; last = 0 }
-
-unfoldable pub sameList : List ℕ → List ℕ → Bool
-sameList [] [] = true
-sameList [] (y ∷ ys) = false
-sameList (x ∷ xs) [] = false
-sameList (x ∷ xs) (y ∷ ys) = eqb x y && sameList xs ys
 
 -- the first entry that passes a test
 unfoldable pub find : (Entry → Bool) → List Entry → Option Entry

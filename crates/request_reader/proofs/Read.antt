@@ -12,7 +12,7 @@ use denote.Enum.Declared.{tagOf}
 use Rattle.wire.specs.Codec.{Read, whole, more, refused, after, mapped, Bytes, readAt, byte, empty, all}
 use Rattle.wire.specs.Number.{vInt, vLong}
 use Rattle.wire.specs.Field.{limited}
-use Rattle.wire.proofs.Laws.{Laws, after-after, after-on, seq-laws, guard-laws, type-laws, byte-laws, guard-valid, seq-valid}
+use Rattle.wire.proofs.Laws.{Laws, after-after, after-on, after-only, seq-laws, guard-laws, type-laws, byte-laws, guard-valid, seq-valid}
 use Rattle.wire.proofs.At.{at-front, at-seq, at-guard, at-type, at-cond, at-exact}
 use Rattle.wire.proofs.FieldLaws.{limited-laws}
 use Rattle.wire.proofs.NumberLaws.{vInt-laws, vLong-laws}
@@ -38,11 +38,6 @@ use Rattle.request_reader.proofs.FrontRead as front-read
 use Rattle.request_reader.proofs.OptionsRead as options-read
 use Rattle.request_reader.proofs.ArgsRead as args-read
 use Rattle.message.proofs.Editions.{has-transaction, op-known}
-
-after-only : {A : Type 0} (r : Read A) → after r (λ a n. whole a n) ≡ r
-after-only (whole a n) = refl
-after-only more = refl
-after-only (refused k) = refl
 
 start-laws : Laws start
 unfolding start

@@ -11,10 +11,11 @@ use borrow.Author.Tests.{eqb-true, eqb-false}
 use Rattle.message.specs.Request.{keyLimit, valueLimit}
 use Rattle.wire.specs.Codec.{isBytes}
 use Rattle.wire.proofs.Laws.{never}
-use Rattle.map.specs.State.{Entry, State, sameList}
+use Rattle.wire.specs.Same.{sameList}
+use Rattle.map.specs.State.{Entry, State}
 use Rattle.map.specs.Step.{mostKeys, lastVersion}
 use Rattle.map.specs.Table.{Each, Pairs, lastDeadline, Sizes, OtherKey, OtherVersion, Issued, IsTable, Ascending}
-use Rattle.map.proofs.Laws.{same-true, other-differ}
+use Rattle.wire.proofs.SameLaws.{same-true, other-differ}
 use Rattle.table.specs.Bytes.{be8}
 use Rattle.table.specs.Memory.{countIndex, size, numberOf, placeOf, rowAt, countOf, stateOf, Permutation, Form, Sound}
 

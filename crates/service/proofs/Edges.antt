@@ -18,7 +18,8 @@ use Rattle.map.specs.Step.{plans, plan, shows, entry, stored, held, full, plann
 use Rattle.service.specs.Line.{asks, onFrame, lineStep}
 use Rattle.service.specs.Serve.{onStep, onRead}
 use Rattle.service.specs.Edges.{All, cases}
-use Rattle.map.specs.State.{fresh, sameList, find, without}
+use Rattle.wire.specs.Same.{sameList}
+use Rattle.map.specs.State.{fresh, find, without}
 
 pub edges : All cases fresh
 unfolding cases limitedText empty byte raw guard seq as-type bigEndian limited numberDec numberEnc number vInt vLong textAfter isText digitOf isDigit digitValue toHex fromHex second editionOf findCode rows rowOf refusal bodyAt textBody fieldsOf fields message errorReply shapeOf argsOf operation transaction request-fields request start idIn flat shownPieces pieces sameList find without plans plan shows entry stored held full planned answer act step onStep onRead asks onFrame lineStep

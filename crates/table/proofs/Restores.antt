@@ -15,7 +15,7 @@ use Rattle.message.specs.Request.{keyLimit, valueLimit}
 use Rattle.map.specs.State.{Entry, State, find, hasKey}
 use Rattle.map.specs.Step.{mostKeys, lastVersion, isNone}
 use Rattle.map.specs.Table.{Each, Pairs, lastDeadline, Sizes, OtherKey, OtherVersion, Issued, IsTable, Ascending}
-use Rattle.map.proofs.Laws.{same-other, other-differ}
+use Rattle.wire.proofs.SameLaws.{same-other, other-differ}
 use Rattle.table.specs.Memory.{countIndex, lastIndex, size, rowAt, entry, countOf, stateOf, Sound}
 use Rattle.table.specs.Bytes.{be8}
 use Rattle.table.specs.Found.{entryAt}

@@ -59,6 +59,11 @@ after-same (whole a n) h = h a n
 after-same more h = refl
 after-same (refused k) h = refl
 
+pub after-only : {A : Type 0} (r : Read A) → after r (λ a n. whole a n) ≡ r
+after-only (whole a n) = refl
+after-only more = refl
+after-only (refused k) = refl
+
 pub after-after : {A B C : Type 0} (r : Read A) (f : A → ℕ → Read B) (g : B → ℕ → Read C) → after (after r f) g ≡ after r (λ a n. after (f a n) g)
 after-after (whole a n) f g = refl
 after-after more f g = refl

@@ -6,3 +6,4 @@ pub mod NumberWrite
 pub mod At
 pub mod FieldLaws
 pub mod WriteLaws
+pub mod SameLaws

@@ -2,3 +2,4 @@ pub mod Codec
 pub mod Number
 pub mod Field
 pub mod Write
+pub mod Same

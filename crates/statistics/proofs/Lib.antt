@@ -1,0 +1,4 @@
+pub mod StatisticsLaws
+pub mod Reading
+pub mod Writing
+pub mod Cases

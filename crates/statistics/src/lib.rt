@@ -1,0 +1,146 @@
+// The statistics of a stats reply: how many there are, and for each its name and its value in decimal digits.
+pub mod put;
+
+use field::Cursor;
+use field::Kind;
+use field::NumberRead;
+use field::SpanRead;
+ghost use mathlib.Core.Path.{_≡_};
+ghost use Prim.Native.Nat.{_<_};
+ghost use lib.ListN.{length, getD};
+ghost use mathlib.Core.List.{[]};
+ghost use Rattle.wire.specs.Codec.{readAt};
+ghost use Rattle.wire.specs.Same.{sameList};
+ghost use Rattle.field.specs.FieldRead.{asNumber, stopped};
+ghost use Rattle.statistics.specs.Statistics.{names, statistic, statistics, listOf, asStatistics};
+
+// The statistics, in the order of their fields.
+pub struct Statistics {
+    pub time: u64,
+    pub current: u64,
+    pub total: u64,
+    pub stores: u64,
+    pub retrievals: u64,
+    pub hits: u64,
+    pub misses: u64,
+    pub removehits: u64,
+    pub removemisses: u64,
+}
+
+impl Statistics {
+    // How many there are, and the greatest length of a name.
+    pub const COUNT: usize = 9;
+
+    pub const NAME: u64 = 22;
+}
+
+// What reading them finds: all nine with the place behind them, more needed, or a refusal by its number.
+pub enum StatisticsRead {
+    Whole(Statistics, Cursor),
+    More,
+    Refused(u8),
+}
+
+// What a number that is not whole makes of them.
+fn stop(r: NumberRead) -> StatisticsRead
+    ensures { λ h. ⌜ asStatistics h ≡ stopped (asNumber r) ⌝ }
+{
+    match r {
+        NumberRead::Whole(_, _) => StatisticsRead::More,
+        NumberRead::More => StatisticsRead::More,
+        NumberRead::Refused(k) => StatisticsRead::Refused(k),
+    }
+}
+
+// Whether two parts have the same bytes.
+fn same(a: &[u8], b: &[u8]) -> bool
+    ensures { λ r. ⌜ r ≡ sameList (now (a .entry)) (now (b .entry)) ⌝ }
+{
+    if a.len() != b.len() {
+        return false;
+    }
+    let mut i = 0;
+    while i < a.len() {
+        if a[i] != b[i] {
+            return false;
+        }
+        i += 1;
+    }
+    true
+}
+
+// A statistic that has to have a name.
+fn read_named(s: &[u8], c: Cursor, name: &[u8]) -> NumberRead
+    ensures { λ r. ⌜ asNumber r ≡ readAt (statistic (now (name .entry))) (now (s .entry)) (c .at) ⌝ }
+{
+    let r = field::read_limited(s, c, Statistics::NAME);
+    let SpanRead::Whole(p, next) = r else {
+        return r.length();
+    };
+    if !same(name, field::part(s, p)) {
+        return NumberRead::Refused(8);
+    }
+    decimal::read_decimal(s, next)
+}
+
+// The statistic of a place among them.
+fn read_one(s: &[u8], c: Cursor, i: usize) -> NumberRead
+    requires { ⌜ i < 9 ⌝ }
+    ensures { λ r. ⌜ asNumber r ≡ readAt (statistic (getD names i [])) (now (s .entry)) (c .at) ⌝ }
+{
+    match i {
+        0 => read_named(s, c, b"timeSinceStart"),
+        1 => read_named(s, c, b"currentNumberOfEntries"),
+        2 => read_named(s, c, b"totalNumberOfEntries"),
+        3 => read_named(s, c, b"stores"),
+        4 => read_named(s, c, b"retrievals"),
+        5 => read_named(s, c, b"hits"),
+        6 => read_named(s, c, b"misses"),
+        7 => read_named(s, c, b"removeHits"),
+        _ => read_named(s, c, b"removeMisses"),
+    }
+}
+
+// The nine numbers in their order.
+fn of_list(ns: [u64; 9]) -> Statistics
+    requires { ⌜ length ns ≡ 9 ⌝ }
+    ensures { λ r. ⌜ listOf r ≡ ns ⌝ }
+{
+    Statistics {
+        time: ns[0],
+        current: ns[1],
+        total: ns[2],
+        stores: ns[3],
+        retrievals: ns[4],
+        hits: ns[5],
+        misses: ns[6],
+        removehits: ns[7],
+        removemisses: ns[8],
+    }
+}
+
+// The statistics at the cursor.
+pub fn read_statistics(s: &[u8], c: Cursor) -> StatisticsRead
+    ensures { λ r. ⌜ asStatistics r ≡ readAt statistics (now (s .entry)) (c .at) ⌝ }
+{
+    let r = field::read_number(s, c, Kind::VInt);
+    let NumberRead::Whole(n, first) = r else {
+        return stop(r);
+    };
+    if n != 9 {
+        return StatisticsRead::Refused(8);
+    }
+    let mut ns: [u64; 9] = [0; 9];
+    let mut at = first.at;
+    let mut i = 0;
+    while i < Statistics::COUNT {
+        let q = read_one(s, Cursor { at: at }, i);
+        let NumberRead::Whole(v, next) = q else {
+            return stop(q);
+        };
+        ns[i] = v;
+        at = next.at;
+        i += 1;
+    }
+    StatisticsRead::Whole(of_list(ns), Cursor { at: at })
+}

@@ -9,7 +9,8 @@ use native.Mathlib.Decide.{ℕ-discrete}
 use lib.ListN.{length, getD, set, replicate, length-set, length-replicate}
 use lib.Seq.{getD-set-same, getD-set-other}
 use Rattle.table.specs.Memory.{countOf}
-use Rattle.table.specs.Check.{Has, NoneBefore, Differ, markOf}
+use Rattle.table.specs.Mark.{markOf}
+use Rattle.table.specs.Check.{Has, NoneBefore, Differ}
 use Rattle.table.proofs.Lists.{lt-or-ge}
 
 -- a mark that is kept stays

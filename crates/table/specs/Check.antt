@@ -1,8 +1,7 @@
 -- What the row functions find in memory of the right length, entry by entry.
 use mathlib.Core.Path.{_≡_}
 use mathlib.Core.List.{List}
-use Prim.Native.Nat.{ℕ, _+_, _-_, _%_, _≤_, _<_}
-use lib.ListN.{length}
+use Prim.Native.Nat.{ℕ, _+_, _≤_, _<_}
 use Rattle.message.specs.Request.{keyLimit, valueLimit}
 use Rattle.map.specs.Table.{lastDeadline}
 use Rattle.table.specs.Bytes.{be8}
@@ -41,7 +40,3 @@ pub record Rising (t : List ℕ) (n top : ℕ) : Type 0 where
 -- no entry before entry i has the key
 abbrev pub NoneBefore : List ℕ → List ℕ → ℕ → Type 0
 NoneBefore t k i = (j : ℕ) → j < i → Has t k j → ⊥
-
--- a number that equal keys share: that of the last eight bytes, modulo a prime. Of a shorter key the bytes behind its end count as 0
-unfoldable pub markOf : List ℕ → ℕ
-markOf k = be8 k (length k - 8) % 8179

@@ -4,5 +4,6 @@ pub mod Found
 pub mod Compare
 pub mod Change
 pub mod Write
+pub mod Mark
 pub mod Check
 pub mod Form

@@ -4,18 +4,19 @@ use crate::Row;
 use crate::Table;
 use crate::find;
 use crate::last;
+use crate::mark;
 use crate::number;
 use crate::rows;
 use field::EntryVersion;
 use field::Second;
 ghost use mathlib.Core.Path.{_≡_};
 ghost use mathlib.Core.Bool.{true};
-ghost use Prim.Native.Nat.{_+_, _≤_, _<_};
+ghost use Prim.Native.Nat.{_+_, _≤_};
 ghost use lib.ListN.{length};
 ghost use Rattle.table.specs.Memory.{lastIndex, rowWidth, size, numberOf, countOf, stateOf, Permutation};
 ghost use Rattle.table.specs.Found.{Tells};
 ghost use Rattle.table.specs.Change.{newest, fitsRow, hasRoom, fitting, next};
-ghost use Rattle.table.specs.Check.{Within, AllWithin, Rising, NoneBefore, Differ, markOf};
+ghost use Rattle.table.specs.Check.{Within, AllWithin, Rising, NoneBefore, Differ};
 
 // Whether the lengths and the deadline of the row at a are within their limits.
 fn within(t: &[u8], a: usize) -> bool
@@ -93,17 +94,6 @@ pub(crate) fn rising(t: &[u8]) -> bool
     true
 }
 
-// A number that equal keys share.
-fn mark(k: &[u8]) -> usize
-    ensures { λ r. ⌜ (r ≡ markOf (now (k .entry))) × (r < 8192) ⌝ }
-{
-    let n = k.len();
-    if n < 8 {
-        return (number::front(k) % 8179) as usize;
-    }
-    (number::get64(k, n - 8) % 8179) as usize
-}
-
 // Whether no entry before entry i has the key, if that is asked.
 fn apart(t: &[u8], k: &[u8], i: usize, asked: bool) -> bool
     requires { ⌜ (length (now t) ≡ size) × (i ≤ countOf (now t)) ⌝ }
@@ -129,7 +119,7 @@ pub(crate) fn differ(t: &[u8]) -> bool
     let mut i = 0;
     while i < n {
         let k = rows::key(t, i);
-        let m = mark(k);
+        let m = mark::of(k);
         if !apart(t, k, i, seen[m]) {
             return false;
         }

@@ -1,5 +1,6 @@
 // The table in memory that the caller lends. Every function takes memory of any length and any bytes.
 mod check;
+mod mark;
 mod number;
 mod rows;
 

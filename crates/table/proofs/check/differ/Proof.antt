@@ -26,7 +26,7 @@ returns c = let l = c .before .before .before .before .before in
 
 loop-again : tie.Need-loop-again Inv-loop μ-loop
 loop-again c = let l = c .before .before .before .before .before in
-    let m = c .before .before .mark .ensures in (
+    let m = c .before .before .of .ensures in (
       omega arith,
       passed-more _ _ _ _ _ (sym (c .before .before .before .key .ensures)) (m .0) (m .1) (l .loop .inv .1) (c .before .apart .ensures .0 (not-false _ (c .if1 .left))),
     )

@@ -9,7 +9,7 @@ use native.Mathlib.Decide.{decLt}
 use lib.ListN.{length, set, length-append, length-set}
 use lib.Seq.{sets}
 use Rattle.wire.specs.Write.{Wrote}
-use Rattle.wire.proofs.FieldLaws.{sets-after}
+use Rattle.wire.proofs.WriteLaws.{sets-after}
 use Rattle.decimal.specs.Decimal.{digitsBy, digitsOf, decimal}
 use Rattle.decimal.proofs.DecimalLaws.{digits-one, digits-on, digits-most, decimal-enc}
 

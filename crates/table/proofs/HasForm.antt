@@ -16,10 +16,10 @@ use Rattle.map.specs.State.{Entry, State}
 use Rattle.map.specs.Step.{mostKeys, lastVersion}
 use Rattle.map.specs.Table.{Each, Sizes, IsTable, Ascending}
 use Rattle.table.specs.Bytes.{be8, upto}
-use Rattle.table.specs.Memory.{countIndex, lastIndex, numberAt, placesAt, deadlineAt, keyLengthAt, valueLengthAt, keyAt, valueAt, size, numberOf, rowAt, entry, countOf, entriesOf, stateOf, Sound}
+use Rattle.table.specs.Memory.{countIndex, lastIndex, numberAt, placesAt, deadlineStart, keyLengthStart, valueLengthStart, keyStart, valueStart, size, numberOf, rowAt, entry, countOf, entriesOf, stateOf, Sound}
 use Rattle.table.specs.Change.{Left, made, started}
 use Rattle.table.specs.Write.{put, digits, withNumber, inOrder, withKey, withValue, withEntry}
-use Rattle.table.specs.Form.{zeros, withEntries, form}
+use Rattle.table.specs.Form.{zeros, withAll, form}
 use Rattle.map.proofs.Each.{each-both}
 use Rattle.table.proofs.Lists.{length-upto, getD-upto, lt-or-ge}
 use Rattle.table.proofs.Parts.{length-put, bytes-put}
@@ -61,12 +61,12 @@ unfolding zeros
 held-zeros n = record { long = length-upto {A = ℕ} (λ i. 0) n; bytes = λ i. omega (arith, zero-at n i) }
 
 -- an entry that a row can hold
-record Fitting (e : Entry) : Type 0 where
+record Holdable (e : Entry) : Type 0 where
   sizes : Sizes e
   version : e .version < 2 ^ 64
 
-fitting : (st : State) → IsTable st → Each Fitting (st .entries)
-fitting st h =
+holdable : (st : State) → IsTable st → Each Holdable (st .entries)
+holdable st h =
     each-both _ _ _ (λ e s i. record { sizes = s; version = omega (arith, i .1, h .last) }) (st .entries) (h .sizes) (h .issued)
 
 -- the bytes of memory with an entry more, and of places in order
@@ -75,9 +75,9 @@ unfolding withEntry withNumber withValue withKey
 entry-bytes t e h b s =
     let a = rowAt t (countOf t) in
     let t₀ : Held size t = record { long = h; bytes = b } in
-    let t₁ = held-put (a + keyAt) (e .key) (held-put8 (a + keyLengthAt) (length (e .key)) t₀ (omega arith)) (bytes-are _ (s .keyBytes)) (omega (arith, s .key)) in
-    let t₂ = held-put8 (a + valueLengthAt) (length (e .value)) (held-put8 (a + deadlineAt) (e .deadline) (held-put8 a (e .version) t₁ (omega arith)) (omega arith)) (omega arith) in
-    let t₃ = held-put (a + valueAt) (e .value) t₂ (bytes-are _ (s .valueBytes)) (omega (arith, s .value)) in
+    let t₁ = held-put (a + keyStart) (e .key) (held-put8 (a + keyLengthStart) (length (e .key)) t₀ (omega arith)) (bytes-are _ (s .keyBytes)) (omega (arith, s .key)) in
+    let t₂ = held-put8 (a + valueLengthStart) (length (e .value)) (held-put8 (a + deadlineStart) (e .deadline) (held-put8 a (e .version) t₁ (omega arith)) (omega arith)) (omega arith) in
+    let t₃ = held-put (a + valueStart) (e .value) t₂ (bytes-are _ (s .valueBytes)) (omega (arith, s .value)) in
     held-put8 (numberAt countIndex) (countOf t + 1) t₃ (omega arith) .bytes
 
 order-bytes : Bytes (upto (λ (i : ℕ). i) mostKeys)
@@ -115,7 +115,7 @@ start =
       contains = subst (λ (x : ℕ). Contains (inOrder (zeros size)) [] x) (no-number lastIndex) (none-yet (zeros size) h (no-number countIndex));
     }
 
-grows : (t : List ℕ) (es : List Entry) (e : Entry) → Growing t es → Fitting e → length es < mostKeys
+grows : (t : List ℕ) (es : List Entry) (e : Entry) → Growing t es → Holdable e → length es < mostKeys
     → Growing (withEntry (e .key) (e .value) (e .version) (e .deadline) t) (es ++ (e ∷ []))
 unfolding entry
 grows t es e g k l =
@@ -130,8 +130,8 @@ grows t es e g k l =
           (one-more (e .key) (e .value) (e .version) (e .deadline) t (b .shape) n (s .key) (s .value) (k .version) (omega (arith, s .deadline))));
     }
 
-rows : (es : List Entry) (t : List ℕ) (fs : List Entry) → Growing t fs → Each Fitting es → length fs + length es ≤ mostKeys → Growing (withEntries t es) (fs ++ es)
-unfolding withEntries
+rows : (es : List Entry) (t : List ℕ) (fs : List Entry) → Growing t fs → Each Holdable es → length fs + length es ≤ mostKeys → Growing (withAll t es) (fs ++ es)
+unfolding withAll
 rows [] t fs g h l = rw append-nil g
 rows (e ∷ es) t fs g h l =
     rw (← append-snoc fs e es) (rows es _ (fs ++ (e ∷ [])) (grows t fs e g (h .0) (omega arith)) (h .1) (omega (arith, length-append fs (e ∷ []))))
@@ -145,7 +145,7 @@ pub record Formed (st : State) (t : List ℕ) : Type 0 where
 pub has-form : (st : State) → IsTable st → Ascending (st .entries) → Formed st (form st)
 unfolding form withNumber
 has-form st h a =
-    let r = rows (st .entries) (inOrder (zeros size)) [] start (fitting st h) (omega (arith, h .few)) in
+    let r = rows (st .entries) (inOrder (zeros size)) [] start (holdable st h) (omega (arith, h .few)) in
     let b = issue _ _ _ (st .last) (r .contains) (omega (arith, h .last)) in
     let e : stateOf (form st) ≡ st = state-of b in
     record {

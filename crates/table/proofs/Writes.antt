@@ -9,7 +9,7 @@ use Rattle.message.specs.Request.{keyLimit, valueLimit}
 use Rattle.map.specs.State.{Entry}
 use Rattle.map.specs.Step.{mostKeys}
 use Rattle.table.specs.Bytes.{be8, part, upto}
-use Rattle.table.specs.Memory.{headCount, countIndex, lastIndex, numberAt, rowWidth, deadlineAt, keyLengthAt, valueLengthAt, keyAt, valueAt, size, numberOf, placeOf, rowAt, entry, entryOf, countOf, entriesOf, Permutation}
+use Rattle.table.specs.Memory.{headCount, countIndex, lastIndex, numberAt, rowWidth, deadlineStart, keyLengthStart, valueLengthStart, keyStart, valueStart, size, numberOf, placeOf, rowAt, entry, entryOf, countOf, entriesOf, Permutation}
 use Rattle.table.specs.Write.{put, digits, withNumber, withKey, withValue, withEntry}
 use Rattle.table.proofs.Lists.{upto-ext}
 use Rattle.table.proofs.Parts.{part-put}
@@ -17,7 +17,7 @@ use Rattle.table.proofs.RowLaws.{length-digits, length-put8, be8-put, b
 use Rattle.table.proofs.Regions.{Kept, kept-put, kept-both, kept-wide, be8-kept, part-kept, number-kept, place-kept, row-in, row-from, permutation-same}
 
 abbrev pub Fit : List ℕ → ℕ → Type 0
-Fit t a = (be8 t (a + keyLengthAt) ≤ keyLimit) × (be8 t (a + valueLengthAt) ≤ valueLimit)
+Fit t a = (be8 t (a + keyLengthStart) ≤ keyLimit) × (be8 t (a + valueLengthStart) ≤ valueLimit)
 
 abbrev AllFit : List ℕ → Type 0
 AllFit t = (i : ℕ) → i < countOf t → Fit t (rowAt t i)
@@ -40,19 +40,19 @@ module _ (a : ℕ) (t : List ℕ) (fits : a + rowWidth ≤ length t) where
   pub key-written : (k : List ℕ) → length k ≤ keyLimit → Kept a (a + rowWidth) t (withKey a k t)
   unfolding withKey
   key-written k hk =
-      let t₁ = put t (a + keyLengthAt) (digits (length k)) in
-      let l₁ : length t₁ ≡ length t = length-put8 t (a + keyLengthAt) (length k) (omega arith) in
+      let t₁ = put t (a + keyLengthStart) (digits (length k)) in
+      let l₁ : length t₁ ≡ length t = length-put8 t (a + keyLengthStart) (length k) (omega arith) in
       kept-both
-      (kept-put _ _ t (a + keyLengthAt) (digits (length k)) (omega arith) (omega (arith, length-digits (length k))) fits)
-      (kept-put _ _ t₁ (a + keyAt) k (omega arith) (omega arith) (omega arith))
+      (kept-put _ _ t (a + keyLengthStart) (digits (length k)) (omega arith) (omega (arith, length-digits (length k))) fits)
+      (kept-put _ _ t₁ (a + keyStart) k (omega arith) (omega arith) (omega arith))
 
-  pub key-is : (k : List ℕ) → length k ≤ keyLimit → (be8 (withKey a k t) (a + keyLengthAt) ≡ length k) × (part (withKey a k t) (a + keyAt) (length k) ≡ k)
+  pub key-is : (k : List ℕ) → length k ≤ keyLimit → (be8 (withKey a k t) (a + keyLengthStart) ≡ length k) × (part (withKey a k t) (a + keyStart) (length k) ≡ k)
   unfolding withKey
   key-is k hk =
-      let t₁ = put t (a + keyLengthAt) (digits (length k)) in
-      let l₁ : length t₁ ≡ length t = length-put8 t (a + keyLengthAt) (length k) (omega arith) in (
-        be8-before t₁ (a + keyAt) k (a + keyLengthAt) (omega arith) (omega arith) ∙ be8-put t (a + keyLengthAt) (length k) (omega arith) (omega arith),
-        part-put t₁ (a + keyAt) k (omega arith),
+      let t₁ = put t (a + keyLengthStart) (digits (length k)) in
+      let l₁ : length t₁ ≡ length t = length-put8 t (a + keyLengthStart) (length k) (omega arith) in (
+        be8-before t₁ (a + keyStart) k (a + keyLengthStart) (omega arith) (omega arith) ∙ be8-put t (a + keyLengthStart) (length k) (omega arith) (omega arith),
+        part-put t₁ (a + keyStart) k (omega arith),
       )
 
   module _ (v : List ℕ) (n d : ℕ) (hv : length v ≤ valueLimit) where
@@ -60,32 +60,32 @@ module _ (a : ℕ) (t : List ℕ) (fits : a + rowWidth ≤ length t) where
     v₁ = put t a (digits n)
 
     abbrev v₂ : List ℕ
-    v₂ = put v₁ (a + deadlineAt) (digits d)
+    v₂ = put v₁ (a + deadlineStart) (digits d)
 
     abbrev v₃ : List ℕ
-    v₃ = put v₂ (a + valueLengthAt) (digits (length v))
+    v₃ = put v₂ (a + valueLengthStart) (digits (length v))
 
     l₁ : length v₁ ≡ length t
     l₁ = length-put8 t a n (omega arith)
 
     l₂ : length v₂ ≡ length t
-    l₂ = length-put8 v₁ (a + deadlineAt) d (omega (arith, l₁)) ∙ l₁
+    l₂ = length-put8 v₁ (a + deadlineStart) d (omega (arith, l₁)) ∙ l₁
 
     l₃ : length v₃ ≡ length t
-    l₃ = length-put8 v₂ (a + valueLengthAt) (length v) (omega (arith, l₂)) ∙ l₂
+    l₃ = length-put8 v₂ (a + valueLengthStart) (length v) (omega (arith, l₂)) ∙ l₂
 
-    numbers-kept : Kept a (a + keyLengthAt) t v₂
+    numbers-kept : Kept a (a + keyLengthStart) t v₂
     numbers-kept =
         kept-both
         (kept-put _ _ t a (digits n) (omega arith) (omega (arith, length-digits n)) (omega arith))
-        (kept-put _ _ v₁ (a + deadlineAt) (digits d) (omega arith) (omega (arith, length-digits d)) (omega (arith, l₁)))
+        (kept-put _ _ v₁ (a + deadlineStart) (digits d) (omega arith) (omega (arith, length-digits d)) (omega (arith, l₁)))
 
-    length-kept : Kept (a + valueLengthAt) (a + keyAt) v₂ v₃
-    length-kept = kept-put _ _ v₂ (a + valueLengthAt) (digits (length v)) (omega arith) (omega (arith, length-digits (length v))) (omega (arith, l₂))
+    length-kept : Kept (a + valueLengthStart) (a + keyStart) v₂ v₃
+    length-kept = kept-put _ _ v₂ (a + valueLengthStart) (digits (length v)) (omega arith) (omega (arith, length-digits (length v))) (omega (arith, l₂))
 
-    bytes-kept : Kept (a + valueAt) (a + rowWidth) v₃ (withValue a v n d t)
+    bytes-kept : Kept (a + valueStart) (a + rowWidth) v₃ (withValue a v n d t)
     unfolding withValue
-    bytes-kept = kept-put _ _ v₃ (a + valueAt) v (omega arith) (omega arith) (omega (arith, l₃))
+    bytes-kept = kept-put _ _ v₃ (a + valueStart) v (omega arith) (omega arith) (omega (arith, l₃))
 
     pub value-written : Kept a (a + rowWidth) t (withValue a v n d t)
     value-written =
@@ -93,38 +93,38 @@ module _ (a : ℕ) (t : List ℕ) (fits : a + rowWidth ≤ length t) where
         (kept-both (kept-wide (omega arith) (omega arith) length-kept) (kept-wide (omega arith) (omega arith) bytes-kept))
 
     -- the key stays
-    pub key-stays : be8 (withValue a v n d t) (a + keyLengthAt) ≡ be8 t (a + keyLengthAt)
+    pub key-stays : be8 (withValue a v n d t) (a + keyLengthStart) ≡ be8 t (a + keyLengthStart)
     key-stays =
-        be8-kept bytes-kept (a + keyLengthAt) (inl (omega arith))
-        ∙ be8-kept length-kept (a + keyLengthAt) (inl (omega arith))
-        ∙ be8-kept numbers-kept (a + keyLengthAt) (inr (omega arith))
+        be8-kept bytes-kept (a + keyLengthStart) (inl (omega arith))
+        ∙ be8-kept length-kept (a + keyLengthStart) (inl (omega arith))
+        ∙ be8-kept numbers-kept (a + keyLengthStart) (inr (omega arith))
 
-    key-bytes : (m : ℕ) → m ≤ keyLimit → part (withValue a v n d t) (a + keyAt) m ≡ part t (a + keyAt) m
+    key-bytes : (m : ℕ) → m ≤ keyLimit → part (withValue a v n d t) (a + keyStart) m ≡ part t (a + keyStart) m
     key-bytes m q =
-        part-kept bytes-kept (a + keyAt) m (omega (arith, l₃)) (inl (omega arith))
-        ∙ part-kept length-kept (a + keyAt) m (omega (arith, l₂)) (inr (omega arith))
-        ∙ part-kept numbers-kept (a + keyAt) m (omega arith) (inr (omega arith))
+        part-kept bytes-kept (a + keyStart) m (omega (arith, l₃)) (inl (omega arith))
+        ∙ part-kept length-kept (a + keyStart) m (omega (arith, l₂)) (inr (omega arith))
+        ∙ part-kept numbers-kept (a + keyStart) m (omega arith) (inr (omega arith))
 
-    pub value-length : be8 (withValue a v n d t) (a + valueLengthAt) ≡ length v
+    pub value-length : be8 (withValue a v n d t) (a + valueLengthStart) ≡ length v
     value-length =
-        be8-kept bytes-kept (a + valueLengthAt) (inl (omega arith)) ∙ be8-put v₂ (a + valueLengthAt) (length v) (omega (arith, l₂)) (omega arith)
+        be8-kept bytes-kept (a + valueLengthStart) (inl (omega arith)) ∙ be8-put v₂ (a + valueLengthStart) (length v) (omega (arith, l₂)) (omega arith)
 
-    value-bytes : part (withValue a v n d t) (a + valueAt) (length v) ≡ v
+    value-bytes : part (withValue a v n d t) (a + valueStart) (length v) ≡ v
     unfolding withValue
-    value-bytes = part-put v₃ (a + valueAt) v (omega (arith, l₃))
+    value-bytes = part-put v₃ (a + valueStart) v (omega (arith, l₃))
 
     version-is : n < 2 ^ 64 → be8 (withValue a v n d t) a ≡ n
     version-is q =
         be8-kept bytes-kept a (inl (omega arith))
         ∙ be8-kept length-kept a (inl (omega arith))
-        ∙ be8-before v₁ (a + deadlineAt) (digits d) a (omega (arith, l₁, length-digits d)) (omega arith) ∙ be8-put t a n (omega arith) q
+        ∙ be8-before v₁ (a + deadlineStart) (digits d) a (omega (arith, l₁, length-digits d)) (omega arith) ∙ be8-put t a n (omega arith) q
 
-    deadline-is : d < 2 ^ 64 → be8 (withValue a v n d t) (a + deadlineAt) ≡ d
+    deadline-is : d < 2 ^ 64 → be8 (withValue a v n d t) (a + deadlineStart) ≡ d
     deadline-is q =
-        be8-kept bytes-kept (a + deadlineAt) (inl (omega arith))
-        ∙ be8-kept length-kept (a + deadlineAt) (inl (omega arith)) ∙ be8-put v₁ (a + deadlineAt) d (omega (arith, l₁)) q
+        be8-kept bytes-kept (a + deadlineStart) (inl (omega arith))
+        ∙ be8-kept length-kept (a + deadlineStart) (inl (omega arith)) ∙ be8-put v₁ (a + deadlineStart) d (omega (arith, l₁)) q
 
-    key-of : entryOf t a .key ≡ part t (a + keyAt) (min (be8 t (a + keyLengthAt)) keyLimit)
+    key-of : entryOf t a .key ≡ part t (a + keyStart) (min (be8 t (a + keyLengthStart)) keyLimit)
     unfolding entryOf entry
     key-of = refl
 
@@ -132,9 +132,9 @@ module _ (a : ℕ) (t : List ℕ) (fits : a + rowWidth ≤ length t) where
     pub entry-written : n < 2 ^ 64 → d < 2 ^ 64 → entryOf (withValue a v n d t) a ≡ entry (entryOf t a .key) v n d
     unfolding entryOf
     entry-written p q =
-        let m : ℕ = min (be8 t (a + keyLengthAt)) 64 in
+        let m : ℕ = min (be8 t (a + keyLengthStart)) 64 in
         let k : m ≤ 64 = omega arith in
-        let w : min (be8 (withValue a v n d t) (a + valueLengthAt)) 256 ≡ length v = omega (arith, value-length) in
+        let w : min (be8 (withValue a v n d t) (a + valueLengthStart)) 256 ≡ length v = omega (arith, value-length) in
         cc (key-of, key-stays, key-bytes m k, value-bytes, version-is p, deadline-is q)
 
   -- the key of the row then
@@ -142,7 +142,7 @@ module _ (a : ℕ) (t : List ℕ) (fits : a + rowWidth ≤ length t) where
   unfolding entryOf entry
   entry-key k hk =
       let e = key-is k hk in
-      let m : min (be8 (withKey a k t) (a + keyLengthAt)) 64 ≡ length k = omega (arith, e .0) in
+      let m : min (be8 (withKey a k t) (a + keyLengthStart)) 64 ≡ length k = omega (arith, e .0) in
       rw m (e .1)
 
 -- an entry more keeps the length

@@ -5,7 +5,7 @@ use Prim.Native.Nat.{ℕ, _+_, _≤_, _<_}
 use Rattle.message.specs.Request.{keyLimit, valueLimit}
 use Rattle.map.specs.Table.{lastDeadline}
 use Rattle.table.specs.Bytes.{be8}
-use Rattle.table.specs.Memory.{deadlineAt, keyLengthAt, valueLengthAt, rowAt, entryOf, countOf}
+use Rattle.table.specs.Memory.{deadlineStart, keyLengthStart, valueLengthStart, rowAt, entryOf, countOf}
 use Rattle.table.specs.declared.Found.{Found}
 use Rattle.table.specs.declared.Found.the-variants.{At, Absent}
 
@@ -24,9 +24,9 @@ Differ t = (i : ℕ) → i < countOf t → FoundFrom t (entryOf t (rowAt t i) .k
 
 -- the lengths and the deadline of the row at a are within their limits
 pub record Within (t : List ℕ) (a : ℕ) : Type 0 where
-  pub key : be8 t (a + keyLengthAt) ≤ keyLimit
-  pub value : be8 t (a + valueLengthAt) ≤ valueLimit
-  pub deadline : be8 t (a + deadlineAt) ≤ lastDeadline
+  pub key : be8 t (a + keyLengthStart) ≤ keyLimit
+  pub value : be8 t (a + valueLengthStart) ≤ valueLimit
+  pub deadline : be8 t (a + deadlineStart) ≤ lastDeadline
 
 abbrev pub AllWithin : List ℕ → Type 0
 AllWithin t = (i : ℕ) → i < countOf t → Within t (rowAt t i)

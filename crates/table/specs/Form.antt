@@ -9,9 +9,9 @@ use Rattle.table.specs.Write.{withNumber, inOrder, withEntry}
 unfoldable pub zeros : ℕ → List ℕ
 zeros n = upto (λ i. 0) n
 
-unfoldable pub withEntries : List ℕ → List Entry → List ℕ
-withEntries t [] = t
-withEntries t (e ∷ es) = withEntries (withEntry (e .key) (e .value) (e .version) (e .deadline) t) es
+unfoldable pub withAll : List ℕ → List Entry → List ℕ
+withAll t [] = t
+withAll t (e ∷ es) = withAll (withEntry (e .key) (e .value) (e .version) (e .deadline) t) es
 
 unfoldable pub form : State → List ℕ
-form st = withNumber lastIndex (st .last) (withEntries (inOrder (zeros size)) (st .entries))
+form st = withNumber lastIndex (st .last) (withAll (inOrder (zeros size)) (st .entries))

@@ -34,24 +34,24 @@ placesAt = numberAt headCount
 abbrev pub rowsAt : ℕ
 rowsAt = placesAt + mostKeys
 
--- where the fields of a row stand, behind its version, and its length
-abbrev pub deadlineAt : ℕ
-deadlineAt = 8
+-- where the fields of a row begin, behind its version, and how long it is
+abbrev pub deadlineStart : ℕ
+deadlineStart = 8
 
-abbrev pub keyLengthAt : ℕ
-keyLengthAt = 16
+abbrev pub keyLengthStart : ℕ
+keyLengthStart = 16
 
-abbrev pub valueLengthAt : ℕ
-valueLengthAt = 24
+abbrev pub valueLengthStart : ℕ
+valueLengthStart = 24
 
-abbrev pub keyAt : ℕ
-keyAt = 32
+abbrev pub keyStart : ℕ
+keyStart = 32
 
-abbrev pub valueAt : ℕ
-valueAt = keyAt + keyLimit
+abbrev pub valueStart : ℕ
+valueStart = keyStart + keyLimit
 
 abbrev pub rowWidth : ℕ
-rowWidth = valueAt + valueLimit
+rowWidth = valueStart + valueLimit
 
 -- the length of the memory
 abbrev pub size : ℕ
@@ -73,8 +73,8 @@ entry k v n d = record { key = k; value = v; version = n; deadline = d }
 -- the entry of the row at a, of any bytes: a length past its limit counts as the limit
 unfoldable pub entryOf : List ℕ → ℕ → Entry
 entryOf t a =
-    entry (part t (a + keyAt) (min (be8 t (a + keyLengthAt)) keyLimit)) (part t (a + valueAt) (min (be8 t (a + valueLengthAt)) valueLimit)) (be8 t a)
-    (be8 t (a + deadlineAt))
+    entry (part t (a + keyStart) (min (be8 t (a + keyLengthStart)) keyLimit)) (part t (a + valueStart) (min (be8 t (a + valueLengthStart)) valueLimit)) (be8 t a)
+    (be8 t (a + deadlineStart))
 
 -- the number of entries, of any bytes: a count past its limit counts as the limit
 unfoldable pub countOf : List ℕ → ℕ
@@ -98,7 +98,7 @@ pub record Form (t : List ℕ) : Type 0 where
   pub long : length t ≡ size
   pub counted : numberOf t countIndex ≤ mostKeys
   pub places : Permutation t
-  pub lengths : (i : ℕ) → i < countOf t → (be8 t (rowAt t i + keyLengthAt) ≤ keyLimit) × (be8 t (rowAt t i + valueLengthAt) ≤ valueLimit)
+  pub lengths : (i : ℕ) → i < countOf t → (be8 t (rowAt t i + keyLengthStart) ≤ keyLimit) × (be8 t (rowAt t i + valueLengthStart) ≤ valueLimit)
   pub order : Ascending (stateOf t .entries)
 
 -- "Sound means not refused 13."

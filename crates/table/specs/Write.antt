@@ -4,7 +4,7 @@ use Prim.Native.Nat.{ℕ, _+_, _-_, _/_, _%_}
 use lib.ListN.{length, take, drop}
 use Rattle.map.specs.Step.{mostKeys}
 use Rattle.table.specs.Bytes.{part, upto}
-use Rattle.table.specs.Memory.{countIndex, numberAt, placesAt, deadlineAt, keyLengthAt, valueLengthAt, keyAt, valueAt, placeOf, rowAt, countOf}
+use Rattle.table.specs.Memory.{countIndex, numberAt, placesAt, deadlineStart, keyLengthStart, valueLengthStart, keyStart, valueStart, placeOf, rowAt, countOf}
 
 -- xs with vs laid over it from index a on
 unfoldable pub put : List ℕ → ℕ → List ℕ → List ℕ
@@ -29,11 +29,11 @@ inOrder t = put t placesAt (upto (λ i. i) mostKeys)
 
 -- the row at a has another key; and another version, deadline and value
 unfoldable pub withKey : ℕ → List ℕ → List ℕ → List ℕ
-withKey a k t = put (put t (a + keyLengthAt) (digits (length k))) (a + keyAt) k
+withKey a k t = put (put t (a + keyLengthStart) (digits (length k))) (a + keyStart) k
 
 unfoldable pub withValue : ℕ → List ℕ → ℕ → ℕ → List ℕ → List ℕ
 withValue a v n d t =
-    put (put (put (put t a (digits n)) (a + deadlineAt) (digits d)) (a + valueLengthAt) (digits (length v))) (a + valueAt) v
+    put (put (put (put t a (digits n)) (a + deadlineStart) (digits d)) (a + valueLengthStart) (digits (length v))) (a + valueStart) v
 
 -- an entry more, in the first row that is free
 unfoldable pub withEntry : List ℕ → List ℕ → ℕ → ℕ → List ℕ → List ℕ

@@ -8,21 +8,21 @@ use borrow.Author.Tests.{eq-eqb}
 use borrow.Author.Needs.{needs}
 use Rattle.message.specs.Request.{keyLimit}
 use Rattle.table.specs.Bytes.{be8}
-use Rattle.table.specs.Memory.{entry, entryOf, rowWidth, keyLengthAt, keyAt}
+use Rattle.table.specs.Memory.{entry, entryOf, rowWidth, keyLengthStart, keyStart}
 use Rattle.table.proofs.Parts.{length-part, getD-part}
 use Rattle.table.proofs.rows.ends_alike.Statement.{statement}
 use Rattle.table.proofs.rows.ends_alike.Tie as tie
 
 -- a key of a row has 64 bytes at most, and they are the row's
 module _ (t k : List ℕ) (a : ℕ) (h : a + rowWidth ≤ length t) (e : entryOf t a .key ≡ k) where
-  sized : length k ≡ min (be8 t (a + keyLengthAt)) keyLimit
+  sized : length k ≡ min (be8 t (a + keyLengthStart)) keyLimit
   unfolding entryOf entry
-  sized = sym (ap length e) ∙ length-part t (a + keyAt) (min (be8 t (a + keyLengthAt)) keyLimit) (omega arith)
+  sized = sym (ap length e) ∙ length-part t (a + keyStart) (min (be8 t (a + keyLengthStart)) keyLimit) (omega arith)
 
-  ends : (n : ℕ) → n < length k → getD t (a + keyAt + n) 0 ≡ getD k n 0
+  ends : (n : ℕ) → n < length k → getD t (a + keyStart + n) 0 ≡ getD k n 0
   unfolding entryOf entry
   ends n l =
-      sym (getD-part t (a + keyAt) (min (be8 t (a + keyLengthAt)) keyLimit) n (omega (arith, sized)))
+      sym (getD-part t (a + keyStart) (min (be8 t (a + keyLengthStart)) keyLimit) n (omega (arith, sized)))
       ∙ ap (λ (xs : List ℕ). getD xs n 0) e
 
 returns-2 : tie.Need-returns-2

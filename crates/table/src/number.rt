@@ -11,7 +11,7 @@ fn wide(x: u8) -> u64
     x as u64
 }
 
-// The number at index a, by two halves: so it is compiled to one load.
+// The number at index a.
 pub(crate) fn get64(t: &[u8], a: usize) -> u64
     requires { ⌜ a + 8 ≤ length (now t) ⌝ }
     ensures { λ r. ⌜ r ≡ be8 (now (t .entry)) a ⌝ }
@@ -24,9 +24,7 @@ pub(crate) fn get64(t: &[u8], a: usize) -> u64
     let b5 = wide(t[a + 5]);
     let b6 = wide(t[a + 6]);
     let b7 = wide(t[a + 7]);
-    let high = ((b0 * 256 + b1) * 256 + b2) * 256 + b3;
-    let low = ((b4 * 256 + b5) * 256 + b6) * 256 + b7;
-    high * 4294967296 + low
+    ((((((b0 * 256 + b1) * 256 + b2) * 256 + b3) * 256 + b4) * 256 + b5) * 256 + b6) * 256 + b7
 }
 
 // The byte at index i; 0 behind the end.
@@ -54,21 +52,19 @@ pub(crate) fn front(t: &[u8]) -> u64
     ((((((b0 * 256 + b1) * 256 + b2) * 256 + b3) * 256 + b4) * 256 + b5) * 256 + b6) * 256 + b7
 }
 
-// Writes x at index a, by two halves: so it is compiled to one store.
+// Writes x at index a.
 pub(crate) fn put64(t: &mut [u8], a: usize, x: u64)
     requires { ⌜ a + 8 ≤ length (now t) ⌝ }
     ensures { λ _. ⌜ now (t .exit) ≡ put (now (t .entry)) a (digits x) ⌝ }
 {
-    let high = x / 4294967296;
-    let low = x % 4294967296;
-    t[a] = (high / 16777216 % 256) as u8;
-    t[a + 1] = (high / 65536 % 256) as u8;
-    t[a + 2] = (high / 256 % 256) as u8;
-    t[a + 3] = (high % 256) as u8;
-    t[a + 4] = (low / 16777216 % 256) as u8;
-    t[a + 5] = (low / 65536 % 256) as u8;
-    t[a + 6] = (low / 256 % 256) as u8;
-    t[a + 7] = (low % 256) as u8;
+    t[a] = (x / 72057594037927936 % 256) as u8;
+    t[a + 1] = (x / 281474976710656 % 256) as u8;
+    t[a + 2] = (x / 1099511627776 % 256) as u8;
+    t[a + 3] = (x / 4294967296 % 256) as u8;
+    t[a + 4] = (x / 16777216 % 256) as u8;
+    t[a + 5] = (x / 65536 % 256) as u8;
+    t[a + 6] = (x / 256 % 256) as u8;
+    t[a + 7] = (x % 256) as u8;
 }
 
 // The number at index a, or `most` if it is above that.

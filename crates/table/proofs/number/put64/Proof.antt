@@ -1,6 +1,6 @@
 -- `table::number::put64` meets its contract. Assumes nothing.
 use mathlib.Core.Path.{_≡_}
-use Prim.Native.Nat.{suc, _+_, _/_, _%_}
+use Prim.Native.Nat.{suc, _+_}
 use native.Mathlib.Omega.{arith}
 use lib.ListN.{length-set}
 use lib.Seq.{sets-eq}
@@ -36,14 +36,6 @@ returns : tie.Need-returns
 unfolding put digits
 returns c =
     let a = c .args .a in
-    let x = c .args .x in
-    let d₀ : x / 4294967296 / 16777216 % 256 ≡ x / 72057594037927936 % 256 = omega arith in
-    let d₁ : x / 4294967296 / 65536 % 256 ≡ x / 281474976710656 % 256 = omega arith in
-    let d₂ : x / 4294967296 / 256 % 256 ≡ x / 1099511627776 % 256 = omega arith in
-    let d₄ : x % 4294967296 / 16777216 % 256 ≡ x / 16777216 % 256 = omega arith in
-    let d₅ : x % 4294967296 / 65536 % 256 ≡ x / 65536 % 256 = omega arith in
-    let d₆ : x % 4294967296 / 256 % 256 ≡ x / 256 % 256 = omega arith in
-    let d₇ : x % 4294967296 % 256 ≡ x % 256 = omega arith in
     let e₁ : suc a ≡ a + 1 = omega arith in
     let e₂ : suc (suc a) ≡ a + 2 = omega arith in
     let e₃ : suc (suc (suc a)) ≡ a + 3 = omega arith in
@@ -51,7 +43,7 @@ returns c =
     let e₅ : suc (suc (suc (suc (suc a)))) ≡ a + 5 = omega arith in
     let e₆ : suc (suc (suc (suc (suc (suc a))))) ≡ a + 6 = omega arith in
     let e₇ : suc (suc (suc (suc (suc (suc (suc a)))))) ≡ a + 7 = omega arith in
-    cc (sets-eq (digits x) (c .args .t .now) a (omega arith))
+    cc (sets-eq (digits (c .args .x)) (c .args .t .now) a (omega arith))
 
 pub put64-spec : {M : Type 1} → statement M
 put64-spec =

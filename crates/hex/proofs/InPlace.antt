@@ -3,20 +3,53 @@ use mathlib.Core.Path.{_≡_, refl, sym, ap, _∙_}
 use mathlib.Core.List.{List, [], _∷_, _++_}
 use Prim.Native.Nat.{ℕ, zero, suc, _+_, _-_, _*_, _/_, _%_, _≤_, _<_, min}
 use native.Mathlib.Nat.{add-zero}
-use native.Mathlib.Numerals.{add-one}
 use native.Mathlib.Decide.{decLt}
 use native.Mathlib.Omega.{arith}
-use lib.ListN.{length, getD, drop, set, length-append, length-set, length-take, length-drop, drop-of-length-le}
-use lib.Seq.{sets, length-sets, drop-cons, getD-set-other, getD-take, getD-drop}
+use lib.ListN.{length, take, drop, set, length-append, length-take, length-drop, drop-of-length-le, take-append-drop}
+use lib.Seq.{sets, length-sets, length-take-le, drop-drop, drop-set-add, take-set-le, take-take, take-all, take-at}
 use Rattle.wire.specs.Write.{laid}
 use Rattle.wire.proofs.WriteLaws.{sets-append, sets-after, sets-over, sets-part, laid-short, laid-done, laid-none}
 use Rattle.hex.specs.Hex.{digitOf, toHex, line}
 use Rattle.hex.specs.Coding.{part}
 use Rattle.hex.proofs.HexLaws.{length-none, hex-length, line-length}
 
-getD-before : (vs l : List ℕ) (i j : ℕ) → j < i → getD (sets l i vs) j 0 ≡ getD l j 0
-getD-before [] l i j h = refl
-getD-before (x ∷ vs) l i j h = getD-before vs (set l i x) (suc i) j (omega arith) ∙ getD-set-other l i j x 0 (λ e. omega arith)
+-- writes at other places: the order does not matter, and bytes before them stand
+sets-swap : (a b l : List ℕ) (i k : ℕ) → i + length a ≤ k → sets (sets l k b) i a ≡ sets (sets l i a) k b
+sets-swap [] b l i k h = refl
+sets-swap (x ∷ a) b l i k h =
+    ap (λ (m : List ℕ). sets m (suc i) a) (sets-after b l k i x (omega arith)) ∙ sets-swap a b (set l i x) (suc i) k (omega arith)
+
+part-set : (l : List ℕ) (k x a m : ℕ) → a + m ≤ k → part (set l k x) a m ≡ part l a m
+part-set l k x a m h =
+    let e : k ≡ a + (k - a) = omega arith in
+    ap (λ (z : ℕ). take m (drop a (set l z x))) e ∙ ap (take m) (drop-set-add a l (k - a) x) ∙ take-set-le m (drop a l) (k - a) x (omega arith)
+
+part-before : (b l : List ℕ) (k a m : ℕ) → a + m ≤ k → part (sets l k b) a m ≡ part l a m
+part-before [] l k a m h = refl
+part-before (x ∷ b) l k a m h = part-before b (set l k x) (suc k) a m (omega arith) ∙ part-set l k x a m h
+
+part-part : (l : List ℕ) (j m n : ℕ) → j + m ≤ n → take m (drop j (take n l)) ≡ take m (drop j l)
+part-part l zero m n h = take-take m n l (omega arith)
+part-part l (suc j) m zero h = absurd (omega arith)
+part-part [] (suc j) m (suc n) h = refl
+part-part (x ∷ l) (suc j) m (suc n) h = part-part l j m n (omega arith)
+
+-- the front of a copy of m bytes
+pub copied : (l z : List ℕ) (from m : ℕ) → from + m ≤ length l → {some : List ℕ}
+    → some ≡ take (length (take (from + m - from) (drop from l))) (take (from + m - from) (drop from l)) ++ drop (length (take (from + m - from) (drop from l))) z
+    → (take m some ≡ part l from m) × (m ≡ length (take m some))
+copied l z from m h {some} e =
+    let k : from + m - from ≡ m = omega arith in
+    let n : length (part l from m) ≡ m = length-take-le m (drop from l) (omega (arith, length-drop from l)) in
+    let x : take m (part l from m) ≡ part l from m = take-all m (part l from m) (omega arith) in
+    let f : some ≡ part l from m ++ drop m z = e ∙ rw (k, n, x) in
+    let y : take m some ≡ part l from m = ap (take m) f ∙ take-at (part l from m) (drop m z) m n in
+    (y, sym (ap length y ∙ n))
+
+hex-append : (a b : List ℕ) → toHex (a ++ b) ≡ toHex a ++ toHex b
+unfolding toHex
+hex-append [] b = refl
+hex-append (x ∷ a) b = ap (λ (t : List ℕ). digitOf (x / 16) ∷ digitOf (x % 16) ∷ t) (hex-append a b)
 
 -- the digits of the bytes from i on are written, and those before i stand
 pub record Spread (old : List ℕ) (at n : ℕ) (new : List ℕ) (i : ℕ) : Type 0 where
@@ -46,9 +79,6 @@ module _ (old : List ℕ) (at n : ℕ) where
     part-length : length (part old at n) ≡ n
     part-length = omega (arith, some-length)
 
-    part-at : (i : ℕ) → i < n → getD (part old at n) i 0 ≡ getD old (at + i) 0
-    part-at i h = rw (getD-take, getD-drop)
-
     pub spread-begin : Spread old at n old n
     unfolding toHex
     spread-begin =
@@ -56,37 +86,29 @@ module _ (old : List ℕ) (at n : ℕ) where
         record { list = rw e; long = refl; within = omega arith }
 
     module _ (new : List ℕ) where
-      -- the byte that comes next is the one that stood there
-      byte-at : (i : ℕ) → Spread old at n new (suc i) → getD new (at + i) 0 ≡ getD (part old at n) i 0
-      byte-at i g =
-          ap (λ (l : List ℕ). getD l (at + i) 0) (g .list)
-          ∙ getD-before (toHex (drop (suc i) (part old at n))) old (at + 2 * suc i) (at + i) (omega arith)
-          ∙ sym (part-at i (g .within))
-
-      spread-suc : (i : ℕ) → Spread old at n new (suc i)
-          → Spread old at n (set (set new (at + 2 * i) (digitOf (getD new (at + i) 0 / 16))) (at + 2 * i + 1) (digitOf (getD new (at + i) 0 % 16))) i
-      unfolding toHex
-      spread-suc i g =
-          let b = getD (part old at n) i 0 in
-          let h = digitOf (b / 16) in
-          let l = digitOf (b % 16) in
-          let t = toHex (drop (suc i) (part old at n)) in
-          let k : at + 2 * suc i ≡ suc (suc (at + 2 * i)) = omega arith in
-          let p : new ≡ sets old (suc (suc (at + 2 * i))) t = g .list ∙ rw k in
-          let q : set (set new (at + 2 * i) h) (suc (at + 2 * i)) l ≡ sets (set (set old (at + 2 * i) h) (suc (at + 2 * i)) l) (suc (suc (at + 2 * i))) t =
-          ap (λ (m : List ℕ). set (set m (at + 2 * i) h) (suc (at + 2 * i)) l) p
-          ∙ ap (λ (m : List ℕ). set m (suc (at + 2 * i)) l) (sets-after t old (suc (suc (at + 2 * i))) (at + 2 * i) h (omega arith))
-          ∙ sets-after t (set old (at + 2 * i) h) (suc (suc (at + 2 * i))) (suc (at + 2 * i)) l (omega arith) in
+      -- the bytes that come next are those that stood there, and their digits stand before the digits written
+      pub spread-on : (i m : ℕ) → m ≤ i → Spread old at n new i → Spread old at n (sets new (at + 2 * (i - m)) (toHex (part new (at + (i - m)) m))) (i - m)
+      spread-on i m h g =
+          let j = i - m in
+          let p = part old at n in
+          let t = toHex (drop i p) in
+          let w = g .within in
+          let c = toHex (take m (drop j p)) in
+          let b : part new (at + j) m ≡ take m (drop j p) =
+          ap (λ (l : List ℕ). part l (at + j) m) (g .list) ∙ part-before t old (at + 2 * i) (at + j) m (omega arith)
+          ∙ ap (take m) (sym (drop-drop j at old)) ∙ sym (part-part (drop at old) j m n (omega arith)) in
+          let q : j + m ≡ i = omega arith in
+          let e : drop m (drop j p) ≡ drop i p = drop-drop m j p ∙ ap (λ (k : ℕ). drop k p) q in
+          let d : toHex (drop j p) ≡ c ++ t = ap toHex (sym (take-append-drop m (drop j p))) ∙ hex-append (take m (drop j p)) (drop m (drop j p)) ∙ ap (λ (x : List ℕ). c ++ toHex x) e in
+          let l : length c ≡ 2 * m = hex-length (take m (drop j p)) ∙ ap (λ (k : ℕ). 2 * k) (length-take-le m (drop j p) (omega (arith, length-drop j p, part-length))) in
+          let k : at + 2 * i ≡ at + 2 * j + length c = omega arith in
           record {
-            list = rw (byte-at i g, add-one, drop-cons (part old at n) i 0 (omega (arith, part-length, g .within))) q;
-            long = simp length-set (g .long);
-            within = omega (arith, g .within);
+            list = ap (λ (x : List ℕ). sets new (at + 2 * j) (toHex x)) b ∙ ap (λ (x : List ℕ). sets x (at + 2 * j) c) (g .list)
+                ∙ sets-swap c t old (at + 2 * j) (at + 2 * i) (omega arith) ∙ ap (λ (x : ℕ). sets (sets old (at + 2 * j) c) x t) k
+                ∙ sym (sets-append old (at + 2 * j) c t) ∙ ap (sets old (at + 2 * j)) (sym d);
+            long = length-sets new (at + 2 * j) (toHex (part new (at + j) m)) ∙ g .long;
+            within = omega arith;
           }
-
-      pub spread-on : (i : ℕ) → 0 < i → Spread old at n new i
-          → Spread old at n (set (set new (at + 2 * (i - 1)) (digitOf (getD new (at + (i - 1)) 0 / 16))) (at + 2 * (i - 1) + 1) (digitOf (getD new (at + (i - 1)) 0 % 16))) (i - 1)
-      spread-on zero h g = absurd (omega arith)
-      spread-on (suc i) h g = let e : suc i - 1 ≡ i = omega arith in rw e (spread-suc i g)
 
       pub spread-end : (i : ℕ) → i ≡ 0 → Spread old at n new i → (at + 2 * n, new) ≡ laid (toHex (part old at n)) at old
       spread-end i z g =

@@ -8,7 +8,7 @@ use native.Mathlib.Omega.{arith}
 use lib.ListN.{length, getD}
 use Rattle.wire.proofs.Laws.{never, both}
 use Rattle.wire.proofs.Basics.{if-none}
-use Rattle.hex.specs.Hex.{isDigit, digitValue, onto, fromHex}
+use Rattle.hex.specs.Hex.{digitOf, isDigit, digitValue, toHex, onto, fromHex}
 use Rattle.hex.specs.Number.{areDigits}
 use Rattle.hex.proofs.HexLaws.{onto-digits}
 
@@ -36,6 +36,18 @@ pairs-at [] i h = absurd (omega arith)
 pairs-at (a ∷ []) i h = absurd (omega arith)
 pairs-at (a ∷ (b ∷ s)) zero h = refl
 pairs-at (a ∷ (b ∷ s)) (suc i) h = rw (twice-one i, twice i) (pairs-at s i (omega arith))
+
+pub hex-high : (s : List ℕ) (i : ℕ) → i < length s → getD (toHex s) (2 * i) 0 ≡ digitOf (getD s i 0 / 16)
+unfolding toHex
+hex-high [] i h = absurd (omega arith)
+hex-high (b ∷ s) zero h = refl
+hex-high (b ∷ s) (suc i) h = rw (twice i) (hex-high s i (omega arith))
+
+pub hex-low : (s : List ℕ) (i : ℕ) → i < length s → getD (toHex s) (2 * i + 1) 0 ≡ digitOf (getD s i 0 % 16)
+unfolding toHex
+hex-low [] i h = absurd (omega arith)
+hex-low (b ∷ s) zero h = refl
+hex-low (b ∷ s) (suc i) h = rw (twice-one i) (hex-low s i (omega arith))
 
 -- where all are digits, each is one
 pub digit-at : (s : List ℕ) (i : ℕ) → areDigits s ≡ true → i < length s → isDigit (getD s i 0) ≡ true

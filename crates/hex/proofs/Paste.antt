@@ -1,16 +1,18 @@
--- Bytes written one after another at a place, and the answers of `decode`. Assumes nothing.
-use mathlib.Core.Path.{_≡_, refl, _∙_}
+-- Bytes written one after another at a place, the answers of `decode`, and the loop of `encode`. Assumes nothing.
+use mathlib.Core.Path.{_≡_, refl, sym, _∙_}
 use mathlib.Core.List.{List, _++_}
 use mathlib.Core.Option.{none, some}
-use Prim.Native.Nat.{ℕ, suc, _+_, _≤_, _<_}
+use Prim.Native.Nat.{ℕ, suc, _+_, _*_, _/_, _%_, _≤_, _<_}
 use native.Mathlib.Nat.{zero-add}
 use native.Mathlib.Omega.{arith}
 use lib.ListN.{length, getD, take, drop, set, length-set}
-use lib.Seq.{paste, paste-zero, paste-suc, take-length}
+use lib.Seq.{sets, sets-eq, paste, paste-zero, paste-suc, take-length}
 use borrow.Author.Tests.{le-leb, lt-leb}
-use Rattle.hex.specs.Hex.{fromHex}
+use Rattle.hex.specs.Hex.{digitOf, toHex, fromHex}
 use Rattle.hex.specs.Coding.{decoded}
 use Rattle.hex.specs.declared.Decoded.the-variants.{Bytes, Bad, Short}
+use Rattle.hex.proofs.HexLaws.{hex-length}
+use Rattle.hex.proofs.Pairs.{hex-high, hex-low}
 
 -- the first n of bs stand in the list at `at`, and nothing else was changed
 pub record Pasted (bs old : List ℕ) (at : ℕ) (new : List ℕ) (n : ℕ) : Type 0 where
@@ -48,3 +50,16 @@ module _ (s old : List ℕ) where
       → (Bytes n, new) ≡ decoded s old
   unfolding decoded
   decode-done {bs} n i e h p q w = rw (e, le-leb (length bs) (length old) h, paste-end bs old 0 i q w, p, zero-add)
+
+-- a turn of the loop of `encode`, and its end
+module _ (s old : List ℕ) (at : ℕ) where
+  pub encode-on : {new : List ℕ} (i : ℕ) → at + 2 * length s ≤ length old → i < length s → Pasted (toHex s) old at new (2 * i)
+      → Pasted (toHex s) old at (set (set new (at + 2 * i) (digitOf (getD s i 0 / 16))) (at + 2 * i + 1) (digitOf (getD s i 0 % 16))) (2 * (i + 1))
+  encode-on i r h w =
+      let l = hex-length s in
+      paste-on (toHex s) old at (2 * i + 1) _ _ _ (omega arith) (omega arith) (omega arith) (sym (hex-low s i h)) (omega arith)
+      (paste-on (toHex s) old at (2 * i) _ _ _ (omega arith) (omega arith) refl (sym (hex-high s i h)) (omega arith) w)
+
+  pub encode-end : {new : List ℕ} (n : ℕ) → at + 2 * length s ≤ length old → n ≡ 2 * length s → Pasted (toHex s) old at new n → new ≡ sets old at (toHex s)
+  encode-end n h p w =
+      paste-end (toHex s) old at n (p ∙ sym (hex-length s)) w ∙ sym (sets-eq (toHex s) old at (omega (arith, hex-length s)))

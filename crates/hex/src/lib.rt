@@ -1,8 +1,9 @@
 // Bytes as lowercase hexadecimal digits.
 ghost use mathlib.Core.Path.{_≡_};
 ghost use mathlib.Core.Bool.{true};
-ghost use Prim.Native.Nat.{_+_, _*_, _/_, _<_};
+ghost use Prim.Native.Nat.{_+_, _*_, _/_, _≤_, _<_};
 ghost use lib.ListN.{length, getD};
+ghost use lib.Seq.{sets};
 ghost use Rattle.wire.specs.Write.{laid};
 ghost use Rattle.hex.specs.Hex.{digitOf, isDigit, digitValue, toHex, line};
 ghost use Rattle.hex.specs.Coding.{decoded, part};
@@ -109,8 +110,44 @@ pub fn decode(s: &[u8], out: &mut [u8]) -> Decoded
     Decoded::Bytes(n)
 }
 
-// The n bytes at a place become their digits there, which are twice as many, and the place behind them is answered. They are written from the last
-// to the first: no byte is written over before it is read. Where there is no room nothing is written, and the same place is answered.
+// The digits of bytes, at a place.
+fn encode(s: &[u8], out: &mut [u8], at: usize)
+    requires { ⌜ at + 2 * length (now s) ≤ length (now out) ⌝ }
+    ensures { λ _. ⌜ now (out .exit) ≡ sets (now (out .entry)) at (toHex (now (s .entry))) ⌝ }
+{
+    let mut i = 0;
+    while i < s.len() {
+        let b = s[i];
+        out[at + 2 * i] = digit(b / 16);
+        out[at + 2 * i + 1] = digit(b % 16);
+        i += 1;
+    }
+}
+
+// The digits of m bytes that stand at a place, at another one: a copy of the bytes is spelt, so that the two may overlap.
+fn encode_part(out: &mut [u8], from: usize, m: usize, to: usize)
+    requires { ⌜ m ≤ 64 ⌝ }
+    requires { ⌜ from + m ≤ length (now out) ⌝ }
+    requires { ⌜ to + 2 * m ≤ length (now out) ⌝ }
+    ensures { λ _. ⌜ now (out .exit) ≡ sets (now (out .entry)) to (toHex (part (now (out .entry)) from m)) ⌝ }
+{
+    let mut some = [0u8; 64];
+    bytes::copy(&out[from..from + m], &mut some);
+    encode(&some[..m], out, to);
+}
+
+// At most 64 of so many bytes.
+fn least(n: usize) -> usize
+    ensures { λ r. ⌜ (r ≤ 64) × (r ≤ n) × (0 < n → 0 < r) ⌝ }
+{
+    if n < 64 {
+        return n;
+    }
+    64
+}
+
+// The n bytes at a place become their digits there, which are twice as many, and the place behind them is answered. They are written
+// from the last 64 to the first: no byte is written over before it is read. Where there is no room nothing is written, and the same place is answered.
 pub fn spread(out: &mut [u8], at: usize, n: usize) -> usize
     ensures { λ r. ⌜ (r, now (out .exit)) ≡ laid (toHex (part (now (out .entry)) at n)) at (now (out .entry)) ⌝ }
 {
@@ -122,10 +159,9 @@ pub fn spread(out: &mut [u8], at: usize, n: usize) -> usize
     }
     let mut i = n;
     while 0 < i {
-        i -= 1;
-        let b = out[at + i];
-        out[at + 2 * i] = digit(b / 16);
-        out[at + 2 * i + 1] = digit(b % 16);
+        let m = least(i);
+        i -= m;
+        encode_part(out, at + i, m, at + 2 * i);
     }
     at + 2 * n
 }

@@ -262,7 +262,7 @@ fn a_difference_is_told_in_full_and_can_be_played_again() {
     let text = found.expect("the fault is found").to_string();
     for word in [
         "expected: 9",
-        "got: ",
+        "got: 256",
         "input: ",
         "table before: ",
         "seed: 11",

@@ -32,27 +32,28 @@ extern "C" {
 #define FQ_DONE 256
 #define FQ_REPLY_FULL 257
 
-#define FQ_TABLE_SIZE 45200     /* bytes of a table */
+#define FQ_TABLE_SIZE 45264     /* bytes of a table */
 #define FQ_TABLE_KEYS 128       /* keys that a table holds at most */
 #define FQ_NAME_LIMIT 32        /* bytes of a cache name */
 #define FQ_KEY_LIMIT 64         /* bytes of a key */
 #define FQ_VALUE_LIMIT 256      /* bytes of a value */
 #define FQ_TEXT_LIMIT 64        /* bytes of an error text */
 #define FQ_LONGEST_REQUEST 394  /* bytes of a request */
-#define FQ_LONGEST_REPLY 279    /* bytes of a reply */
+#define FQ_LONGEST_REPLY 307    /* bytes of a reply: those of a stats reply; every other has at most 279 */
 #define FQ_REPLY_ROOM 512       /* least room for the reply of a call */
-#define FQ_LINES_ROOM 559       /* least room for the lines that fq_serve_lines gives */
+#define FQ_LINES_ROOM 615       /* least room for the lines that fq_serve_lines gives */
 #define FQ_LONGEST_LINE 1024    /* characters of a line of requests */
 #define FQ_LONGEST_FILE 86931   /* bytes of a stored table */
 
 #define FQ_REQUEST_TOLD 16      /* numbers that fq_read_request tells */
-#define FQ_REPLY_TOLD 9         /* fq_read_reply */
+#define FQ_REPLY_TOLD 18        /* fq_read_reply */
 #define FQ_SAME_KEY_TOLD 2      /* fq_same_key */
 #define FQ_SERVE_TOLD 2         /* fq_serve */
 #define FQ_STREAM_TOLD 3        /* fq_serve_stream */
 #define FQ_LINES_TOLD 3         /* fq_serve_lines */
 #define FQ_REQUEST_GIVEN 9      /* numbers that fq_write_request is given */
 #define FQ_REPLY_GIVEN 4        /* fq_write_reply */
+#define FQ_STATISTICS_GIVEN 9   /* fq_write_statistics */
 
 enum fq_refusal {
     FQ_BAD_MAGIC = 1,           /* the first byte is not the magic */
@@ -81,7 +82,8 @@ enum fq_refusal {
 uint64_t fq_read_request(const uint8_t *input, size_t input_len, uint64_t *answer, size_t answer_len);
 
 /* Reads the reply at the front of the input, to a request with operation `op`, and with flag 0x0001 where `flag`. Told: bytes read, id, operation,
-   status, entry version, and start and length of value and error text. */
+   status, entry version, start and length of value and error text, and the nine statistics, which are 0 where it is no stats reply: time since start,
+   current and total number of entries, stores, retrievals, hits, misses, remove hits, remove misses. */
 uint64_t fq_read_reply(const uint8_t *input, size_t input_len, uint8_t op, bool flag, uint64_t *answer, size_t answer_len);
 
 /* Writes a request at the front of `out`: 16, then 12. Given: id, version, operation, flags, intelligence, topology, lifespan, max idle, entry version. A
@@ -93,6 +95,10 @@ uint64_t fq_write_request(uint8_t *out, size_t out_len, const uint64_t *numbers,
    request's plus 1, or 0x50), status, entry version. A field that the status does not send is 0 or empty. */
 uint64_t fq_write_reply(uint8_t *out, size_t out_len, uint8_t op, bool flag, const uint64_t *numbers, size_t numbers_len, const uint8_t *value,
                         size_t value_len, const uint8_t *text, size_t text_len);
+
+/* Writes the reply to stats (operation 0x15) at the front of `out`: 16, then 12. Given: the nine statistics, in the order in which fq_read_reply tells
+   them. A list of another length, and one with a number above the largest vLong, is 16; so is a stats reply that fq_write_reply is given. */
+uint64_t fq_write_statistics(uint8_t *out, size_t out_len, uint64_t id, const uint64_t *numbers, size_t numbers_len);
 
 /* Compares two keys as the table does: their lengths first, then their bytes from the end: FQ_DONE. Told: 1 where they are equal or 0, and how many pairs
    of bytes were compared: 0 for unlike lengths, else those through the first unlike one, or all. */

@@ -1,7 +1,7 @@
 """Part 2: corners of request files, each compared with the second program, with and without a TABLE."""
 from board_frames import (CLEAR, CONTAINS_KEY, GET, GET_WITH_VERSION, LARGEST_SECOND, LARGEST_VERSION, MOST_KEYS, OPERATIONS, PING, PUT,
-                          PUT_IF_ABSENT, REMOVE, REMOVE_IF_UNMODIFIED, REPLACE, REPLACE_IF_UNMODIFIED, THIRTY_DAYS, entry_line, frame,
-                          head_line, header, key_name, line, number, request)
+                          PUT_IF_ABSENT, REMOVE, REMOVE_IF_UNMODIFIED, REPLACE, REPLACE_IF_UNMODIFIED, STATS, THIRTY_DAYS, entry_line,
+                          frame, head_line, header, key_name, line, number, request, sized)
 from board_run import ABSENT, Bench, demand, run_part
 
 GOOD = request(PUT, key=b'good', value=b'line')
@@ -76,7 +76,7 @@ def refusals():
     yield 2, b'\xa0' + b'\xff' * 8 + b'\x80' + header(PING)[2:]
     for version in (0, 9, 13, 20, 0x41, 255):
         yield 3, header(PING, version=version)
-    for operation in (0, 2, 4, 0x15, 0x16, 0x18, 0x19, 0x1d, 0x50, 255):
+    for operation in (0, 2, 4, 0x14, 0x16, 0x18, 0x19, 0x1d, 0x50, 255):
         yield 4, header(operation)
     yield 5, header(PING)[:4] + b'\x80\x00' + header(PING)[5:]
     yield 5, header(PING)[:4] + many + b'\x10'
@@ -216,6 +216,34 @@ def deadline_edges(bench):
             bench.same(f'{case}, then a look', request(GET_WITH_VERSION, second), got.table)
 
 
+NAMES = ('timeSinceStart', 'currentNumberOfEntries', 'totalNumberOfEntries', 'stores', 'retrievals', 'hits', 'misses', 'removeHits',
+         'removeMisses')
+
+
+def stats_line(*values):
+    """The reply to a stats request, with these nine values."""
+    data = b'\xa1\x01\x16\0\0' + number(len(NAMES))
+    for name, value in zip(NAMES, values, strict=True):
+        data += sized(name.encode()) + sized(b'%d' % value)
+    return data.hex().encode() + b'\n'
+
+
+def statistics(bench):
+    """What stats replies tell, worked out by hand, from a fresh table and from one that was loaded."""
+    bad = b'x\n' + line(b'\xa1') + line(header(STATS) + b'\0', 3) + request(STATS, 3, name=b'x')
+    calls = (request(STATS, 10) + request(PUT, 12, key=b'a') + request(PUT, 12, key=b'a') + request(PUT_IF_ABSENT, 11, key=b'b')
+             + request(GET, 11, key=b'a') + request(GET, 11, key=b'c') + request(GET, 11, key=b'c') + request(GET_WITH_VERSION, 11, key=b'a')
+             + request(REMOVE, 11, key=b'a') + request(REMOVE, 11, key=b'a') + request(PUT, 11, name=b'x') + request(STATS, 17)
+             + request(CLEAR, 5) + request(STATS, 9) + request(STATS, LARGEST_SECOND))
+    for held, table in ((0, ABSENT), (1, head_line(7) + entry_line(5))):
+        got = bench.same(f'statistics with {held} keys at first', bad + calls, table)
+        wanted = [stats_line(0, held, 0, 0, 0, 0, 0, 0, 0), stats_line(7, held + 1, 2, 2, 3, 1, 2, 1, 1), stats_line(0, 0, 2, 2, 3, 1, 2, 1, 1),
+                  stats_line(LARGEST_SECOND - 10, 0, 2, 2, 3, 1, 2, 1, 1)]
+        told = [text + b'\n' for text in got.out.splitlines() if text.startswith(b'a10116')]
+        demand(told == wanted, 'statistics', f'the second program tells {told!r}, the paper {wanted!r}')
+        bench.same('statistics behind a load', request(STATS, 4), got.table)
+
+
 def many_keys():
     """The 129th key, and writes to a full table."""
     fill = b''.join(request(PUT, key=key_name(at), value=b'%d' % at) for at in range(MOST_KEYS))
@@ -267,6 +295,7 @@ def part():
         deadlines(bench)
         last_versions(bench)
         deadline_edges(bench)
+        statistics(bench)
         return f'{bench.count} files of corners, same replies and same tables'
 
 

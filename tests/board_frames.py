@@ -2,9 +2,9 @@
 
 PUT, GET, PUT_IF_ABSENT, REPLACE, REPLACE_IF_UNMODIFIED = 0x01, 0x03, 0x05, 0x07, 0x09
 REMOVE, REMOVE_IF_UNMODIFIED, CONTAINS_KEY, GET_WITH_VERSION = 0x0b, 0x0d, 0x0f, 0x11
-CLEAR, PING = 0x13, 0x17
+CLEAR, STATS, PING = 0x13, 0x15, 0x17
 OPERATIONS = (PUT, GET, PUT_IF_ABSENT, REPLACE, REPLACE_IF_UNMODIFIED, REMOVE, REMOVE_IF_UNMODIFIED, CONTAINS_KEY,
-              GET_WITH_VERSION, CLEAR, PING)
+              GET_WITH_VERSION, CLEAR, STATS, PING)
 WITH_VALUE = (PUT, PUT_IF_ABSENT, REPLACE, REPLACE_IF_UNMODIFIED)
 WITH_VERSION = (REPLACE_IF_UNMODIFIED, REMOVE_IF_UNMODIFIED)
 MOST_KEYS = 128
@@ -37,7 +37,7 @@ def header(operation, message=1, version=10, name=b'', flags=0, intelligence=1, 
 def frame(operation, key=b'k', value=b'v', lifespan=0, idle=0, entry_version=1, **head):
     """A request with the fields that its operation sends."""
     out = header(operation, **head)
-    if operation not in (CLEAR, PING):
+    if operation not in (CLEAR, STATS, PING):
         out += sized(key)
     if operation in WITH_VALUE:
         out += number(lifespan) + number(idle)

@@ -8,11 +8,11 @@ import sys
 import threading
 
 from board_frames import (CLEAR, CONTAINS_KEY, GET, GET_WITH_VERSION, LARGEST_SECOND, LARGEST_VERSION, MOST_KEYS, PING, PUT,
-                          PUT_IF_ABSENT, REMOVE, REMOVE_IF_UNMODIFIED, REPLACE, REPLACE_IF_UNMODIFIED, THIRTY_DAYS, entry_line, frame,
-                          head_line, line)
+                          PUT_IF_ABSENT, REMOVE, REMOVE_IF_UNMODIFIED, REPLACE, REPLACE_IF_UNMODIFIED, STATS, THIRTY_DAYS, entry_line,
+                          frame, head_line, line)
 
 COMMON = (PUT, PUT, PUT, PUT_IF_ABSENT, PUT_IF_ABSENT, REPLACE, REPLACE, REPLACE_IF_UNMODIFIED, REPLACE_IF_UNMODIFIED, REMOVE,
-          REMOVE_IF_UNMODIFIED, GET, GET, GET_WITH_VERSION, GET_WITH_VERSION, CONTAINS_KEY, PING)
+          REMOVE_IF_UNMODIFIED, GET, GET, GET_WITH_VERSION, GET_WITH_VERSION, CONTAINS_KEY, STATS, PING)
 NUMBERS = (0, 1, 100, 127, 128, 16383, 16384, 2 ** 21, 2 ** 28, 2 ** 31, LARGEST_SECOND)
 LIFESPANS = (*NUMBERS, *4 * (THIRTY_DAYS, THIRTY_DAYS + 1), THIRTY_DAYS - 1, THIRTY_DAYS + 2)
 
@@ -150,7 +150,7 @@ def kinds(replies):
 
 # The reply table of the paper, and the statuses of its error replies.
 ALL_KINDS = {(operation + 1, status) for statuses, operations in (
-    ((0,), (PUT, CLEAR, PING)), ((0, 1), (PUT_IF_ABSENT, REPLACE)), ((0, 1, 2), (REPLACE_IF_UNMODIFIED, REMOVE_IF_UNMODIFIED)),
+    ((0,), (PUT, CLEAR, STATS, PING)), ((0, 1), (PUT_IF_ABSENT, REPLACE)), ((0, 1, 2), (REPLACE_IF_UNMODIFIED, REMOVE_IF_UNMODIFIED)),
     ((0, 2), (REMOVE, GET, GET_WITH_VERSION, CONTAINS_KEY))) for status in statuses for operation in operations} | {
         (0x50, status) for status in range(0x81, 0x86)} | {'refused 14', 'refused 15'}
 

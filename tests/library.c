@@ -53,7 +53,7 @@ static const uint8_t *line_behind(const uint8_t *text) {
 
 static Bytes requests, replies, stored, out;
 static uint8_t table[FQ_TABLE_SIZE], other[FQ_TABLE_SIZE], reply[4 * FQ_REPLY_ROOM];
-static uint64_t answer[FQ_REQUEST_TOLD];
+static uint64_t answer[FQ_REPLY_TOLD];
 
 /* Each request by fq_serve, with its own second; the replies read as the paper has them. */
 static void by_calls(void) {
@@ -131,12 +131,37 @@ static void messages(void) {
     same_bytes(__LINE__, frame + answer[10], answer[11], name, sizeof name);
     same_bytes(__LINE__, frame + answer[12], answer[13], key, sizeof key);
     same_bytes(__LINE__, frame + answer[14], answer[15], value, sizeof value);
-    SAME(fq_write_reply(frame, sizeof frame, 0x11, false, told, FQ_REPLY_GIVEN, value, sizeof value, name, 0), FQ_DONE + FQ_LONGEST_REPLY);
-    SAME(fq_read_reply(frame, sizeof frame, 0x11, false, answer, FQ_REPLY_TOLD), FQ_DONE + FQ_LONGEST_REPLY);
+    SAME(fq_write_reply(frame, sizeof frame, 0x11, false, told, FQ_REPLY_GIVEN, value, sizeof value, name, 0), FQ_DONE + 279);
+    SAME(fq_read_reply(frame, sizeof frame, 0x11, false, answer, FQ_REPLY_TOLD), FQ_DONE + 279);
     same_bytes(__LINE__, answer + 1, sizeof told, told, sizeof told);
     same_bytes(__LINE__, frame + answer[5], answer[6], value, sizeof value);
     SAME(fq_read_reply(frame, sizeof frame, 0x10, false, answer, FQ_REPLY_TOLD), FQ_BAD_COMMAND);
     SAME(fq_write_request(frame, sizeof frame, given, FQ_REQUEST_GIVEN - 1, name, 0, key, 0, value, 0), FQ_BAD_MESSAGE);
+}
+
+/* The longest stats reply, and one with other numbers. */
+static void statistics(void) {
+    static const uint8_t none[1];
+    static uint8_t frame[FQ_LONGEST_REPLY + 1];
+    const uint64_t most = UINT64_MAX / 2, unsent[FQ_REPLY_GIVEN] = {1, 0x16, 0, 0};
+    uint64_t nine[FQ_STATISTICS_GIVEN] = {most, most, most, most, most, most, most, most, most};
+    SAME(fq_write_statistics(frame, FQ_LONGEST_REPLY - 1, most, nine, FQ_STATISTICS_GIVEN), FQ_NO_ROOM);
+    SAME(fq_write_statistics(frame, sizeof frame, most, nine, FQ_STATISTICS_GIVEN), FQ_DONE + FQ_LONGEST_REPLY);
+    SAME(fq_read_reply(frame, FQ_LONGEST_REPLY - 1, 0x15, false, answer, FQ_REPLY_TOLD), 0);
+    SAME(fq_read_reply(frame, sizeof frame, 0x15, true, answer, FQ_REPLY_TOLD), FQ_DONE + FQ_LONGEST_REPLY);
+    SAME(answer[1], most);
+    SAME(answer[2], 0x16);
+    same_bytes(__LINE__, answer + 9, sizeof nine, nine, sizeof nine);
+    for (uint64_t i = 0; i < FQ_STATISTICS_GIVEN; i++) nine[i] = 10 * i;
+    SAME(fq_write_statistics(frame, sizeof frame, 1, nine, FQ_STATISTICS_GIVEN), FQ_DONE + 5 + 114 + 26);
+    SAME(fq_read_reply(frame, sizeof frame, 0x15, false, answer, FQ_REPLY_TOLD), FQ_DONE + 5 + 114 + 26);
+    same_bytes(__LINE__, answer + 9, sizeof nine, nine, sizeof nine);
+    frame[7] = 'T';
+    SAME(fq_read_reply(frame, sizeof frame, 0x15, false, answer, FQ_REPLY_TOLD), FQ_BAD_FIELD);
+    SAME(fq_write_statistics(frame, sizeof frame, 1, nine, FQ_STATISTICS_GIVEN - 1), FQ_BAD_MESSAGE);
+    SAME(fq_write_reply(frame, sizeof frame, 0x15, false, unsent, FQ_REPLY_GIVEN, none, 0, none, 0), FQ_BAD_MESSAGE);
+    nine[4] = most + 1;
+    SAME(fq_write_statistics(frame, sizeof frame, 1, nine, FQ_STATISTICS_GIVEN), FQ_BAD_MESSAGE);
 }
 
 /* A stream of requests: a put, a request to another cache, a byte that begins none; and room that is too small. */
@@ -182,7 +207,7 @@ static void short_lists(void) {
     static const uint8_t put[] = {0xa0, 0x02, 0x0a, 0x01, 0, 0, 1, 0, 0, 2, 'b', '1', 0, 0, 1, 'x'}, pong[] = {0xa1, 0x01, 0x18, 0, 0};
     static const uint8_t line[] = "00000000 a0020a01000001000002623100000178\n";
     static uint8_t before[FQ_TABLE_SIZE], kept[FQ_LINES_ROOM];
-    uint64_t untold[FQ_REQUEST_TOLD];
+    uint64_t untold[FQ_REPLY_TOLD];
     SAME(fq_make(other, sizeof other), FQ_DONE);
     memcpy(before, other, sizeof other);
     memset(reply, 0x55, FQ_LINES_ROOM);
@@ -224,6 +249,7 @@ int main(int count, char **words) {
     by_file();
     messages();
     keys();
+    statistics();
     stream();
     short_lists();
     longest_file();

@@ -6,6 +6,7 @@ use std::io::{self, BufRead, BufWriter, Write};
 use reference::fields::{KEY_LIMIT, NAME_LIMIT, VALUE_LIMIT};
 use reference::hex::{from_digits, to_string};
 use reference::number::LARGEST_VLONG;
+use reference::operation::STATS;
 use reference::{
     is_text, read_limited, read_limited_text, read_number, read_reply, read_request, read_version,
     write_number, Read, Reply, Request,
@@ -156,7 +157,7 @@ fn request_words(request: Request, taken: usize) -> String {
 }
 
 fn reply_words(reply: Reply, taken: usize) -> String {
-    format!(
+    let mut words = format!(
         "whole {taken} id={} operation={} status={} version={} value={} text={}",
         reply.id,
         reply.operation,
@@ -164,5 +165,9 @@ fn reply_words(reply: Reply, taken: usize) -> String {
         reply.version,
         to_string(&reply.value),
         to_string(&reply.text),
-    )
+    );
+    if reply.operation == STATS + 1 {
+        words += &format!(" statistics={:?}", reply.statistics);
+    }
+    words
 }

@@ -10,6 +10,7 @@
 
 pub mod fields;
 pub mod hex;
+pub mod history;
 pub mod keys;
 pub mod lines;
 pub mod map;
@@ -18,10 +19,12 @@ pub mod operation;
 pub mod reply;
 pub mod request;
 pub mod serve;
+pub mod statistics;
 pub mod stored;
 pub mod text;
 
 pub use fields::{read_limited, read_limited_text, read_version, Read};
+pub use history::History;
 pub use keys::{same_key, Compared};
 pub use lines::{serve_line, serve_lines, serve_reader};
 pub use map::{is_table, step, Entry, Table};
@@ -29,5 +32,6 @@ pub use number::{read_number, write_number};
 pub use reply::{error_reply, read_reply, write_reply, Reply};
 pub use request::{read_request, write_request, Request};
 pub use serve::{serve, serve_stream, Answer, StreamAnswer, Verdict};
+pub use statistics::Statistics;
 pub use stored::{load, store};
 pub use text::is_text;

@@ -3,9 +3,10 @@
 use std::collections::{BTreeMap, BTreeSet};
 
 use crate::fields::{KEY_LIMIT, VALUE_LIMIT};
+use crate::history::History;
 use crate::operation::{
     body, Body, CLEAR, CONTAINS_KEY, GET, GET_WITH_VERSION, PUT, PUT_IF_ABSENT, REMOVE,
-    REMOVE_IF_UNMODIFIED, REPLACE, REPLACE_IF_UNMODIFIED,
+    REMOVE_IF_UNMODIFIED, REPLACE, REPLACE_IF_UNMODIFIED, STATS,
 };
 use crate::reply::Reply;
 use crate::request::{keeps_rules, Request, FLAG_DEFAULT_LIFESPAN};
@@ -34,10 +35,12 @@ pub struct Table {
     pub entries: BTreeMap<Vec<u8>, Entry>,
     /// The last version issued, 0 when fresh.
     pub last: u64,
+    /// Of the calls served since start or the last load.
+    pub history: History,
 }
 
 /// Whether the table is one: sizes kept, versions different and in range,
-/// deadlines in range.
+/// deadlines and counts in range.
 pub fn is_table(table: &Table) -> bool {
     let mut versions = BTreeSet::new();
     for (key, entry) in &table.entries {
@@ -51,7 +54,7 @@ pub fn is_table(table: &Table) -> bool {
             return false;
         }
     }
-    table.entries.len() <= MOST_KEYS && table.last <= LARGEST_VERSION
+    table.entries.len() <= MOST_KEYS && table.last <= LARGEST_VERSION && table.history.is_sound()
 }
 
 /// What a request does to the table.
@@ -115,7 +118,7 @@ fn answer(request: &Request, status: u8, held: Option<&Entry>) -> Reply {
         return reply;
     };
     match body(request.operation, request.wants_old_value(), status) {
-        Body::Nothing | Body::EmptyValue => {}
+        Body::Nothing | Body::EmptyValue | Body::Statistics => {}
         Body::Value => reply.value = entry.value.clone(),
         Body::VersionAndValue => {
             reply.version = entry.version;
@@ -146,8 +149,15 @@ pub fn step(request: &Request, second: u32, table: &mut Table) -> Result<Reply, 
             return Err(11);
         }
     }
-    let reply = answer(request, status, held);
+    let added = effect == Effect::Store && held.is_none();
+    let mut reply = answer(request, status, held);
+    if request.operation == STATS {
+        reply.statistics = table.history.statistics(second, table.entries.len());
+    }
     apply(effect, request, second, table);
+    table
+        .history
+        .remember(second, request.operation, status, added);
     Ok(reply)
 }
 

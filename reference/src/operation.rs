@@ -10,13 +10,14 @@ pub const REMOVE_IF_UNMODIFIED: u8 = 0x0d;
 pub const CONTAINS_KEY: u8 = 0x0f;
 pub const GET_WITH_VERSION: u8 = 0x11;
 pub const CLEAR: u8 = 0x13;
+pub const STATS: u8 = 0x15;
 pub const PING: u8 = 0x17;
 
 /// The operation code of an error reply.
 pub const ERROR: u8 = 0x50;
 
 /// All served operations, as request codes.
-pub const SERVED: [u8; 11] = [
+pub const SERVED: [u8; 12] = [
     PUT,
     GET,
     PUT_IF_ABSENT,
@@ -27,6 +28,7 @@ pub const SERVED: [u8; 11] = [
     CONTAINS_KEY,
     GET_WITH_VERSION,
     CLEAR,
+    STATS,
     PING,
 ];
 
@@ -36,7 +38,7 @@ pub fn is_served(operation: u8) -> bool {
 
 /// Whether a request of this operation sends a key.
 pub fn sends_key(operation: u8) -> bool {
-    is_served(operation) && operation != CLEAR && operation != PING
+    is_served(operation) && !matches!(operation, CLEAR | STATS | PING)
 }
 
 /// Whether a request of this operation sends lifespan, max idle and value.
@@ -55,7 +57,7 @@ pub fn sends_entry_version(operation: u8) -> bool {
 /// Whether the reply table lists this status for this operation.
 pub fn may_answer(operation: u8, status: u8) -> bool {
     match operation {
-        PUT | CLEAR | PING => status == 0,
+        PUT | CLEAR | STATS | PING => status == 0,
         PUT_IF_ABSENT | REPLACE => status == 0 || status == 1,
         REPLACE_IF_UNMODIFIED | REMOVE_IF_UNMODIFIED => status <= 2,
         REMOVE | GET | GET_WITH_VERSION | CONTAINS_KEY => status == 0 || status == 2,
@@ -73,6 +75,8 @@ pub enum Body {
     EmptyValue,
     /// An entry version, then a length and so many bytes.
     VersionAndValue,
+    /// The nine statistics.
+    Statistics,
 }
 
 /// The body of the reply to `operation` with this status; `flag` says whether
@@ -81,6 +85,7 @@ pub fn body(operation: u8, flag: bool, status: u8) -> Body {
     match operation {
         GET if status == 0 => Body::Value,
         GET_WITH_VERSION if status == 0 => Body::VersionAndValue,
+        STATS if status == 0 => Body::Statistics,
         PUT | PUT_IF_ABSENT | REPLACE | REPLACE_IF_UNMODIFIED | REMOVE | REMOVE_IF_UNMODIFIED
             if flag =>
         {

@@ -5,6 +5,7 @@ use crate::fields::{
 };
 use crate::number::{write_number, LARGEST_VLONG};
 use crate::operation::{body, is_served, may_answer, Body, ERROR};
+use crate::statistics::{self, Statistics};
 use crate::text::is_text;
 
 /// The first byte of every reply.
@@ -24,6 +25,7 @@ pub struct Reply {
     pub value: Vec<u8>,
     /// The error text.
     pub text: Vec<u8>,
+    pub statistics: Statistics,
 }
 
 fn is_error_status(status: u8) -> bool {
@@ -55,6 +57,7 @@ fn read_fields(op: u8, flag: bool, cursor: &mut Cursor) -> Result<Reply, Stop> {
             reply.version = cursor.eight()?;
             reply.value = cursor.limited(VALUE_LIMIT)?;
         }
+        Body::Statistics => reply.statistics = statistics::read(cursor)?,
     }
     Ok(reply)
 }
@@ -102,14 +105,21 @@ fn error_keeps_rules(reply: &Reply) -> bool {
         && is_text(&reply.text)
         && reply.version == 0
         && reply.value.is_empty()
+        && reply.statistics == Statistics::default()
 }
 
 fn body_keeps_rules(body: Body, reply: &Reply) -> bool {
-    match body {
-        Body::Nothing | Body::EmptyValue => reply.version == 0 && reply.value.is_empty(),
-        Body::Value => reply.version == 0 && reply.value.len() <= VALUE_LIMIT,
-        Body::VersionAndValue => reply.value.len() <= VALUE_LIMIT,
-    }
+    let (value_limit, sends_version) = match body {
+        Body::Nothing | Body::EmptyValue | Body::Statistics => (0, false),
+        Body::Value => (VALUE_LIMIT, false),
+        Body::VersionAndValue => (VALUE_LIMIT, true),
+    };
+    let statistics_kept = if body == Body::Statistics {
+        statistics::keep_rules(&reply.statistics)
+    } else {
+        reply.statistics == Statistics::default()
+    };
+    reply.value.len() <= value_limit && (sends_version || reply.version == 0) && statistics_kept
 }
 
 /// The bytes of a reply that keeps the rules.
@@ -130,6 +140,7 @@ pub fn reply_bytes(op: u8, flag: bool, reply: &Reply) -> Vec<u8> {
             write_eight(reply.version, &mut out);
             write_limited(&reply.value, &mut out);
         }
+        Body::Statistics => statistics::write(&reply.statistics, &mut out),
     }
     out
 }

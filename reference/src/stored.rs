@@ -5,6 +5,7 @@ use std::collections::BTreeMap;
 
 use crate::fields::{write_eight, write_limited, Cursor, Stop, KEY_LIMIT, VALUE_LIMIT};
 use crate::hex::{from_digits, to_digits};
+use crate::history::History;
 use crate::lines::{lines_of, LINE_END};
 use crate::map::{is_table, Entry, Table, MOST_KEYS};
 
@@ -78,7 +79,7 @@ fn load_entry(line: &[u8]) -> Option<(Vec<u8>, Entry)> {
     Some(pair)
 }
 
-/// The table whose stored form the file is. Nothing means refusal 17: the
+/// The table whose stored form the file is; its counts begin anew. Nothing means refusal 17: the
 /// file is not what storing a sound table gives.
 pub fn load(file: &[u8]) -> Option<Table> {
     if file.last() != Some(&LINE_END) {
@@ -89,6 +90,7 @@ pub fn load(file: &[u8]) -> Option<Table> {
     let mut table = Table {
         entries: BTreeMap::new(),
         last: load_first(first)?,
+        history: History::default(),
     };
     let mut version_before = 0;
     for line in rest {

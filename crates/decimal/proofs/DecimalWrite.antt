@@ -40,6 +40,10 @@ count-full most v n x g h =
 pub enc-length : (v : ℕ) → length (decimal .enc v) ≡ length (digitsOf v) + 1
 enc-length v = ap length (decimal-enc v) ∙ omega arith
 
+pub decimal-most : (v : ℕ) → length (decimal .enc v) ≤ 20
+unfolding digitsOf
+decimal-most v = omega (arith, enc-length v, digits-most 18 v)
+
 -- what the counted digits say of the bytes
 pub counted : (v n : ℕ) → n ≡ length (digitsBy 18 v) → (n + 1 ≡ length (decimal .enc v)) × (n + 1 ≡ length (digitsOf v) + 1) × (n + 1 ≤ 20)
 unfolding digitsOf

@@ -1,20 +1,20 @@
 -- The numbers by which the exported readers and writers know a message.
 use mathlib.Core.List.{List, [], _∷_}
-use mathlib.Core.Bool.{Bool, cond, _&&_}
+use mathlib.Core.Bool.{Bool, false, cond, _&&_}
 use mathlib.Core.Option.{Option, none, some}
 use Prim.Native.Nat.{ℕ, _≤_}
 use lib.ListN.{length, getD}
-use lib.Dec.{leb}
+use lib.Dec.{eqb, leb}
 use Rattle.wire.specs.Write.{Sent, kept, send}
 use Rattle.message.specs.declared.Operation.{Operation}
 use Rattle.message.specs.declared.Head.{Head}
 use Rattle.message.specs.declared.Asked.{Asked}
 use Rattle.message.specs.declared.ReplyHead.{ReplyHead}
 use Rattle.message.specs.declared.Request as code
-use Rattle.message.specs.declared.Reply as code-reply
 use Rattle.message.specs.Operation.{codeOf, findCode}
 use Rattle.message.specs.Request.{request, requestOf}
-use Rattle.message.specs.Reply.{reply, replyOf}
+use Rattle.message.specs.Reply.{asked, reply, replyOf, statisticsReply}
+use Rattle.reply_reader.specs.ReplyRead.{Answer}
 
 -- the count of bytes of a request that was read, its numbers, and where its name, key and value stand
 abbrev pub wholeRequest : code.Request → ℕ → List ℕ
@@ -22,10 +22,13 @@ wholeRequest q n =
     n ∷ q .head .id ∷ q .head .version ∷ codeOf (q .head .op) ∷ q .head .flags ∷ q .head .intelligence ∷ q .head .topology ∷ q .head .lifespan
     ∷ q .head .idle ∷ q .head .entry .0 ∷ q .name .start ∷ q .name .len ∷ q .key .start ∷ q .key .len ∷ q .value .start ∷ q .value .len ∷ []
 
--- the same of a reply, and where its value and text stand
-abbrev pub wholeReply : code-reply.Reply → ℕ → List ℕ
-wholeReply q n =
-    n ∷ q .head .id ∷ q .head .op ∷ q .head .status ∷ q .head .entry .0 ∷ q .value .start ∷ q .value .len ∷ q .text .start ∷ q .text .len ∷ []
+-- the same of a reply, where its value and text stand, and its statistics, which are 0 where it is no stats reply
+abbrev pub wholeReply : Answer → ℕ → List ℕ
+wholeReply a n =
+    let q = a .0 in
+    let x = a .1 in
+    n ∷ q .head .id ∷ q .head .op ∷ q .head .status ∷ q .head .entry .0 ∷ q .value .start ∷ q .value .len ∷ q .text .start ∷ q .text .len
+    ∷ getD x 0 0 ∷ getD x 1 0 ∷ getD x 2 0 ∷ getD x 3 0 ∷ getD x 4 0 ∷ getD x 5 0 ∷ getD x 6 0 ∷ getD x 7 0 ∷ getD x 8 0 ∷ []
 
 -- the numbers of a request to be written: too few, one that does not fit its field, or a code that is not served are none of a request
 abbrev pub headWith : List ℕ → Operation → Head
@@ -73,3 +76,7 @@ pub record ReplyHeadFits (ns : List ℕ) : Type 0 where
 
 unfoldable pub sendReply : Asked → List ℕ → List ℕ → List ℕ → List ℕ → Sent × List ℕ
 sendReply a ns value text old = cond (isReplyHead ns) (send (reply a) (replyOf (replyHeadWith ns) value text) old) (kept 16, old)
+
+-- the nine of a stats reply: a list of another length is none of them
+unfoldable pub sendStatistics : ℕ → List ℕ → List ℕ → Sent × List ℕ
+sendStatistics id ns old = cond (eqb (length ns) 9) (send (reply (asked 0x15 false)) (statisticsReply id ns) old) (kept 16, old)

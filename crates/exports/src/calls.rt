@@ -39,6 +39,10 @@ pub(crate) fn read_reply(input: &[u8], op: u8, flag: bool, answer: &mut [u64]) -
             tell::reply(answer, q, n);
             256 + n as u64
         }
+        ReplyRead::Statistics(h, x, n) => {
+            tell::statistics(answer, h, x, n);
+            256 + n as u64
+        }
         ReplyRead::More => 0,
         ReplyRead::Refused(k) => k as u64,
     }

@@ -3,7 +3,10 @@ use field::EntryVersion;
 use message::Head;
 use message::Operation;
 use message::ReplyHead;
+use statistics::Statistics;
 ghost use mathlib.Core.Path.{_≡_};
+ghost use lib.ListN.{length};
+ghost use Rattle.statistics.specs.Statistics.{listOf};
 ghost use Rattle.exports.specs.Messages.{isHead, headWith, HeadFits, isReplyHead, replyHeadWith, ReplyHeadFits};
 
 // Are they those of a request, but for the operation?
@@ -61,5 +64,23 @@ pub(crate) fn reply_head(ns: &[u64]) -> ReplyHead
         op: ns[1] as u8,
         status: ns[2] as u8,
         entry: EntryVersion(ns[3]),
+    }
+}
+
+// The nine statistics.
+pub(crate) fn statistics(ns: &[u64]) -> Statistics
+    requires { ⌜ length (now ns) ≡ 9 ⌝ }
+    ensures { λ r. ⌜ listOf r ≡ now (ns .entry) ⌝ }
+{
+    Statistics {
+        time: ns[0],
+        current: ns[1],
+        total: ns[2],
+        stores: ns[3],
+        retrievals: ns[4],
+        hits: ns[5],
+        misses: ns[6],
+        removehits: ns[7],
+        removemisses: ns[8],
     }
 }

@@ -1,6 +1,6 @@
 // The library for other languages: each function takes numbers and slices, for any bytes and any lengths. What the number answered means:
 // fq_read_request, fq_read_reply: 256 and the count of the message's bytes, 0 for more needed, or the refusal 1 to 8;
-// fq_write_request, fq_write_reply: 256 and the count of the bytes written, or 16, 12;
+// fq_write_request, fq_write_reply, fq_write_statistics: 256 and the count of the bytes written, or 16, 12;
 // fq_same_key: 256 for done;
 // fq_is_table: whether the memory is a sound table; fq_make: 256 for done, or 13;
 // fq_serve: 256 for served, 0 for more needed, or the refusal; fq_serve_stream: the same of the last call, or 257 where the reply buffer has no room
@@ -26,7 +26,7 @@ ghost use Rattle.table.specs.Change.{Left, outcomeOf, made};
 ghost use Rattle.server.specs.CallDone.{callOf, contextOf};
 ghost use Rattle.exports.specs.Calls.{TellsDone, TellsTotal, TellsServed, TellsStored, TellsLoaded, outcomeCode, keysCompared, Untold};
 ghost use Rattle.exports.specs.Codes.{coded, tell, told, inRoom, IfRoom};
-ghost use Rattle.exports.specs.Messages.{wholeRequest, wholeReply, sendRequest, sendReply};
+ghost use Rattle.exports.specs.Messages.{wholeRequest, wholeReply, sendRequest, sendReply, sendStatistics};
 
 // How many numbers are told: of a request and of a reply that was read, of two keys, of a call, of calls one after the other, and of lines.
 pub struct Told {}
@@ -34,7 +34,7 @@ pub struct Told {}
 impl Told {
     pub const REQUEST: usize = 16;
 
-    pub const REPLY: usize = 9;
+    pub const REPLY: usize = 18;
 
     pub const KEYS: usize = 2;
 
@@ -59,10 +59,10 @@ pub extern "C" fn fq_read_request(input: &[u8], answer: &mut [u64]) -> u64
 
 // The reply at the front of the input, to an operation that was asked with flag 0x0001 or without (flag is this bit
 // alone, and not the number of the flags). Numbers told: count of bytes, id, operation, status,
-// entry version, and the start and length of value and text.
+// entry version, the start and length of value and text, and the nine statistics, which are 0 where it is no stats reply.
 #[no_mangle]
 pub extern "C" fn fq_read_reply(input: &[u8], op: u8, flag: bool, answer: &mut [u64]) -> u64
-    ensures { λ r. ⌜ (r, now (answer .exit)) ≡ inRoom 9 (now (answer .entry)) (told wholeReply (mapped replyAt (reply (asked op flag) .dec (now (input .entry)))) (now (answer .entry))) ⌝ }
+    ensures { λ r. ⌜ (r, now (answer .exit)) ≡ inRoom 18 (now (answer .entry)) (told wholeReply (mapped replyAt (reply (asked op flag) .dec (now (input .entry)))) (now (answer .entry))) ⌝ }
 {
     if answer.len() < Told::REPLY {
         return 12;
@@ -122,6 +122,18 @@ pub extern "C" fn fq_same_key(a: &[u8], b: &[u8], answer: &mut [u64]) -> u64
     }
     calls::same_key(a, b, answer);
     256
+}
+
+// Writes the reply to stats at the front of `out`, of an id and the nine statistics in the order of their fields. A list of another length is 16.
+#[no_mangle]
+pub extern "C" fn fq_write_statistics(out: &mut [u8], id: u64, numbers: &[u64]) -> u64
+    ensures { λ r. ⌜ (r, now (out .exit)) ≡ coded (sendStatistics id (now (numbers .entry)) (now (out .entry))) ⌝ }
+{
+    if numbers.len() != 9 {
+        return 16;
+    }
+    let x = given::statistics(numbers);
+    tell::sent(reply_writer::write_statistics(out, id, x))
 }
 
 // Whether the memory is a sound table.

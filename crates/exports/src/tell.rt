@@ -1,12 +1,17 @@
 // Answers as numbers, and numbers told at the front of a list that the caller lends.
 use message::Reply;
+use message::ReplyHead;
 use message::Request;
 use message::Sent;
 use server::Verdict;
+use statistics::Statistics;
 use table::Outcome;
 ghost use mathlib.Core.Path.{_≡_};
 ghost use Prim.Native.Nat.{_<_, _^_};
+ghost use mathlib.Core.List.{[]};
+ghost use Rattle.statistics.specs.Statistics.{listOf};
 ghost use Rattle.message.specs.Sent.{asSent};
+ghost use Rattle.reply_reader.specs.ReplyRead.{withStatistics};
 ghost use Rattle.server.specs.CallDone.{asVerdict};
 ghost use Rattle.exports.specs.Calls.{verdictCode, bit as bitOf, outcomeCode};
 ghost use Rattle.exports.specs.Codes.{sentCode, tell};
@@ -57,7 +62,7 @@ pub(crate) fn request(answer: &mut [u64], q: Request, n: usize)
 }
 
 pub(crate) fn reply(answer: &mut [u64], q: Reply, n: usize)
-    ensures { λ _. ⌜ now (answer .exit) ≡ tell (wholeReply q n) (now (answer .entry)) ⌝ }
+    ensures { λ _. ⌜ now (answer .exit) ≡ tell (wholeReply (q, []) n) (now (answer .entry)) ⌝ }
 {
     let h = q.head;
     let entry = h.entry;
@@ -73,6 +78,42 @@ pub(crate) fn reply(answer: &mut [u64], q: Reply, n: usize)
         value.len as u64,
         text.start as u64,
         text.len as u64,
+        0,
+        0,
+        0,
+        0,
+        0,
+        0,
+        0,
+        0,
+        0,
+    ];
+    numbers(answer, &ns);
+}
+
+pub(crate) fn statistics(answer: &mut [u64], h: ReplyHead, x: Statistics, n: usize)
+    ensures { λ _. ⌜ now (answer .exit) ≡ tell (wholeReply (withStatistics h (listOf x)) n) (now (answer .entry)) ⌝ }
+{
+    let entry = h.entry;
+    let ns = [
+        n as u64,
+        h.id,
+        h.op as u64,
+        h.status as u64,
+        entry.0,
+        0,
+        0,
+        0,
+        0,
+        x.time,
+        x.current,
+        x.total,
+        x.stores,
+        x.retrievals,
+        x.hits,
+        x.misses,
+        x.removehits,
+        x.removemisses,
     ];
     numbers(answer, &ns);
 }

@@ -7,7 +7,7 @@ use borrow.Author.Tests.{ltb-true}
 use Rattle.wire.proofs.Laws.{never}
 use Rattle.message.specs.Request.{Request, isEmpty}
 use Rattle.map.specs.State.{State}
-use Rattle.map.specs.Step.{Context, Change, keep, store, drop, empty, Answer, Outcome, refused, answered, lastVersion, stored, dropped, emptied, full, planned, answer, act, step}
+use Rattle.map.specs.Step.{Context, Change, keep, store, drop, empty, Answer, Outcome, refused, answered, lastVersion, stored, dropped, emptied, full, planned, answer, act, core, arrive, step}
 
 -- the state behind a change
 unfoldable pub changed : Context → Request → State → Change → State
@@ -42,6 +42,12 @@ module _ (c : Context) (r : Request) (st : State) (a : Answer) (t : State) where
       let q = y .1 in
       record { same = cc; state = cc; room = λ z. (x .0, ltb-true (st .last) lastVersion (y .0)) }
 
-  pub did : step c r st ≡ answered a t → Did (answer r st) (planned r st .change)
-  unfolding step
-  did e = act-did (answer r st) (planned r st .change) (if (isEmpty (r .name)) 9 _ e .1)
+  core-did : core c r st ≡ answered a t → Did (answer c r st) (planned r st .change)
+  unfolding core
+  core-did e = act-did (answer c r st) (planned r st .change) (if (isEmpty (r .name)) 9 _ e .1)
+
+-- the step does this to the state that the call left when it came
+pub did : (c : Context) (r : Request) (st : State) (a : Answer) (t : State) → step c r st ≡ answered a t
+    → Did c r (arrive c r st) a t (answer c r (arrive c r st)) (planned r (arrive c r st) .change)
+unfolding step
+did c r st a t e = core-did c r (arrive c r st) a t e

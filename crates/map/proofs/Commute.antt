@@ -13,7 +13,7 @@ use Rattle.message.specs.Value.{withValue}
 use Rattle.message.specs.declared.Form.{Form}
 use Rattle.message.specs.declared.Form.the-variants as form
 use Rattle.map.specs.State.{Entry, State, without}
-use Rattle.map.specs.Step.{Context, Change, keep, store, drop, empty, shows, Answer, answered, lastVersion, deadline, entry, stored, dropped, emptied, isNone, names, held, versionOf, full, planned, answer, act, step}
+use Rattle.map.specs.Step.{Context, Change, keep, store, drop, empty, shows, Answer, answered, lastVersion, deadline, entry, stored, dropped, emptied, isNone, names, held, versionOf, full, planned, statistics, answer, act, core, arrive, step}
 use Rattle.map.specs.Table.{Each}
 use Rattle.map.specs.Revalue.{entriesWith, stateWith, foundWith, shownWith, answerWith, outcomeWith, outcomeState}
 use Rattle.map.proofs.Answered.{changed, did}
@@ -24,14 +24,15 @@ module _ (v : ℕ) (w : List ℕ) where
   version-with none = refl
   version-with (some e) = refl
 
-  shows-with : (g : Form) (f : Option Entry) → shows g (foundWith v w f) ≡ shownWith v w (shows g f)
+  shows-with : (g : Form) (ns : List ℕ) (f : Option Entry) → shows g ns (foundWith v w f) ≡ shownWith v w (shows g ns f)
   unfolding shows shownWith
-  shows-with form.Nothing f = refl
-  shows-with (form.Value lim) none = refl
-  shows-with (form.Value lim) (some e) = rw (cond-of (shownWith v w) (eqb lim 0))
-  shows-with form.Versioned none = refl
-  shows-with form.Versioned (some e) = refl
-  shows-with form.Text f = refl
+  shows-with form.Nothing ns f = refl
+  shows-with (form.Value lim) ns none = refl
+  shows-with (form.Value lim) ns (some e) = rw (cond-of (shownWith v w) (eqb lim 0))
+  shows-with form.Versioned ns none = refl
+  shows-with form.Versioned ns (some e) = refl
+  shows-with form.Statistics ns f = refl
+  shows-with form.Text ns f = refl
 
   none-with : (f : Option Entry) → isNone (foundWith v w f) ≡ isNone f
   none-with none = refl
@@ -50,9 +51,13 @@ module _ (v : ℕ) (w : List ℕ) where
     unfolding full stateWith
     full-with = rw (held-with, none-with, length-with)
 
-    answer-with : answer r (stateWith v w st) ≡ answerWith v w (answer r st)
+    statistics-with : statistics c (stateWith v w st) ≡ statistics c st
+    unfolding statistics stateWith
+    statistics-with = rw length-with
+
+    answer-with : answer c r (stateWith v w st) ≡ answerWith v w (answer c r st)
     unfolding answer answerWith
-    answer-with = rw (planned-with, held-with, shows-with)
+    answer-with = rw (planned-with, held-with, statistics-with, shows-with)
 
     drops : dropped r (stateWith v w st) ≡ stateWith v w (dropped r st)
     unfolding dropped stateWith
@@ -71,11 +76,19 @@ module _ (v : ℕ) (w : List ℕ) where
     act-with h a store =
         rw (full-with, stored-with h, cond-of (outcomeWith v w) (full r st), cond-of (outcomeWith v w) (ltb (st .last) lastVersion))
 
-    -- a step commutes with another value for the entry of version v, if v was issued before it
-    pub step-with : v ≤ st .last → step c r (stateWith v w st) ≡ outcomeWith v w (step c r st)
-    unfolding step outcomeWith
-    step-with h =
-        rw (planned-with, answer-with, act-with h (answer r st) (planned r st .change), cond-of (outcomeWith v w) (isEmpty (r .name)))
+    core-with : v ≤ st .last → core c r (stateWith v w st) ≡ outcomeWith v w (core c r st)
+    unfolding core outcomeWith
+    core-with h =
+        rw (planned-with, answer-with, act-with h (answer c r st) (planned r st .change), cond-of (outcomeWith v w) (isEmpty (r .name)))
+
+    arrive-with : arrive c r (stateWith v w st) ≡ stateWith v w (arrive c r st)
+    unfolding arrive stateWith
+    arrive-with = rw (held-with, none-with)
+
+  -- a step commutes with another value for the entry of version v, if v was issued before it
+  pub step-with : (c : Context) (r : Request) (st : State) → v ≤ st .last → step c r (stateWith v w st) ≡ outcomeWith v w (step c r st)
+  unfolding step arrive
+  step-with c r st h = rw (arrive-with c r st) (core-with c r (arrive c r st) h)
 
 -- the value of the request itself: the two outcomes differ in that of the entry of the next version
 module _ (w : List ℕ) (c : Context) (r : Request) (st : State) (h : Each (λ e. e .version ≤ st .last) (st .entries)) where
@@ -101,10 +114,15 @@ module _ (w : List ℕ) (c : Context) (r : Request) (st : State) (h : Each (λ e
         cond-of (outcomeState (suc (st .last)) w) (ltb (st .last) lastVersion),
       )
 
-  pub step-value : step c (withValue w r) st ≡ outcomeState (suc (st .last)) w (step c r st)
-  unfolding step outcomeState planned answer held
-  step-value =
-      rw (act-value (answer r st) (planned r st .change), cond-of (outcomeState (suc (st .last)) w) (isEmpty (r .name)))
+  core-value : core c (withValue w r) st ≡ outcomeState (suc (st .last)) w (core c r st)
+  unfolding core outcomeState planned answer held
+  core-value =
+      rw (act-value (answer c r st) (planned r st .change), cond-of (outcomeState (suc (st .last)) w) (isEmpty (r .name)))
+
+pub step-value : (w : List ℕ) (c : Context) (r : Request) (st : State) → Each (λ e. e .version ≤ st .last) (st .entries)
+    → step c (withValue w r) st ≡ outcomeState (suc (st .last)) w (step c r st)
+unfolding step arrive held
+step-value w c r st h = core-value w c r (arrive c r st) h
 
 -- the last version issued behind a change: only what is stored gets one
 abbrev lastBehind : Change → ℕ → ℕ
@@ -129,7 +147,8 @@ last-step n empty = inl refl
 module _ (c : Context) (r : Request) (st : State) (a : Answer) (t : State) (e : step c r st ≡ answered a t) where
   -- a step that is answered issues a version if it stores, and none if it removes, clears or keeps
   pub issues-by : t .last ≡ lastBehind (planned r st .change) (st .last)
-  issues-by = rw (did c r st a t e .state) (last-changed c r st (planned r st .change))
+  unfolding arrive planned held
+  issues-by = rw (did c r st a t e .state) (last-changed c r (arrive c r st) (planned r st .change))
 
   -- so it issues none, or the next one
   pub issues : (t .last ≡ st .last) ⊎ (t .last ≡ suc (st .last))

@@ -14,12 +14,13 @@ use Rattle.message.specs.Request.{Request, request}
 use Rattle.wire.proofs.Basics.{pick}
 use Rattle.message.proofs.Sizes.{small}
 use Rattle.map.specs.State.{Entry, State, find, without}
-use Rattle.map.specs.Step.{mostKeys, lastVersion, Context, Change, keep, store, drop, empty, Answer, answered, entry, stored, dropped, emptied, isNone, names, held, full, planned, step}
+use Rattle.map.specs.Step.{mostKeys, lastVersion, Context, Change, keep, store, drop, empty, Answer, answered, entry, stored, dropped, emptied, isNone, names, held, full, planned, arrive, step}
 use Rattle.map.specs.Table.{Each, Sizes, OtherKey, OtherVersion, Issued, IsTable, Ascending}
 use Rattle.map.proofs.Each.{each-map, each-without, pairs-without, each-left, each-add, pairs-add}
 use Rattle.map.proofs.Answered.{changed, did}
 use Rattle.wire.proofs.SameLaws.{other-differ}
 use Rattle.map.proofs.Deadline.{deadline-most}
+use Rattle.map.proofs.Counting.{arrive-table}
 
 -- no entry is above the last version
 pub below : (st : State) → IsTable st → Each (λ e. e .version ≤ st .last) (st .entries)
@@ -82,6 +83,7 @@ module _ (c : Context) (r : Request) (st : State) (s : IsTable st) where
         versions = pairs-without p OtherVersion (st .entries) (s .versions);
         issued = rest-issued;
         last = s .last;
+        counts = s .counts;
       }
 
   module _ (fits : Sizes (entry c r (suc (st .last)))) where
@@ -102,6 +104,7 @@ module _ (c : Context) (r : Request) (st : State) (s : IsTable st) where
               (each-map (Issued (st .last)) (Issued (suc (st .last))) (λ e i. (i .0, omega (arith, i .1))) rest rest-issued)
               (omega arith, omega arith);
           last = l;
+          counts = s .counts;
         }
 
     table-changed : (d : Change) → (d ≡ store → (full r st ≡ false) × (st .last < lastVersion)) → IsTable (changed c r st d)
@@ -109,7 +112,7 @@ module _ (c : Context) (r : Request) (st : State) (s : IsTable st) where
     table-changed keep h = s
     table-changed store h = let g = h refl in stored-table (g .0) (g .1)
     table-changed drop h = rest-table
-    table-changed empty h = record { few = zero-le; keys = tt; sizes = tt; versions = tt; issued = tt; last = s .last }
+    table-changed empty h = record { few = zero-le; keys = tt; sizes = tt; versions = tt; issued = tt; last = s .last; counts = s .counts }
 
   module _ (o : Ascending (st .entries)) where
     rest-order : Ascending rest
@@ -124,14 +127,19 @@ module _ (c : Context) (r : Request) (st : State) (s : IsTable st) where
     order-changed drop = rest-order
     order-changed empty = tt
 
-  module _ (a : Answer) (t : State) (e : step c r st ≡ answered a t) where
-    keeps-order : Ascending (st .entries) → Ascending (t .entries)
-    keeps-order o = rw (did c r st a t e .state) (order-changed o (planned r st .change))
+module _ (c : Context) (r : Request) (st : State) (s : IsTable st) (a : Answer) (t : State) (e : step c r st ≡ answered a t) where
+  keeps-order : Ascending (st .entries) → Ascending (t .entries)
+  unfolding arrive
+  keeps-order o =
+      rw (did c r st a t e .state)
+      (order-changed c r (arrive c r st) (arrive-table c r st s) o (planned r (arrive c r st) .change))
 
-    pub keeps-table : Valid request r → c .second < 0x1_0000_0000 → IsTable t
-    keeps-table v h =
-        let d = did c r st a t e in
-        rw (d .state) (table-changed (entry-sizes c r (suc (st .last)) v h) (planned r st .change) (d .room))
+  pub keeps-table : Valid request r → c .second < 0x1_0000_0000 → IsTable t
+  unfolding arrive
+  keeps-table v h =
+      let d = did c r st a t e in
+      rw (d .state)
+      (table-changed c r (arrive c r st) (arrive-table c r st s) (entry-sizes c r (suc (st .last)) v h) (planned r (arrive c r st) .change) (d .room))
 
-    pub keeps : Valid request r → c .second < 0x1_0000_0000 → Ascending (st .entries) → IsTable t × Ascending (t .entries)
-    keeps v h o = (keeps-table v h, keeps-order o)
+  pub keeps : Valid request r → c .second < 0x1_0000_0000 → Ascending (st .entries) → IsTable t × Ascending (t .entries)
+  keeps v h o = (keeps-table v h, keeps-order o)

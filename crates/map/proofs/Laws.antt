@@ -35,7 +35,7 @@ module _ (p : Entry → Bool) where
       go true i ih = rw (h e i, ih)
       go false i ih = rw ih
 
-  find-none : (es : List Entry) → Each (λ e. p e ≡ false) es → find p es ≡ none
+  pub find-none : (es : List Entry) → Each (λ e. p e ≡ false) es → find p es ≡ none
   unfolding find
   find-none [] h = refl
   find-none (e ∷ es) h = rw (h .0, find-none es (h .1))

@@ -1,9 +1,11 @@
 pub mod Each
 pub mod Finding
 pub mod Answered
+pub mod Counting
 pub mod Commute
 pub mod Laws
 pub mod Deadline
+pub mod CountLaws
 pub mod Keeps
 pub mod Order
 pub mod Sent

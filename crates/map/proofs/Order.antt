@@ -8,10 +8,11 @@ use lib.ListN.{length}
 use lib.Dec.{ltb}
 use Rattle.message.specs.Request.{Request, isEmpty}
 use Rattle.map.specs.State.{Entry, State, find, without, hasKey}
-use Rattle.map.specs.Step.{Context, Change, keep, store, drop, empty, Answer, Outcome, lastVersion, stored, dropped, emptied, names, held, full, planned, answer, act, step}
+use Rattle.map.specs.Step.{Context, Change, keep, store, drop, empty, Answer, Outcome, lastVersion, stored, dropped, emptied, names, held, full, planned, statistics, answer, act, core, arrive, step}
 use Rattle.map.specs.Table.{Each, Pairs, OtherKey, IsTable}
 use Rattle.map.specs.Order.{SameState, SameOutcome}
 use Rattle.wire.proofs.SameLaws.{same-true}
+use Rattle.map.proofs.Counting.{arrive-table}
 
 -- what is said of each entry, or of each two in either order, is said of a list in any order
 same-each : (P : Entry → Type 0) {es fs : List Entry} → Perm es fs → Each P es → Each P fs
@@ -92,27 +93,39 @@ module _ (c : Context) (r : Request) (st us : State) (s : SameState st us) (h : 
   unfolding planned
   same-planned = rw same-held
 
-  same-answer : answer r st ≡ answer r us
+  same-statistics : statistics c st ≡ statistics c us
+  unfolding statistics
+  same-statistics = rw (s .history, same-length (s .entries))
+
+  same-answer : answer c r st ≡ answer c r us
   unfolding answer
-  same-answer = rw (same-planned, same-held)
+  same-answer = rw (same-planned, same-held, same-statistics)
 
   same-rest : Perm (without (names r) (st .entries)) (without (names r) (us .entries))
   same-rest = same-without (names r) (s .entries)
 
   same-stored : SameState (stored c r st) (stored c r us)
   unfolding stored
-  same-stored = rw (s .last) (record { entries = Permᴰ·append-right _ same-rest; last = refl })
+  same-stored = rw (s .last) (record { entries = Permᴰ·append-right _ same-rest; last = refl; history = s .history })
 
   same-act : (a : Answer) (d : Change) → SameOutcome (act c r st a d) (act c r us a d)
   unfolding act dropped emptied
   same-act a keep = (refl, s)
-  same-act a drop = (refl, record { entries = same-rest; last = s .last })
-  same-act a empty = (refl, record { entries = nil; last = s .last })
+  same-act a drop = (refl, record { entries = same-rest; last = s .last; history = s .history })
+  same-act a empty = (refl, record { entries = nil; last = s .last; history = s .history })
   same-act a store =
       let e : ltb (st .last) lastVersion ≡ ltb (us .last) lastVersion = rw (s .last) in
       rw (same-full, e)
       (same-if (full r us) _ _ _ _ refl (same-if (ltb (us .last) lastVersion) _ _ _ _ (refl, same-stored) refl))
 
-  pub order : SameOutcome (step c r st) (step c r us)
-  unfolding step
-  order = rw (same-planned, same-answer) (same-if (isEmpty (r .name)) _ _ _ _ (same-act (answer r us) (planned r us .change)) refl)
+  core-order : SameOutcome (core c r st) (core c r us)
+  unfolding core
+  core-order = rw (same-planned, same-answer) (same-if (isEmpty (r .name)) _ _ _ _ (same-act (answer c r us) (planned r us .change)) refl)
+
+  same-arrive : SameState (arrive c r st) (arrive c r us)
+  unfolding arrive
+  same-arrive = rw (same-held, s .history) (record { entries = s .entries; last = s .last; history = refl })
+
+pub order : (c : Context) (r : Request) (st us : State) → SameState st us → IsTable st → SameOutcome (step c r st) (step c r us)
+unfolding step
+order c r st us s h = core-order c r (arrive c r st) (arrive c r us) (same-arrive c r st us s h) (arrive-table c r st h)

@@ -8,7 +8,7 @@ use lib.Dec.{eqb}
 use Rattle.wire.specs.Number.{vInt}
 use Rattle.message.specs.Request.{Request}
 use Rattle.map.specs.State.{Entry}
-use Rattle.map.specs.Step.{Shown, nothing, noValue, value, versioned, Answer}
+use Rattle.map.specs.Step.{Shown, nothing, noValue, value, versioned, counted, Answer}
 use Rattle.map.specs.Reply.{Piece, fixed, held, bytes, flat, sized, shownPieces, pieces}
 use Rattle.map.specs.Revalue.{entryWith, shownWith, answerWith, pieceWith, piecesWith}
 
@@ -31,6 +31,7 @@ module _ (v : ℕ) (u w : List ℕ) (len : length w ≡ length u) where
   shown-with noValue h = refl
   shown-with (value e) h = sized-with e (cc)
   shown-with (versioned e) h = ap₂ _∷_ refl (sized-with e (cc))
+  shown-with (counted ns) h = refl
 
   -- an answer whose value of the entry of version v is u, and that answer with w for it
   pub pieces-with : (r : Request) (a : Answer) → answerWith v u a ≡ a → pieces r (answerWith v w a) ≡ piecesWith v w (pieces r a)

@@ -1,6 +1,8 @@
+pub mod History
 pub mod State
 pub mod Step
 pub mod Table
+pub mod Counted
 pub mod Issued
 pub mod Reply
 pub mod Revalue

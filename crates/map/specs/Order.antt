@@ -8,6 +8,7 @@ use Rattle.map.specs.Step.{Outcome, refused, answered}
 pub record SameState (st tt : State) : Type 0 where
   pub entries : List·Permᴰ (st .entries) (tt .entries)
   pub last : st .last ≡ tt .last
+  pub history : st .history ≡ tt .history
 
 abbrev pub SameOutcome : Outcome → Outcome → Type 0
 SameOutcome (refused k) (refused j) = k ≡ j

@@ -4,13 +4,14 @@ use Prim.Native.Nat.{ℕ, _+_}
 use lib.ListN.{length}
 use Rattle.wire.specs.Number.{vInt, vLong}
 use Rattle.wire.specs.Field.{entryVersion}
+use Rattle.statistics.specs.Statistics as stats
 use Rattle.message.specs.Operation.{codeOf}
 use Rattle.message.specs.Request.{Request}
 use Rattle.message.specs.Reply as message
 use Rattle.message.specs.declared.Asked.{Asked}
 use Rattle.message.specs.Reply.{asked}
 use Rattle.map.specs.State.{Entry}
-use Rattle.map.specs.Step.{Shown, nothing, noValue, value, versioned, Answer, wantsOld}
+use Rattle.map.specs.Step.{Shown, nothing, noValue, value, versioned, counted, Answer, wantsOld}
 
 -- what was asked by a request
 abbrev pub askedBy : Request → Asked
@@ -21,17 +22,30 @@ entryOf nothing = 0
 entryOf noValue = 0
 entryOf (value e) = 0
 entryOf (versioned e) = e .version
+entryOf (counted ns) = 0
 
 abbrev pub valueOf : Shown → List ℕ
 valueOf nothing = []
 valueOf noValue = []
 valueOf (value e) = e .value
 valueOf (versioned e) = e .value
+valueOf (counted ns) = []
+
+abbrev pub numbersOf : Shown → List ℕ
+numbersOf nothing = []
+numbersOf noValue = []
+numbersOf (value e) = []
+numbersOf (versioned e) = []
+numbersOf (counted ns) = ns
+
+-- what a reply carries
+abbrev pub payloadOf : Shown → message.Payload
+payloadOf s = record { entryVersion = entryOf s; value = valueOf s; text = []; statistics = numbersOf s }
 
 -- the reply to a request
 abbrev pub replyTo : Request → Answer → message.Reply
 replyTo r a =
-    record { id = r .id; op = codeOf (r .op) + 1; status = a .status; payload = message.payload (entryOf (a .shown)) (valueOf (a .shown)) [] }
+    record { id = r .id; op = codeOf (r .op) + 1; status = a .status; payload = payloadOf (a .shown) }
 
 pub data Piece : Type 0 where
   fixed : List ℕ → Piece
@@ -54,6 +68,7 @@ shownPieces nothing = []
 shownPieces noValue = fixed (0 ∷ []) ∷ []
 shownPieces (value e) = sized e
 shownPieces (versioned e) = fixed (entryVersion .enc (e .version)) ∷ sized e
+shownPieces (counted ns) = fixed (stats.statistics .enc ns) ∷ []
 
 -- magic, message id, operation, status and marker, and what is shown: the law `pieces-reply` says that these are the bytes of `replyTo`
 unfoldable pub pieces : Request → Answer → List Piece

@@ -6,7 +6,7 @@ use Prim.Native.Nat.{ℕ}
 use lib.Dec.{eqb}
 use Rattle.map.specs.State.{Entry, State, withEntries}
 use Rattle.map.specs.Reply.{Piece, fixed, held}
-use Rattle.map.specs.Step.{Shown, nothing, noValue, value, versioned, Answer, Outcome, refused, answered}
+use Rattle.map.specs.Step.{Shown, nothing, noValue, value, versioned, counted, Answer, Outcome, refused, answered}
 
 module _ (v : ℕ) (w : List ℕ) where
   abbrev pub entryWith : Entry → Entry
@@ -28,6 +28,7 @@ module _ (v : ℕ) (w : List ℕ) where
   shownWith noValue = noValue
   shownWith (value e) = value (entryWith e)
   shownWith (versioned e) = versioned (entryWith e)
+  shownWith (counted ns) = counted ns
 
   unfoldable pub answerWith : Answer → Answer
   answerWith a = record { status = a .status; shown = shownWith (a .shown) }

@@ -4,6 +4,7 @@ use mathlib.Core.Bool.{Bool, cond}
 use mathlib.Core.Option.{Option, none, some}
 use Prim.Native.Nat.{ℕ}
 use Rattle.wire.specs.Same.{sameList}
+use Rattle.map.specs.History.{History, noHistory}
 
 -- "Each entry has key, value, entry version and deadline."
 pub record Entry : Type 0 where
@@ -12,18 +13,25 @@ pub record Entry : Type 0 where
   pub version : ℕ
   pub deadline : ℕ
 
--- the entries, which a table lists ascending by version (`Ascending` in Table.antt), and the last version issued
+-- the entries, which a table lists ascending by version (`Ascending` in Table.antt), the last version issued, and what was counted
 pub record State : Type 0 where
   pub entries : List Entry
   pub last : ℕ
+  pub history : History
 
--- the state with other entries
+-- the state with other entries, another last version, another history
 abbrev pub withEntries : List Entry → State → State
-withEntries es st = record { entries = es; last = st .last }
+withEntries es st = record { entries = es; last = st .last; history = st .history }
+
+abbrev pub withLast : ℕ → State → State
+withLast n st = record { entries = st .entries; last = n; history = st .history }
+
+abbrev pub withHistory : History → State → State
+withHistory h st = record { entries = st .entries; last = st .last; history = h }
 
 -- "The table holds the last version issued, 0 when fresh."
 abbrev pub fresh : State
-fresh = record { entries = []; last = 0 }
+fresh = record { entries = []; last = 0; history = noHistory }
 
 -- the first entry that passes a test
 unfoldable pub find : (Entry → Bool) → List Entry → Option Entry

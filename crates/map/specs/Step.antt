@@ -2,16 +2,17 @@
 use mathlib.Core.List.{List, [], _∷_, _++_}
 use mathlib.Core.Bool.{Bool, true, false, cond, _&&_}
 use mathlib.Core.Option.{Option, none, some}
-use Prim.Native.Nat.{ℕ, suc, _+_, _/_, _%_}
+use Prim.Native.Nat.{ℕ, suc, _+_, _-_, _/_, _%_}
 use lib.ListN.{length}
 use lib.Dec.{eqb, leb, ltb}
 use Rattle.message.specs.declared.Operation.{Operation}
-use Rattle.message.specs.declared.Operation.the-variants.{Put, Get, PutIfAbsent, Replace, ReplaceIfUnmodified, Remove, RemoveIfUnmodified, ContainsKey, GetWithVersion, Clear, Ping}
+use Rattle.message.specs.declared.Operation.the-variants.{Put, Get, PutIfAbsent, Replace, ReplaceIfUnmodified, Remove, RemoveIfUnmodified, ContainsKey, GetWithVersion, Clear, Stats, Ping}
 use Rattle.message.specs.Request.{Request, isEmpty}
 use Rattle.message.specs.declared.Form.{Form}
 use Rattle.message.specs.declared.Form.the-variants as form
 use Rattle.message.specs.Reply.{formOf, bodyAt, allowed, table}
-use Rattle.map.specs.State.{Entry, State, withEntries, find, without, hasKey}
+use Rattle.map.specs.History.{tally, startOf}
+use Rattle.map.specs.State.{Entry, State, withEntries, withLast, withHistory, find, without, hasKey}
 
 -- "A served table has at most 128 keys."
 abbrev pub mostKeys : ℕ
@@ -58,24 +59,27 @@ plan Get v h = ifHeld h (plans 0x00 keep) (plans 0x02 keep)
 plan GetWithVersion v h = ifHeld h (plans 0x00 keep) (plans 0x02 keep)
 plan ContainsKey v h = ifHeld h (plans 0x00 keep) (plans 0x02 keep)
 plan Clear v h = plans 0x00 empty
+plan Stats v h = plans 0x00 keep
 plan Ping v h = plans 0x00 keep
 
--- what a reply shows: nothing, length 0, the value of an entry, or its version and value
+-- what a reply shows: nothing, length 0, the value of an entry, its version and value, or the statistics
 pub data Shown : Type 0 where
   nothing : Shown
   noValue : Shown
   value : Entry → Shown
   versioned : Entry → Shown
+  counted : List ℕ → Shown
 
 -- What a reply of the form shows of the entry held before the step: "length and bytes held before the call, or length 0 if the key was absent". A value of at
 -- most 0 bytes is length 0.
-unfoldable pub shows : Form → Option Entry → Shown
-shows form.Nothing f = nothing
-shows (form.Value lim) none = noValue
-shows (form.Value lim) (some e) = cond (eqb lim 0) noValue (value e)
-shows form.Versioned none = nothing
-shows form.Versioned (some e) = versioned e
-shows form.Text f = nothing
+unfoldable pub shows : Form → List ℕ → Option Entry → Shown
+shows form.Nothing ns f = nothing
+shows (form.Value lim) ns none = noValue
+shows (form.Value lim) ns (some e) = cond (eqb lim 0) noValue (value e)
+shows form.Versioned ns none = nothing
+shows form.Versioned ns (some e) = versioned e
+shows form.Statistics ns f = counted ns
+shows form.Text ns f = nothing
 
 pub record Answer : Type 0 where
   pub status : ℕ
@@ -113,7 +117,7 @@ names r = hasKey (r .args .key)
 
 -- "'stored', or a put, sets the key's entry to the value, the next version and the deadline"
 unfoldable pub stored : Context → Request → State → State
-stored c r st = record { entries = without (names r) (st .entries) ++ (entry c r (suc (st .last)) ∷ []); last = suc (st .last) }
+stored c r st = withLast (suc (st .last)) (withEntries (without (names r) (st .entries) ++ (entry c r (suc (st .last)) ∷ [])) st)
 
 -- "'removed' drops it"
 unfoldable pub dropped : Request → State → State
@@ -142,11 +146,16 @@ full r st = isNone (held r st) && leb mostKeys (length (st .entries))
 unfoldable pub planned : Request → State → Plan
 planned r st = plan (r .op) (r .args .entryVersion) (versionOf (held r st))
 
-unfoldable pub answer : Request → State → Answer
-answer r st =
+-- The statistics: "timeSinceStart is the call's second less that of the first call served, 0 if it is that call or the clock went back", "currentNumberOfEntries
+-- the keys held", and the counts. A call that is served has set the first second before (`arrive`).
+unfoldable pub statistics : Context → State → List ℕ
+statistics c st = (c .second - startOf (st .history .first) (c .second)) ∷ length (st .entries) ∷ st .history .counts
+
+unfoldable pub answer : Context → Request → State → Answer
+answer c r st =
     record {
       status = planned r st .status;
-      shown = shows (formOf (wantsOld r) (allowed (bodyAt (planned r st .status) (table (r .op))))) (held r st);
+      shown = shows (formOf (wantsOld r) (allowed (bodyAt (planned r st .status) (table (r .op))))) (statistics c st) (held r st);
     }
 
 -- "11: the write would take effect and no version is left"
@@ -157,8 +166,22 @@ act c r st a empty = answered a (emptied st)
 act c r st a store = cond (full r st) (refused 10) (cond (ltb (st .last) lastVersion) (answered a (stored c r st)) (refused 11))
 
 -- "9: cache name not empty"
+unfoldable pub core : Context → Request → State → Outcome
+core c r st = cond (isEmpty (r .name)) (act c r st (answer c r st) (planned r st .change)) (refused 9)
+
+-- What a call that is served does before its step: it is counted, and it is the first one where none was served before.
+unfoldable pub arrive : Context → Request → State → State
+arrive c r st =
+    withHistory
+    (record {
+      first = some (startOf (st .history .first) (c .second));
+      counts = tally (r .op) (isNone (held r st)) (st .history .counts);
+    })
+    st
+
+-- A step. "A call refused isn't served": where the step is refused, the state stays the one before `arrive` (`stateAfter`).
 unfoldable pub step : Context → Request → State → Outcome
-step c r st = cond (isEmpty (r .name)) (act c r st (answer r st) (planned r st .change)) (refused 9)
+step c r st = core c r (arrive c r st)
 
 -- "A step refused 9, 10 or 11 changes nothing."
 abbrev pub stateAfter : State → Outcome → State

@@ -3,9 +3,10 @@ use mathlib.Core.Path.{_≡_}
 use mathlib.Core.List.{List, [], _∷_}
 use mathlib.Core.Bool.{true}
 use Prim.Native.Nat.{ℕ, _≤_, _<_}
-use lib.ListN.{length}
+use lib.ListN.{length, getD}
 use Rattle.wire.specs.Codec.{isBytes}
 use Rattle.message.specs.Request.{keyLimit, valueLimit}
+use Rattle.map.specs.History.{History, countsHeld, mostCount}
 use Rattle.map.specs.State.{Entry, State}
 use Rattle.map.specs.Step.{mostKeys, lastVersion}
 
@@ -41,6 +42,11 @@ OtherVersion e f = e .version ≡ f .version → ⊥
 abbrev pub Issued : ℕ → Entry → Type 0
 Issued last e = (1 ≤ e .version) × (e .version ≤ last)
 
+-- the counts of a table: "13 for a greater count"; how they stand to each other and to the first second is free
+pub record Counts (h : History) : Type 0 where
+  pub long : length (h .counts) ≡ countsHeld
+  pub most : (i : ℕ) → getD (h .counts) i 0 ≤ mostCount
+
 pub record IsTable (st : State) : Type 0 where
   -- "at most 128 keys are held"
   pub few : length (st .entries) ≤ mostKeys
@@ -53,6 +59,7 @@ pub record IsTable (st : State) : Type 0 where
   pub issued : Each (Issued (st .last)) (st .entries)
   -- "that one within its limit"
   pub last : st .last ≤ lastVersion
+  pub counts : Counts (st .history)
 
 -- the order in which a state lists its entries: versions ascend
 abbrev pub Ascending : List Entry → Type 0

@@ -9,7 +9,7 @@ use borrow.Author.Tests.{eqb-true}
 use Rattle.wire.proofs.Laws.{never}
 use Rattle.wire.proofs.Basics.{pick}
 use Rattle.message.specs.declared.Operation.{Operation}
-use Rattle.message.specs.declared.Operation.the-variants.{Put, Get, PutIfAbsent, Replace, ReplaceIfUnmodified, Remove, RemoveIfUnmodified, ContainsKey, GetWithVersion, Clear, Ping}
+use Rattle.message.specs.declared.Operation.the-variants.{Put, Get, PutIfAbsent, Replace, ReplaceIfUnmodified, Remove, RemoveIfUnmodified, ContainsKey, GetWithVersion, Clear, Stats, Ping}
 use Rattle.message.specs.Operation.{codeOf, findCode, isKnown, known}
 use Rattle.message.specs.Edition.{Edition, editionOf, isServed, served}
 use Rattle.message.specs.Request.{opFits, isVersion, editionAt}
@@ -58,4 +58,5 @@ code-small RemoveIfUnmodified = lit< tt
 code-small ContainsKey = lit< tt
 code-small GetWithVersion = lit< tt
 code-small Clear = lit< tt
+code-small Stats = lit< tt
 code-small Ping = lit< tt

@@ -2,7 +2,7 @@
 use mathlib.Core.Path.{_≡_, refl, sym, ap₂}
 use mathlib.Core.List.{List, []}
 use mathlib.Core.Option.{Option, none, some}
-use mathlib.Core.Bool.{Bool, _&&_}
+use mathlib.Core.Bool.{Bool, true, _&&_}
 use Prim.Native.Nat.{ℕ}
 use lib.Dec.{eqb}
 use borrow.Author.Tests.{eqb-true}
@@ -12,46 +12,71 @@ use Rattle.wire.proofs.Laws.{Laws, both, seq-valid, guard-valid, seq-laws, guar
 use Rattle.wire.proofs.NumberLaws.{vLong-laws}
 use Rattle.wire.proofs.FieldLaws.{big-laws, limited-laws}
 use Rattle.field.specs.FieldRead.{limitedText}
+use Rattle.statistics.specs.Statistics.{statistics}
+use Rattle.statistics.proofs.StatisticsLaws.{statistics-laws}
 use Rattle.message.specs.declared.Operation.{Operation}
 use Rattle.message.specs.declared.Form.{Form}
 use Rattle.message.specs.declared.Form.the-variants as form
 use Rattle.message.specs.declared.Asked.{Asked}
 use Rattle.message.specs.Operation.{findCode}
 use Rattle.message.specs.Request.{valueLimit}
-use Rattle.message.specs.Reply.{textLimit, Body, bodyAt, isAllowed, allowed, Payload, payload, noEntry, noValue, noText, noBody, valueBody, versionedBody, textBody, fieldsOf, formOf, Fields, fields, toReply, fromReply, message, isAwaited, rowsOf, replyTo, reply}
+use Rattle.message.specs.Reply.{textLimit, Body, bodyAt, isAllowed, allowed, Payload, payload, counted, noEntry, noValue, noText, noStatistics, noBody, valueBody, versionedBody, textBody, statisticsBody, fieldsOf, formOf, Fields, fields, toReply, fromReply, message, isAwaited, rowsOf, replyTo, reply}
 use Rattle.message.proofs.RequestLaws.{is-empty, is-zero, text-laws}
 
 -- what a reply carries
-same-payload : (p : Payload) {e : ℕ} {v t : List ℕ} → e ≡ p .entryVersion → v ≡ p .value → t ≡ p .text → payload e v t ≡ p
-same-payload p q r s = rw (q, r, s)
+same-all : (p : Payload) {e : ℕ} {v t ns : List ℕ} → e ≡ p .entryVersion → v ≡ p .value → t ≡ p .text → ns ≡ p .statistics
+    → _≡_ {A = Payload} (record { entryVersion = e; value = v; text = t; statistics = ns }) p
+same-all p q r s n = rw (q, r, s, n)
+
+same-payload : (p : Payload) {e : ℕ} {v t : List ℕ} → noStatistics p ≡ true → e ≡ p .entryVersion → v ≡ p .value → t ≡ p .text → payload e v t ≡ p
+same-payload p n q r s = same-all p q r s (is-empty (p .statistics) n)
 
 noBody-laws : Laws noBody
 unfolding noBody
 noBody-laws =
-    type-laws (λ p. noEntry p && (noValue p && noText p)) (λ u. payload 0 [] []) (λ p. tt) empty empty-laws
+    type-laws (λ p. noStatistics p && (noEntry p && (noValue p && noText p))) (λ u. payload 0 [] []) (λ p. tt) empty empty-laws
     (λ p t.
-    let x = both (noEntry p) (noValue p && noText p) t in
+    let n = both (noStatistics p) (noEntry p && (noValue p && noText p)) t in
+    let x = both (noEntry p) (noValue p && noText p) (n .1) in
     let y = both (noValue p) (noText p) (x .1) in
-    same-payload p (is-zero _ (x .0)) (is-empty _ (y .0)) (is-empty _ (y .1)))
+    same-payload p (n .0) (is-zero _ (x .0)) (is-empty _ (y .0)) (is-empty _ (y .1)))
     (λ u v. (refl, refl))
 
 valueBody-laws : (lim : ℕ) → Laws (valueBody lim)
 unfolding valueBody
 valueBody-laws lim =
-    type-laws (λ p. noEntry p && noText p) (λ v. payload 0 v []) (λ p. p .value) (limited lim) (limited-laws lim)
-    (λ p t. let x = both (noEntry p) (noText p) t in same-payload p (is-zero _ (x .0)) refl (is-empty _ (x .1))) (λ s v. (refl, refl))
+    type-laws (λ p. noStatistics p && (noEntry p && noText p)) (λ v. payload 0 v []) (λ p. p .value) (limited lim) (limited-laws lim)
+    (λ p t.
+    let n = both (noStatistics p) (noEntry p && noText p) t in
+    let x = both (noEntry p) (noText p) (n .1) in
+    same-payload p (n .0) (is-zero _ (x .0)) refl (is-empty _ (x .1)))
+    (λ s v. (refl, refl))
 
 versionedBody-laws : Laws versionedBody
 unfolding versionedBody
 versionedBody-laws =
-    type-laws noText (λ p. payload (p .0) (p .1) []) (λ p. (p .entryVersion, p .value)) (seq entryVersion λ _. limited valueLimit)
-    (seq-laws _ _ (big-laws 8) λ _. limited-laws valueLimit) (λ p t. same-payload p refl refl (is-empty _ t)) (λ s v. (refl, refl))
+    type-laws (λ p. noStatistics p && noText p) (λ p. payload (p .0) (p .1) []) (λ p. (p .entryVersion, p .value)) (seq entryVersion λ _. limited valueLimit)
+    (seq-laws _ _ (big-laws 8) λ _. limited-laws valueLimit) (λ p t. let n = both (noStatistics p) (noText p) t in same-payload p (n .0) refl refl (is-empty _ (n .1))) (λ s v. (refl, refl))
 
 textBody-laws : Laws textBody
 unfolding textBody
 textBody-laws =
-    type-laws (λ p. noEntry p && noValue p) (λ t. payload 0 [] t) (λ p. p .text) (limitedText textLimit) (text-laws textLimit)
-    (λ p t. let x = both (noEntry p) (noValue p) t in same-payload p (is-zero _ (x .0)) (is-empty _ (x .1)) refl) (λ s v. (refl, refl))
+    type-laws (λ p. noStatistics p && (noEntry p && noValue p)) (λ t. payload 0 [] t) (λ p. p .text) (limitedText textLimit) (text-laws textLimit)
+    (λ p t.
+    let n = both (noStatistics p) (noEntry p && noValue p) t in
+    let x = both (noEntry p) (noValue p) (n .1) in
+    same-payload p (n .0) (is-zero _ (x .0)) (is-empty _ (x .1)) refl)
+    (λ s v. (refl, refl))
+
+statisticsBody-laws : Laws statisticsBody
+unfolding statisticsBody
+statisticsBody-laws =
+    type-laws (λ p. noEntry p && (noValue p && noText p)) counted (λ p. p .statistics) statistics statistics-laws
+    (λ p t.
+    let x = both (noEntry p) (noValue p && noText p) t in
+    let y = both (noValue p) (noText p) (x .1) in
+    same-all p (is-zero _ (x .0)) (is-empty _ (y .0)) (is-empty _ (y .1)) refl)
+    (λ s v. (refl, refl))
 
 fieldsOf-laws : (f : Form) → Laws (fieldsOf f)
 unfolding fieldsOf
@@ -59,6 +84,7 @@ fieldsOf-laws form.Nothing = noBody-laws
 fieldsOf-laws (form.Value lim) = valueBody-laws lim
 fieldsOf-laws form.Versioned = versionedBody-laws
 fieldsOf-laws form.Text = textBody-laws
+fieldsOf-laws form.Statistics = statisticsBody-laws
 
 -- a message, whatever operations may come and whatever their rows are
 module _ (comes : ℕ → Bool) (rows : ℕ → List (ℕ × Body)) (flag : Bool) where

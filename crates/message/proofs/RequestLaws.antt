@@ -18,7 +18,7 @@ use Rattle.wire.proofs.FieldLaws.{big-laws, limited-laws}
 use Rattle.text.specs.Text.{isText}
 use Rattle.field.specs.FieldRead.{limitedText}
 use Rattle.message.specs.declared.Operation.{Operation}
-use Rattle.message.specs.declared.Operation.the-variants.{Put, Get, PutIfAbsent, Replace, ReplaceIfUnmodified, Remove, RemoveIfUnmodified, ContainsKey, GetWithVersion, Clear, Ping}
+use Rattle.message.specs.declared.Operation.the-variants.{Put, Get, PutIfAbsent, Replace, ReplaceIfUnmodified, Remove, RemoveIfUnmodified, ContainsKey, GetWithVersion, Clear, Stats, Ping}
 use Rattle.message.specs.Operation.{codeOf, findCode, isKnown, known}
 use Rattle.message.specs.Edition.{Edition}
 use Rattle.message.specs.Request.{nameLimit, keyLimit, valueLimit, Shape, keyed, writes, writesIf, keyedIf, bare, shapeOf, Args, args, isEmpty, noTimes, noEntry, noValue, argsOf, opFits, operation, transaction, Fields, isVersion, editionAt, fields, toRequest, fromRequest, request}
@@ -36,6 +36,7 @@ code-found RemoveIfUnmodified = refl
 code-found ContainsKey = refl
 code-found GetWithVersion = refl
 code-found Clear = refl
+code-found Stats = refl
 code-found Ping = refl
 
 -- a code that is known is that of the operation found
@@ -49,10 +50,13 @@ coded : (n : ℕ) → Coded n (findCode n)
 unfolding findCode
 coded n =
     or n Put (or n Get (or n PutIfAbsent (or n Replace (or n ReplaceIfUnmodified (or n Remove (or n RemoveIfUnmodified (or n ContainsKey (or n GetWithVersion
-    (or n Clear (or n Ping (record { is = λ e. never (cc) })))))))))))
+    (or n Clear (or n Stats (or n Ping (record { is = λ e. never (cc) }))))))))))))
 
 known-code : (n : ℕ) → isKnown (findCode n) ≡ true → codeOf (known (findCode n)) ≡ n
 known-code n = coded n .is
+
+pub found-code : (n : ℕ) (o : Operation) → findCode n ≡ some o → codeOf o ≡ n
+found-code n o e = rw e at (known-code n (rw e))
 
 pub operation-laws : (e : Edition) → Laws (operation e)
 unfolding operation

@@ -4,7 +4,7 @@ use mathlib.Core.Bool.{Bool, true, false, cond}
 use Prim.Native.Nat.{ℕ}
 use lib.Dec.{eqb}
 use Rattle.message.specs.declared.Operation.{Operation}
-use Rattle.message.specs.declared.Operation.the-variants.{Put, Get, PutIfAbsent, Replace, ReplaceIfUnmodified, Remove, RemoveIfUnmodified, ContainsKey, GetWithVersion, Clear, Ping}
+use Rattle.message.specs.declared.Operation.the-variants.{Put, Get, PutIfAbsent, Replace, ReplaceIfUnmodified, Remove, RemoveIfUnmodified, ContainsKey, GetWithVersion, Clear, Stats, Ping}
 use Rattle.message.specs.declared.Found.{Found}
 use Rattle.message.specs.declared.Found.the-variants as f
 
@@ -19,6 +19,7 @@ codeOf RemoveIfUnmodified = 0x0d
 codeOf ContainsKey = 0x0f
 codeOf GetWithVersion = 0x11
 codeOf Clear = 0x13
+codeOf Stats = 0x15
 codeOf Ping = 0x17
 
 -- the operation that has a code
@@ -34,7 +35,8 @@ findCode n =
     (cond (eqb n 0x0f) (some ContainsKey)
     (cond (eqb n 0x11) (some GetWithVersion)
     (cond (eqb n 0x13) (some Clear)
-    (cond (eqb n 0x17) (some Ping) none))))))))))
+    (cond (eqb n 0x15) (some Stats)
+    (cond (eqb n 0x17) (some Ping) none)))))))))))
 
 abbrev pub asFound : Found → Option Operation
 asFound (f.Known o) = some o

@@ -8,8 +8,9 @@ use Rattle.wire.specs.Codec.{Codec, empty, refuse, byte, guard, seq, as-type, a
 use Rattle.wire.specs.Number.{vLong}
 use Rattle.wire.specs.Field.{entryVersion, limited}
 use Rattle.field.specs.FieldRead.{partOf, limitedText}
+use Rattle.statistics.specs.Statistics as stats
 use Rattle.message.specs.declared.Operation.{Operation}
-use Rattle.message.specs.declared.Operation.the-variants.{Put, Get, PutIfAbsent, Replace, ReplaceIfUnmodified, Remove, RemoveIfUnmodified, ContainsKey, GetWithVersion, Clear, Ping}
+use Rattle.message.specs.declared.Operation.the-variants.{Put, Get, PutIfAbsent, Replace, ReplaceIfUnmodified, Remove, RemoveIfUnmodified, ContainsKey, GetWithVersion, Clear, Stats, Ping}
 use Rattle.message.specs.declared.Form.{Form}
 use Rattle.message.specs.declared.Form.the-variants as form
 use Rattle.message.specs.declared.Asked.{Asked}
@@ -39,6 +40,8 @@ pub data Body : Type 0 where
   versioned : Body
   -- the text of an error
   text : Body
+  -- the nine statistics
+  statistics : Body
 
 -- The reply table: the statuses that an operation can give, and what follows each. "Where the status says that the key was absent, and at 01 of
 -- the IfUnmodified operations, an old value has length 0."
@@ -53,6 +56,7 @@ table Get = (0x00, value) ∷ (0x02, nothing) ∷ []
 table GetWithVersion = (0x00, versioned) ∷ (0x02, nothing) ∷ []
 table ContainsKey = (0x00, nothing) ∷ (0x02, nothing) ∷ []
 table Clear = (0x00, nothing) ∷ []
+table Stats = (0x00, statistics) ∷ []
 table Ping = (0x00, nothing) ∷ []
 
 -- "An error reply has operation 0x50, status 0x81 to 0x86, then text length and text."
@@ -80,6 +84,7 @@ pub record Payload : Type 0 where
   pub entryVersion : ℕ
   pub value : List ℕ
   pub text : List ℕ
+  pub statistics : List ℕ
 
 -- a reply: a header and a payload
 pub record Reply : Type 0 where
@@ -89,7 +94,10 @@ pub record Reply : Type 0 where
   pub payload : Payload
 
 abbrev pub payload : ℕ → List ℕ → List ℕ → Payload
-payload e v t = record { entryVersion = e; value = v; text = t }
+payload e v t = record { entryVersion = e; value = v; text = t; statistics = [] }
+
+abbrev pub counted : List ℕ → Payload
+counted ns = record { entryVersion = 0; value = []; text = []; statistics = ns }
 
 abbrev pub noEntry : Payload → Bool
 noEntry p = eqb (p .entryVersion) 0
@@ -100,24 +108,31 @@ noValue p = isEmpty (p .value)
 abbrev pub noText : Payload → Bool
 noText p = isEmpty (p .text)
 
+abbrev pub noStatistics : Payload → Bool
+noStatistics p = isEmpty (p .statistics)
+
 unfoldable pub noBody : Codec Payload
-noBody = as-type (λ p. noEntry p && (noValue p && noText p)) (λ u. payload 0 [] []) (λ p. tt) empty
+noBody = as-type (λ p. noStatistics p && (noEntry p && (noValue p && noText p))) (λ u. payload 0 [] []) (λ p. tt) empty
 
 unfoldable pub valueBody : ℕ → Codec Payload
-valueBody lim = as-type (λ p. noEntry p && noText p) (λ v. payload 0 v []) (λ p. p .value) (limited lim)
+valueBody lim = as-type (λ p. noStatistics p && (noEntry p && noText p)) (λ v. payload 0 v []) (λ p. p .value) (limited lim)
 
 unfoldable pub versionedBody : Codec Payload
 versionedBody =
-    as-type noText (λ p. payload (p .0) (p .1) []) (λ p. (p .entryVersion, p .value)) (seq entryVersion λ _. limited valueLimit)
+    as-type (λ p. noStatistics p && noText p) (λ p. payload (p .0) (p .1) []) (λ p. (p .entryVersion, p .value)) (seq entryVersion λ _. limited valueLimit)
 
 unfoldable pub textBody : Codec Payload
-textBody = as-type (λ p. noEntry p && noValue p) (λ t. payload 0 [] t) (λ p. p .text) (limitedText textLimit)
+textBody = as-type (λ p. noStatistics p && (noEntry p && noValue p)) (λ t. payload 0 [] t) (λ p. p .text) (limitedText textLimit)
+
+unfoldable pub statisticsBody : Codec Payload
+statisticsBody = as-type (λ p. noEntry p && (noValue p && noText p)) counted (λ p. p .statistics) stats.statistics
 
 unfoldable pub fieldsOf : Form → Codec Payload
 fieldsOf form.Nothing = noBody
 fieldsOf (form.Value lim) = valueBody lim
 fieldsOf form.Versioned = versionedBody
 fieldsOf form.Text = textBody
+fieldsOf form.Statistics = statisticsBody
 
 -- "Old value is sent only if flag 0x0001 was set"
 abbrev pub oldForm : Bool → ℕ → Form
@@ -131,6 +146,7 @@ formOf flag oldNone = oldForm flag 0
 formOf flag value = form.Value valueLimit
 formOf flag versioned = form.Versioned
 formOf flag text = form.Text
+formOf flag statistics = form.Statistics
 
 abbrev pub Fields : Type 0
 Fields = ℕ × (ℕ × (ℕ × (ℕ × Payload)))
@@ -176,5 +192,16 @@ errorReply = message (λ op. eqb op errorCode) (λ op. errors) false
 abbrev pub replyOf : ReplyHead → List ℕ → List ℕ → Reply
 replyOf a v t = record { id = a .id; op = a .op; status = a .status; payload = payload (a .entry .0) v t }
 
-abbrev pub replyIn : List ℕ → code-reply.Reply → Reply
-replyIn s r = replyOf (r .head) (partOf s (r .value)) (partOf s (r .text))
+-- the reply that an answer tells: its numbers, the parts of the bytes, and the statistics
+abbrev pub replyIn : List ℕ → code-reply.Reply → List ℕ → Reply
+replyIn s r ns =
+    record {
+      id = r .head .id;
+      op = r .head .op;
+      status = r .head .status;
+      payload = record { entryVersion = r .head .entry .0; value = partOf s (r .value); text = partOf s (r .text); statistics = ns };
+    }
+
+-- the stats reply of an id and the nine
+abbrev pub statisticsReply : ℕ → List ℕ → Reply
+statisticsReply id ns = record { id = id; op = codeOf Stats + 1; status = 0x00; payload = counted ns }

@@ -9,7 +9,7 @@ use Rattle.wire.specs.Number.{vInt, vLong}
 use Rattle.wire.specs.Field.{entryVersion, limited}
 use Rattle.field.specs.FieldRead.{partOf, limitedText}
 use Rattle.message.specs.declared.Operation.{Operation}
-use Rattle.message.specs.declared.Operation.the-variants.{Put, Get, PutIfAbsent, Replace, ReplaceIfUnmodified, Remove, RemoveIfUnmodified, ContainsKey, GetWithVersion, Clear, Ping}
+use Rattle.message.specs.declared.Operation.the-variants.{Put, Get, PutIfAbsent, Replace, ReplaceIfUnmodified, Remove, RemoveIfUnmodified, ContainsKey, GetWithVersion, Clear, Stats, Ping}
 use Rattle.message.specs.declared.Head.{Head}
 use Rattle.message.specs.declared.Request as code
 use Rattle.message.specs.Operation.{codeOf, findCode, isKnown, known}
@@ -40,6 +40,7 @@ shapeOf RemoveIfUnmodified = keyedIf
 shapeOf ContainsKey = keyed
 shapeOf GetWithVersion = keyed
 shapeOf Clear = bare
+shapeOf Stats = bare
 shapeOf Ping = bare
 
 -- the arguments; one that is not sent is 0 or empty

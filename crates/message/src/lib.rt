@@ -18,6 +18,7 @@ pub enum Operation {
     ContainsKey,
     GetWithVersion,
     Clear,
+    Stats,
     Ping,
 }
 
@@ -63,12 +64,14 @@ pub struct Reply {
     pub text: Span,
 }
 
-// The fields of a reply's body: none; bytes of at most a length; an entry version and a value; a text.
+// The fields of a reply's body: none; bytes of at most a length; an entry version and a value; a text; the
+// nine statistics.
 pub enum Form {
     Nothing,
     Value(u64),
     Versioned,
     Text,
+    Statistics,
 }
 
 // The largest sizes of a request's name, key and value.
@@ -167,6 +170,7 @@ pub fn code(op: Operation) -> u8
         Operation::ContainsKey => 0x0f,
         Operation::GetWithVersion => 0x11,
         Operation::Clear => 0x13,
+        Operation::Stats => 0x15,
         Operation::Ping => 0x17,
     }
 }
@@ -191,6 +195,7 @@ pub fn find(code: u8) -> Found
         0x0f => Found::Known(Operation::ContainsKey),
         0x11 => Found::Known(Operation::GetWithVersion),
         0x13 => Found::Known(Operation::Clear),
+        0x15 => Found::Known(Operation::Stats),
         0x17 => Found::Known(Operation::Ping),
         _ => Found::Unknown,
     }

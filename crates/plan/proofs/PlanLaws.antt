@@ -8,6 +8,7 @@ use denote.Enum.Declared.{tagOf}
 use Rattle.field.specs.declared.EntryVersion.{EntryVersion}
 use Rattle.map.specs.State.{State}
 use Rattle.map.specs.Step.{versionOf}
+use Rattle.table.specs.Memory.{stateOf}
 use Rattle.table.specs.Found.{entryAt, FoundIs}
 use Rattle.table.specs.declared.Found.the-variants as f
 use Rattle.table.proofs.Keys.{found-held, found-none}
@@ -35,6 +36,12 @@ module _ (t k : List ℕ) {x : Held} where
 pub version-held : (t k : List ℕ) (x : Held) → Holds t k x → heldVersion x ≡ versionOf (heldAt t k)
 version-held t k (h.Row i w) g = rw (row-held t k {x = h.Row i w} refl g, g .1)
 version-held t k h.Absent g = rw (none-held t k {x = h.Absent} refl g)
+
+-- what is held goes by the entries alone
+pub holds-same : (t u k : List ℕ) → stateOf u .entries ≡ stateOf t .entries → (x : Held) → Holds t k x → Holds u k x
+unfolding entryAt
+holds-same t u k e (h.Row i v) g = rw e g
+holds-same t u k e h.Absent g = rw e g
 
 -- a change that is no store is not refused
 pub not-refused : (st : State) (e : Option ℕ) (d : code.Change) → OneOf (0 ∷ 2 ∷ 3 ∷ []) (tagOf change-code.the-type d) → none ≡ refusalOf st e (asChange d)

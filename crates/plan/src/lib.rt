@@ -97,6 +97,7 @@ pub fn plan_of(op: Operation, asked: EntryVersion, held: Held) -> Plan
         Operation::GetWithVersion => if_held(held, kept, missed),
         Operation::ContainsKey => if_held(held, kept, missed),
         Operation::Clear => planned(0x00, Change::Empty),
+        Operation::Stats => kept,
         Operation::Ping => kept,
     }
 }

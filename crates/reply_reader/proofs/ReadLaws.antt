@@ -11,12 +11,12 @@ use Rattle.wire.proofs.Laws.{after-after, after-same}
 use Rattle.wire.proofs.At.{at-seq, at-guard, at-type, at-cond}
 use Rattle.field.specs.FieldRead.{limitedText, between, nowhere, spanTo}
 use Rattle.field.proofs.Parts.{at-between, only}
+use Rattle.statistics.specs.Statistics.{statistics}
 use Rattle.message.specs.Request.{valueLimit}
-use Rattle.message.specs.Reply.{Payload, textLimit, noBody, valueBody, versionedBody, textBody, isAwaited, rowsOf, bodyAt, isAllowed, allowed, fieldsOf, formOf, fields, message}
+use Rattle.message.specs.Reply.{Payload, textLimit, noBody, valueBody, versionedBody, textBody, statisticsBody, isAwaited, rowsOf, bodyAt, isAllowed, allowed, fieldsOf, formOf, fields, message}
 use Rattle.message.specs.declared.Operation.{Operation}
 use Rattle.message.specs.declared.ReplyHead.{ReplyHead}
-use Rattle.message.specs.declared.Reply as code
-use Rattle.reply_reader.specs.ReplyRead.{replyAt, replyWith, headWith, withParts}
+use Rattle.reply_reader.specs.ReplyRead.{Answer, replyAt, replyWith, headWith, withParts, withStatistics}
 
 -- an answer whose entry version is 0
 same-head : (a : ReplyHead) → a .entry .0 ≡ 0 → headWith a 0 ≡ a
@@ -24,7 +24,7 @@ same-head a z = ap (headWith a) (sym z)
 
 -- the bodies, behind a header whose entry version is not read yet
 module _ (s : List ℕ) (at : ℕ) (a : ReplyHead) where
-  abbrev With : Codec Payload → Read code.Reply
+  abbrev With : Codec Payload → Read Answer
   With c = mapped replyAt (after (readAt c s at) (λ p j. whole (replyWith a p) j))
 
   pub with-version : With versionedBody
@@ -45,23 +45,27 @@ module _ (s : List ℕ) (at : ℕ) (a : ReplyHead) where
     unfolding textBody mapped replyAt spanTo
     with-text = simp (at-type, after-after) (after-same (readAt (limitedText textLimit) s at) (λ t j. rw (same-head a z)))
 
+    pub with-statistics : With statisticsBody ≡ after (readAt statistics s at) (λ ns j. whole (withStatistics a ns) j)
+    unfolding statisticsBody mapped replyAt spanTo
+    with-statistics = simp (at-type, after-after) (after-same (readAt statistics s at) (λ ns j. rw (same-head a z)))
+
 module _ (o : Operation) (flag : Bool) (s : List ℕ) where
-  unfoldable pub rest5 : (id op status : ℕ) → ℕ → Read code.Reply
+  unfoldable pub rest5 : (id op status : ℕ) → ℕ → Read Answer
   rest5 i o' t j =
       mapped replyAt (after (readAt (fieldsOf (formOf flag (allowed (bodyAt t (rowsOf o o'))))) s j)
       (λ p l. whole (record { id = i; op = o'; status = t; payload = p }) l))
 
-  unfoldable pub rest4 : (id op status : ℕ) → ℕ → Read code.Reply
+  unfoldable pub rest4 : (id op status : ℕ) → ℕ → Read Answer
   rest4 i o' t j =
       cond (isAllowed (bodyAt t (rowsOf o o'))) (after (readAt (between 0 0 8) s j) (λ m l. rest5 i o' t l)) (refused 8)
 
-  unfoldable pub rest3 : (id op : ℕ) → ℕ → Read code.Reply
+  unfoldable pub rest3 : (id op : ℕ) → ℕ → Read Answer
   rest3 i o' j = cond (isAwaited o o') (after (readAt byte s j) (λ t l. rest4 i o' t l)) (refused 4)
 
-  unfoldable pub rest2 : (id : ℕ) → ℕ → Read code.Reply
+  unfoldable pub rest2 : (id : ℕ) → ℕ → Read Answer
   rest2 i j = after (readAt byte s j) (λ o' l. rest3 i o' l)
 
-  unfoldable pub rest1 : ℕ → Read code.Reply
+  unfoldable pub rest1 : ℕ → Read Answer
   rest1 j = after (readAt vLong s j) (λ i l. rest2 i l)
 
   pub at-message : (at : ℕ) → mapped replyAt (readAt (message (isAwaited o) (rowsOf o) flag) s at) ≡ after (readAt (between 0xa1 0xa1 1) s at) (λ m j. rest1 j)

@@ -15,7 +15,7 @@ use Rattle.message.specs.declared.Form.{Form}
 use Rattle.message.specs.declared.Form.the-variants as form
 use Rattle.message.specs.Operation.{findCode}
 use Rattle.message.specs.Request.{valueLimit}
-use Rattle.message.specs.Reply.{textLimit, Reply, Payload, noBody, valueBody, versionedBody, textBody, fieldsOf, fields, message, isAwaited, rowsOf, replyTo, reply, replyIn}
+use Rattle.message.specs.Reply.{textLimit, Reply, Payload, noBody, valueBody, versionedBody, textBody, statisticsBody, fieldsOf, fields, message, isAwaited, rowsOf, replyTo, reply, replyIn}
 use Rattle.reply_reader.specs.ReplyRead.{asReply, replyAt}
 use Rattle.reply_reader.specs.declared.ReplyRead.{ReplyRead}
 
@@ -48,14 +48,19 @@ module _ (s : List ℕ) where
         let x = typed _ _ _ _ s at p n e in
         subst (λ (q : Payload). Stand q n) (x .same) (record { value = no-part s n; text = text-read s at textLimit _ n (x .read) })
 
+    statistics-stand : readAt statisticsBody s at ≡ whole p n → Stand p n
+    unfolding statisticsBody
+    statistics-stand e = subst (λ (q : Payload). Stand q n) (typed _ _ _ _ s at p n e .same) (record { value = no-part s n; text = no-part s n })
+
     body-stands : (f : Form) → readAt (fieldsOf f) s at ≡ whole p n → Stand p n
     unfolding fieldsOf
     body-stands form.Nothing e = none-stands e
     body-stands (form.Value lim) e = value-stands lim e
     body-stands form.Versioned e = versioned-stands e
     body-stands form.Text e = text-stands e
+    body-stands form.Statistics e = statistics-stand e
 
-  message-shown : (o : Operation) (flag : Bool) (m : Reply) (n : ℕ) → readAt (message (isAwaited o) (rowsOf o) flag) s 0 ≡ whole m n → replyIn s (replyAt m n) ≡ m
+  message-shown : (o : Operation) (flag : Bool) (m : Reply) (n : ℕ) → readAt (message (isAwaited o) (rowsOf o) flag) s 0 ≡ whole m n → replyIn s (replyAt m n .0) (replyAt m n .1) ≡ m
   unfolding message fields replyAt
   message-shown o flag m n e =
       let x = typed _ _ _ _ s 0 m n e in
@@ -65,14 +70,14 @@ module _ (s : List ℕ) where
       let t = halves _ _ s _ _ n (c .second) in
       let k = halves _ _ s _ _ n (t .second) in
       let b = body-stands (k .mid) _ n _ (k .second) in
-      subst (λ (q : Reply). replyIn s (replyAt q n) ≡ q) (x .same) (rw (b .value, b .text))
+      subst (λ (q : Reply). replyIn s (replyAt q n .0) (replyAt q n .1) ≡ q) (x .same) (rw (b .value, b .text))
 
-  shown : (o : Option Operation) (flag : Bool) (m : Reply) (n : ℕ) → replyTo o flag .dec s ≡ whole m n → replyIn s (replyAt m n) ≡ m
+  shown : (o : Option Operation) (flag : Bool) (m : Reply) (n : ℕ) → replyTo o flag .dec s ≡ whole m n → replyIn s (replyAt m n .0) (replyAt m n .1) ≡ m
   unfolding refuse
   shown none flag m n e = never (cc)
   shown (some o) flag m n e = message-shown o flag m n (at-front _ s ∙ e)
 
   -- what reading finds, by the reader's answer
-  pub reply-in : (a : Asked) (r x : ReplyRead) → asReply r ≡ mapped replyAt (reply a .dec s) → r ≡ x → reply a .dec s ≡ after (asReply x) (λ q n. whole (replyIn s q) n)
+  pub reply-in : (a : Asked) (r x : ReplyRead) → asReply r ≡ mapped replyAt (reply a .dec s) → r ≡ x → reply a .dec s ≡ after (asReply x) (λ q n. whole (replyIn s (q .0) (q .1)) n)
   unfolding mapped reply
-  reply-in a r x e p = sym (rw (← p, e) (mapped-back (reply a .dec s) replyAt (λ q n. replyIn s q) (shown (findCode (a .op)) (a .flag))))
+  reply-in a r x e p = sym (rw (← p, e) (mapped-back (reply a .dec s) replyAt (λ q n. replyIn s (q .0) (q .1)) (shown (findCode (a .op)) (a .flag))))

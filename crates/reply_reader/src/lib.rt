@@ -4,14 +4,18 @@ mod read;
 use message::Asked;
 use message::Found;
 use message::Reply;
+use message::ReplyHead;
+use statistics::Statistics;
 ghost use mathlib.Core.Path.{_≡_};
 ghost use Rattle.wire.specs.Codec.{mapped};
 ghost use Rattle.message.specs.Reply.{reply};
 ghost use Rattle.reply_reader.specs.ReplyRead.{asReply, replyAt};
 
-// What reading a reply finds: the reply with the count of its bytes, more needed, or a refusal by its number.
+// What reading a reply finds: the reply with the count of its bytes, a stats reply with the nine and the count, more needed, or a refusal by its
+// number.
 pub enum ReplyRead {
     Whole(Reply, usize),
+    Statistics(ReplyHead, Statistics, usize),
     More,
     Refused(u8),
 }

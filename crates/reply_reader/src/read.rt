@@ -12,13 +12,14 @@ use message::Form;
 use message::Operation;
 use message::Reply;
 use message::ReplyHead;
+use statistics::StatisticsRead;
 ghost use mathlib.Core.Path.{_≡_};
 ghost use Rattle.wire.specs.Codec.{readAt, after, mapped, whole};
 ghost use Rattle.wire.specs.Field.{limited};
 ghost use Rattle.field.specs.FieldRead.{asNumber, nowhere, spanTo, stopped, limitedText};
-ghost use Rattle.message.specs.Reply.{message, isAwaited, rowsOf, versionedBody, textLimit};
-ghost use Rattle.message.specs.Reply.{fieldsOf};
-ghost use Rattle.reply_reader.specs.ReplyRead.{asReply, replyAt, replyWith, withParts};
+ghost use Rattle.statistics.specs.Statistics.{statistics};
+ghost use Rattle.message.specs.Reply.{message, isAwaited, rowsOf, versionedBody, textLimit, fieldsOf};
+ghost use Rattle.reply_reader.specs.ReplyRead.{asReply, replyAt, replyWith, withParts, withStatistics};
 
 // What a field that is not whole makes of the reply.
 fn stop(r: NumberRead) -> ReplyRead
@@ -84,6 +85,18 @@ fn read_text(s: &[u8], c: Cursor, a: ReplyHead) -> ReplyRead
     )
 }
 
+// A body that is the nine statistics.
+fn read_statistics(s: &[u8], c: Cursor, a: ReplyHead) -> ReplyRead
+    ensures { λ r. ⌜ asReply r ≡ after (readAt statistics (now (s .entry)) (c .at)) (λ ns j. whole (withStatistics a ns) j) ⌝ }
+{
+    let r = statistics::read_statistics(s, c);
+    match r {
+        StatisticsRead::Whole(x, next) => ReplyRead::Statistics(a, x, next.at),
+        StatisticsRead::More => ReplyRead::More,
+        StatisticsRead::Refused(k) => ReplyRead::Refused(k),
+    }
+}
+
 // The body behind a header, whose entry version is not read yet.
 fn read_body(s: &[u8], c: Cursor, a: ReplyHead, f: Form) -> ReplyRead
     requires { ⌜ a .entry .0 ≡ 0 ⌝ }
@@ -104,6 +117,7 @@ fn read_body(s: &[u8], c: Cursor, a: ReplyHead, f: Form) -> ReplyRead
         Form::Value(lim) => read_value(s, c, a, lim),
         Form::Versioned => read_versioned(s, c, a),
         Form::Text => read_text(s, c, a),
+        Form::Statistics => read_statistics(s, c, a),
     }
 }
 

@@ -17,14 +17,16 @@ use Rattle.wire.proofs.FieldLaws.{big-length, limited-good, limited-long, limit
 use Rattle.wire.proofs.WriteLaws.{send-broken, put-wrote, wrote-seq, wrote-guard, wrote-type}
 use Rattle.text.specs.Text.{isText}
 use Rattle.field.specs.FieldRead.{limitedText}
-use Rattle.message.specs.Request.{valueLimit}
-use Rattle.message.specs.Reply.{Reply, Body, Payload, noEntry, noValue, noText, textLimit, noBody, valueBody, versionedBody, textBody, bodyAt, isAllowed, allowed, fieldsOf, formOf, toReply, fromReply, fields, message}
+use Rattle.statistics.specs.Statistics.{statistics}
+use Rattle.statistics.proofs.Writing.{none-bad}
+use Rattle.message.specs.Request.{isEmpty, valueLimit}
+use Rattle.message.specs.Reply.{Reply, Body, Payload, payload, counted, noEntry, noValue, noText, noStatistics, textLimit, noBody, valueBody, versionedBody, textBody, statisticsBody, bodyAt, isAllowed, allowed, fieldsOf, formOf, toReply, fromReply, fields, message}
 use Rattle.reply_writer.specs.Frame.{framed}
 
 -- a body that carries nothing
-pub none-ok : (p : Payload) → noBody .ok p ≡ ((noEntry p && noValue p) && noText p)
+pub none-ok : (e : ℕ) (v t : List ℕ) → noBody .ok (payload e v t) ≡ ((eqb e 0 && isEmpty v) && isEmpty t)
 unfolding noBody as-type empty
-none-ok p = go (noEntry p) (noValue p) (noText p)
+none-ok e v t = go (eqb e 0) (isEmpty v) (isEmpty t)
   where
     go : (x y z : Bool) → ((x && (y && z)) && true) ≡ ((x && y) && z)
     go true true true = refl
@@ -123,7 +125,7 @@ module _ (p : Payload) where
   module _ (lim : ℕ) where
     pub value-valid : Valid (valueBody lim) p → Valid (limited lim) (p .value)
     unfolding valueBody as-type
-    value-valid v = both (noEntry p && noText p) (limited lim .ok (p .value)) v .1
+    value-valid v = both (noStatistics p && (noEntry p && noText p)) (limited lim .ok (p .value)) v .1
 
     pub value-size : Valid (valueBody lim) p → length (valueBody lim .enc p) ≡ length (vLong .enc (length (p .value))) + length (p .value)
     unfolding valueBody as-type
@@ -137,7 +139,7 @@ module _ (p : Payload) where
 
   versioned-valid : Valid versionedBody p → Valid entryVersion (p .entryVersion) × Valid (limited valueLimit) (p .value)
   unfolding versionedBody as-type seq
-  versioned-valid v = both (entryVersion .ok (p .entryVersion)) (limited valueLimit .ok (p .value)) (both (noText p) (entryVersion .ok (p .entryVersion) && limited valueLimit .ok (p .value)) v .1)
+  versioned-valid v = both (entryVersion .ok (p .entryVersion)) (limited valueLimit .ok (p .value)) (both (noStatistics p && noText p) (entryVersion .ok (p .entryVersion) && limited valueLimit .ok (p .value)) v .1)
 
   pub versioned-size : Valid versionedBody p → length (versionedBody .enc p) ≡ 8 + (length (vLong .enc (length (p .value))) + length (p .value))
   unfolding versionedBody as-type seq
@@ -159,7 +161,7 @@ module _ (p : Payload) where
 
   text-valid : Valid textBody p → Valid (limitedText textLimit) (p .text)
   unfolding textBody as-type
-  text-valid v = both (noEntry p && noValue p) (limitedText textLimit .ok (p .text)) v .1
+  text-valid v = both (noStatistics p && (noEntry p && noValue p)) (limitedText textLimit .ok (p .text)) v .1
 
   pub text-size : Valid textBody p → length (textBody .enc p) ≡ length (vLong .enc (length (p .text))) + length (p .text)
   unfolding textBody as-type limitedText guard
@@ -170,3 +172,24 @@ module _ (p : Payload) where
   unfolding textBody as-type
   put-text v h e =
       let w = put-wrote (limitedText textLimit) (p .text) _ _ (text-valid v) h _ _ e in record { next = w .next; list = w .list; long = w .long }
+
+-- statistics: a body with none has no written form; with the nine it is theirs
+pub no-statistics : (e : ℕ) (v t : List ℕ) → false ≡ statisticsBody .ok (payload e v t)
+unfolding statisticsBody as-type
+no-statistics e v t = rw none-bad (sym (and-false (eqb e 0 && (isEmpty v && isEmpty t))))
+
+pub unsent : {X : Type 0} (e : ℕ) (v t : List ℕ) → Valid statisticsBody (payload e v t) → X
+unsent e v t w = let f = no-statistics e v t in never (cc)
+
+module _ (ns : List ℕ) where
+  pub counted-ok : statisticsBody .ok (counted ns) ≡ statistics .ok ns
+  unfolding statisticsBody as-type
+  counted-ok = refl
+
+  pub counted-length : length (statisticsBody .enc (counted ns)) ≡ length (statistics .enc ns)
+  unfolding statisticsBody as-type
+  counted-length = refl
+
+  pub counted-wrote : {old new : List ℕ} {at r : ℕ} → Wrote statistics ns old new at r → Wrote statisticsBody (counted ns) old new at r
+  unfolding statisticsBody
+  counted-wrote w = wrote-type _ _ _ statistics w

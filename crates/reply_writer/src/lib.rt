@@ -1,4 +1,5 @@
 // The writers of a reply, whatever was asked.
+mod counted;
 mod write;
 
 use field::EntryVersion;
@@ -7,15 +8,19 @@ use message::Form;
 use message::Found;
 use message::ReplyHead;
 use message::Sent;
+use statistics::Statistics;
 ghost use mathlib.Core.Path.{_≡_};
+ghost use mathlib.Core.Bool.{Bool};
 ghost use Prim.Native.Nat.{_≤_};
 ghost use Rattle.wire.specs.Write.{send};
 ghost use Rattle.message.specs.Sent.{asSent};
-ghost use Rattle.message.specs.Reply.{reply, replyOf, errorReply};
+ghost use Rattle.statistics.specs.Statistics.{listOf};
+ghost use Rattle.message.specs.Reply.{asked, reply, replyOf, errorReply, statisticsReply};
 ghost use Rattle.message.specs.Refusal.{refusal};
 ghost use Rattle.reply_writer.specs.Frame.{errorOf};
 
-// The reply to what was asked: its numbers, value and text. What is not sent is 0 or empty.
+// The reply to what was asked: its numbers, value and text. What is not sent is 0 or empty. A reply to stats has no written form without its
+// statistics: it is 16 here, and `write_statistics` writes it.
 pub fn write_reply(out: &mut [u8], asked: Asked, head: ReplyHead, value: &[u8], text: &[u8]) -> Sent
     ensures { λ r. ⌜ (asSent r, now (out .exit)) ≡ send (reply asked) (replyOf head (now (value .entry)) (now (text .entry))) (now (out .entry)) ⌝ }
 {
@@ -31,6 +36,13 @@ pub fn write_reply(out: &mut [u8], asked: Asked, head: ReplyHead, value: &[u8], 
         return Sent::Refused(16);
     }
     write::write_message(out, head, rules::form_of(asked.flag, b), value, text)
+}
+
+// The reply to stats, with flag 0x0001 or without: the nine statistics.
+pub fn write_statistics(out: &mut [u8], id: u64, x: Statistics) -> Sent
+    ensures { λ r. ⌜ ((flag : Bool) → (asSent r, now (out .exit)) ≡ send (reply (asked 0x15 flag)) (statisticsReply id (listOf x)) (now (out .entry))) ⌝ }
+{
+    counted::write_counted(out, id, x)
 }
 
 // The error reply of a refusal, whatever was asked.

@@ -47,7 +47,7 @@ fn is_limited_text(s: &[u8], lim: u64) -> bool
     text::is_text(s) && is_limited(s, lim)
 }
 
-// Does a body have its fields, and no other?
+// Does a body have its fields, and no other? There are no statistics here, so that a body of statistics lacks them.
 fn keeps_body(a: ReplyHead, f: Form, value: &[u8], text: &[u8]) -> bool
     ensures { λ r. ⌜ r ≡ fieldsOf f .ok (payloadOf a (now (value .entry)) (now (text .entry))) ⌝ }
 {
@@ -58,6 +58,7 @@ fn keeps_body(a: ReplyHead, f: Form, value: &[u8], text: &[u8]) -> bool
         Form::Value(lim) => is_absent(v, text) && is_limited(value, lim),
         Form::Versioned => text.len() == 0 && is_limited(value, Reply::VALUE),
         Form::Text => is_absent(v, value) && is_limited_text(text, Reply::TEXT),
+        Form::Statistics => false,
     }
 }
 
@@ -81,6 +82,7 @@ fn body_end(at: usize, a: ReplyHead, f: Form, value: &[u8], text: &[u8]) -> usiz
         Form::Value(_) => at + put::number_len(value.len() as u64) + value.len(),
         Form::Versioned => at + 8 + put::number_len(value.len() as u64) + value.len(),
         Form::Text => at + put::number_len(text.len() as u64) + text.len(),
+        Form::Statistics => at,
     }
 }
 
@@ -106,6 +108,7 @@ fn put_body(out: &mut [u8], at: usize, a: ReplyHead, f: Form, value: &[u8], text
             put::put_limited(out, next, value, Reply::VALUE)
         }
         Form::Text => put::put_text(out, at, text, Reply::TEXT),
+        Form::Statistics => at,
     }
 }
 

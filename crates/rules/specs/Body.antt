@@ -12,4 +12,5 @@ asBody b.OldNone = some m.oldNone
 asBody b.Value = some m.value
 asBody b.Versioned = some m.versioned
 asBody b.Text = some m.text
+asBody b.Statistics = some m.statistics
 asBody b.NotAllowed = none

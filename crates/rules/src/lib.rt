@@ -34,6 +34,7 @@ pub fn shape_of(op: Operation) -> Shape
         Operation::ContainsKey => Shape::Keyed,
         Operation::GetWithVersion => Shape::Keyed,
         Operation::Clear => Shape::Bare,
+        Operation::Stats => Shape::Bare,
         Operation::Ping => Shape::Bare,
     }
 }
@@ -69,6 +70,7 @@ pub enum Body {
     Value,
     Versioned,
     Text,
+    Statistics,
     NotAllowed,
 }
 
@@ -109,6 +111,7 @@ fn in_table(o: Operation, status: u8) -> Body
         Operation::GetWithVersion => row(status, Body::Versioned, Body::NotAllowed, Body::Nothing),
         Operation::ContainsKey => row(status, Body::Nothing, Body::NotAllowed, Body::Nothing),
         Operation::Clear => row(status, Body::Nothing, Body::NotAllowed, Body::NotAllowed),
+        Operation::Stats => row(status, Body::Statistics, Body::NotAllowed, Body::NotAllowed),
         Operation::Ping => row(status, Body::Nothing, Body::NotAllowed, Body::NotAllowed),
     }
 }
@@ -156,6 +159,7 @@ pub fn form_of(flag: bool, b: Body) -> Form
         Body::Value => Form::Value(Reply::VALUE),
         Body::Versioned => Form::Versioned,
         Body::Text => Form::Text,
+        Body::Statistics => Form::Statistics,
         Body::NotAllowed => Form::Nothing,
     }
 }

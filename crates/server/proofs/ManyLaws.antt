@@ -64,10 +64,10 @@ module _ (c : Context) (input table lent : List ℕ) where
         kept = refl;
       }
 
-  module _ (b : Bytes input) (taken size calls : ℕ) (now out : List ℕ) (g : Between taken size calls now out) (d : Done)
+  module _ (b : Bytes input) (l : c .second < 0x1_0000_0000) (taken size calls : ℕ) (now out : List ℕ) (g : Between taken size calls now out) (d : Done)
       (x : Serves (drop taken input) now (at c (drop size out)) d) (h : room ≤ length (drop size out)) where
     known : Facts (drop taken input) (effectIn (drop taken input) now (at c (drop size out)))
-    known = facts (drop taken input) (bytes-drop taken input b) (id-small (drop taken input) (bytes-drop taken input b)) now (at c (drop size out)) d (g .sound) h x
+    known = facts (drop taken input) (bytes-drop taken input b) (id-small (drop taken input) (bytes-drop taken input b)) now (at c (drop size out)) d l (g .sound) h x
 
     pub takes : taken + d .answer .taken ≤ length input
     takes = let k = known in omega (arith, g .within, k .within, length-drop taken input, ap (λ (a : serving.Answer). a .taken) (does-in x .answer))
@@ -138,7 +138,7 @@ module _ (c : Context) (input table lent : List ℕ) where
     ends v = g .whole (only d) (last x roomy (le-ltb 0 (d .answer .taken) (omega arith)))
 
   -- the same of a call of the code, whose buffer is new
-  module _ (b : Bytes input) (taken size calls : ℕ) (now out : List ℕ) (g : Between taken size calls now out) (a : Answer) (new after : List ℕ)
+  module _ (b : Bytes input) (l : c .second < 0x1_0000_0000) (taken size calls : ℕ) (now out : List ℕ) (g : Between taken size calls now out) (a : Answer) (new after : List ℕ)
       (x : CallsAt c input taken now out size a new after) (h : room ≤ length (drop size out)) where
     abbrev d : Done
     d = doneOf a (drop size new) after
@@ -147,23 +147,23 @@ module _ (c : Context) (input table lent : List ℕ) where
     same = ap (λ (l : List ℕ). l ++ drop size new) (sym (x .front)) ∙ take-append-drop size new
 
     pub call-takes : taken + a .taken ≤ length input
-    call-takes = takes b taken size calls now out g d (x .serves) h
+    call-takes = takes b l taken size calls now out g d (x .serves) h
 
     pub call-sends : size + a .size ≤ length out
-    call-sends = sends b taken size calls now out g d (x .serves) h
+    call-sends = sends b l taken size calls now out g d (x .serves) h
 
     pub call-kept : length after ≡ length table
-    call-kept = table-kept b taken size calls now out g d (x .serves) h
+    call-kept = table-kept b l taken size calls now out g d (x .serves) h
 
     pub call-on : 0 < a .taken → Between (taken + a .taken) (size + a .size) (calls + 1) after new
-    call-on v = subst (Between (taken + a .taken) (size + a .size) (calls + 1) after) same (on b taken size calls now out g d (x .serves) h v)
+    call-on v = subst (Between (taken + a .taken) (size + a .size) (calls + 1) after) same (on b l taken size calls now out g d (x .serves) h v)
 
     pub call-ends : a .taken ≡ 0
         → Streams c false input table lent (record { taken = taken + a .taken; size = size + a .size; calls = calls + 1; verdict = asVerdict (a .verdict); buffer = new; table = after })
     call-ends v =
         subst
         (λ (l : List ℕ). Streams c false input table lent (record { taken = taken + a .taken; size = size + a .size; calls = calls + 1; verdict = asVerdict (a .verdict); buffer = l; table = after }))
-        same (ends b taken size calls now out g d (x .serves) h v)
+        same (ends b l taken size calls now out g d (x .serves) h v)
 
   -- no room for a further call, in a buffer that had room
   pub no-room : (taken size calls : ℕ) (now out : List ℕ) → Between taken size calls now out → room ≤ length lent → length out - size < room

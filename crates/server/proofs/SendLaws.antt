@@ -16,20 +16,22 @@ use Rattle.wire.specs.Codec.{Read, whole, more, refused, Codec, Valid, Bytes, b
 use Rattle.wire.specs.Number.{vLong}
 use Rattle.wire.specs.Write as wire
 use Rattle.wire.specs.Write.{send, written}
-use Rattle.wire.proofs.Laws.{after-whole, seq-valid, seq-laws, guard-laws, byte-laws}
+use Rattle.wire.proofs.Basics.{pick}
+use Rattle.wire.proofs.Laws.{never, after-whole, seq-valid, seq-laws, guard-laws, byte-laws}
 use Rattle.wire.proofs.NumberLaws.{valid, vLong-laws}
 use Rattle.wire.proofs.WriteLaws.{send-room}
 use Rattle.message.specs.declared.Operation.{Operation}
+use Rattle.message.specs.declared.Operation.the-variants.{Put, Get, PutIfAbsent, Replace, ReplaceIfUnmodified, Remove, RemoveIfUnmodified, ContainsKey, GetWithVersion, Clear, Stats, Ping}
 use Rattle.message.specs.Operation.{codeOf}
-use Rattle.message.specs.Request.{Request, request}
-use Rattle.message.specs.Reply.{asked, Reply, payload, formOf, table, bodyAt, allowed, rowsOf, reply, errorReply}
+use Rattle.message.specs.Request.{Request, valueLimit}
+use Rattle.message.specs.Reply.{asked, Reply, payload, oldForm, formOf, table, bodyAt, allowed, rowsOf, reply, errorReply, statisticsReply}
 use Rattle.message.specs.Refusal.{refusal}
 use Rattle.message.proofs.ErrorLaws.{refusal-good}
 use Rattle.message.proofs.ReplySize.{error-most}
 use Rattle.map.specs.State.{Entry}
-use Rattle.map.specs.Step.{mostKeys, noValue, value, shows, wantsOld, held, answer}
-use Rattle.map.specs.Reply.{Piece, flat, pieces, entryOf, valueOf, replyTo, askedBy}
-use Rattle.map.proofs.Format.{pieces-reply, reply-valid, answer-most}
+use Rattle.map.specs.Step.{mostKeys, Context, Plan, plans, plan, noValue, value, shows, wantsOld, held, versionOf, planned, statistics, answer}
+use Rattle.map.specs.Reply.{Piece, flat, pieces, payloadOf, replyTo, askedBy}
+use Rattle.map.proofs.Format.{pieces-reply, reply-valid, answer-under}
 use Rattle.table.specs.Memory as memory
 use Rattle.table.specs.Memory.{stateOf, Sound}
 use Rattle.table.specs.Found.{entryAt}
@@ -37,6 +39,7 @@ use Rattle.message.specs.Start.{start, idFound, idIn}
 use Rattle.message.specs.declared.Form.{Form}
 use Rattle.message.specs.declared.Form.the-variants as f
 use Rattle.message.proofs.Form as form-code
+use Rattle.message.proofs.Operation as operation-code
 use Rattle.message.proofs.Editions.{code-small}
 use Rattle.service.specs.Serve as stream
 use Rattle.service.specs.Serve.{room, errorPieces}
@@ -44,7 +47,7 @@ use Rattle.plan.specs.declared.Held.{Held}
 use Rattle.plan.specs.Plan.{heldAt}
 use Rattle.server.specs.declared.Answer.{Answer}
 use Rattle.server.specs.CallDone.{Says, Sends}
-use Rattle.server.specs.Act.{valueShown, entryShown, Planned}
+use Rattle.server.specs.Act.{valueShown, entryShown, sentTo, Planned}
 
 -- a message that fits is written, and its bytes are the pieces sent
 module _ {A : Type 0} (c : Codec A) (a : A) {x : wire.Sent} {old new : List ℕ} {ps : List Piece} {n : ℕ} {v : stream.Verdict} {r : Answer} where
@@ -73,28 +76,72 @@ unfolding entryAt memory.entry
 past-rows t s = rw (List·getD-eq-default (stateOf t .entries) (memory.entry [] [] 0 0) (s .table .few))
 
 -- a form that is not `Versioned` shows no version
-pub no-version : (g : Form) → OneOf (0 ∷ 1 ∷ 3 ∷ []) (tagOf form-code.the-type g) → (o : Option Entry) → 0 ≡ entryShown g o
+pub no-version : (g : Form) → OneOf (0 ∷ 1 ∷ 3 ∷ 4 ∷ []) (tagOf form-code.the-type g) → (o : Option Entry) → 0 ≡ entryShown g o
 no-version g k none = refl
 no-version f.Nothing k (some e) = refl
 no-version (f.Value lim) k (some e) = refl
-no-version f.Versioned k (some e) = absurd (miss (0 ∷ 1 ∷ 3 ∷ []) 2 tt k)
+no-version f.Versioned k (some e) = absurd (miss (0 ∷ 1 ∷ 3 ∷ 4 ∷ []) 2 tt k)
 no-version f.Text k (some e) = refl
+no-version f.Statistics k (some e) = refl
 
--- what a form shows is what the map shows
-shown-same : (g : Form) (o : Option Entry) → (entryShown g o ≡ entryOf (shows g o)) × (valueShown g o ≡ valueOf (shows g o))
+-- a form that is no statistics
+abbrev plain : Form → Bool
+plain f.Nothing = true
+plain (f.Value lim) = true
+plain f.Versioned = true
+plain f.Text = true
+plain f.Statistics = false
+
+-- what it shows is what the map shows
+shown-same : (g : Form) (ns : List ℕ) (o : Option Entry) → plain g ≡ true → payload (entryShown g o) (valueShown g o) [] ≡ payloadOf (shows g ns o)
 unfolding shows
-shown-same f.Nothing none = (refl, refl)
-shown-same f.Nothing (some e) = (refl, refl)
-shown-same (f.Value lim) none = (refl, refl)
-shown-same (f.Value lim) (some e) = go (eqb lim 0)
+shown-same f.Nothing ns none p = refl
+shown-same f.Nothing ns (some e) p = refl
+shown-same (f.Value lim) ns none p = refl
+shown-same (f.Value lim) ns (some e) p = go (eqb lim 0)
   where
-    go : (t : Bool) → (0 ≡ entryOf (cond t noValue (value e))) × (cond t [] (e .value) ≡ valueOf (cond t noValue (value e)))
-    go true = (refl, refl)
-    go false = (refl, refl)
-shown-same f.Versioned none = (refl, refl)
-shown-same f.Versioned (some e) = (refl, refl)
-shown-same f.Text none = (refl, refl)
-shown-same f.Text (some e) = (refl, refl)
+    go : (t : Bool) → payload 0 (cond t [] (e .value)) [] ≡ payloadOf (cond t noValue (value e))
+    go true = refl
+    go false = refl
+shown-same f.Versioned ns none p = refl
+shown-same f.Versioned ns (some e) p = refl
+shown-same f.Text ns none p = refl
+shown-same f.Text ns (some e) p = refl
+shown-same f.Statistics ns o p = never (cc)
+
+-- the reply to any operation but stats is of such a form, by the rows of the reply table
+plain-old : (t : Bool) (lim : ℕ) → plain (oldForm t lim) ≡ true
+plain-old true lim = refl
+plain-old false lim = refl
+
+plain-form : (o : Operation) (t : Bool) (v : ℕ) (h : Option ℕ) → (o ≡ Stats → ⊥) → plain (formOf t (allowed (bodyAt (plan o v h .status) (table o)))) ≡ true
+unfolding plan plans bodyAt
+plain-form Put t v h n = plain-old t valueLimit
+plain-form PutIfAbsent t v none n = plain-old t 0
+plain-form PutIfAbsent t v (some w) n = plain-old t valueLimit
+plain-form Replace t v none n = plain-old t 0
+plain-form Replace t v (some w) n = plain-old t valueLimit
+plain-form ReplaceIfUnmodified t v none n = plain-old t 0
+plain-form ReplaceIfUnmodified t v (some w) n =
+    pick (λ (p : Plan). plain (formOf t (allowed (bodyAt (p .status) (table ReplaceIfUnmodified)))) ≡ true) (eqb w v) (λ q. plain-old t valueLimit) (plain-old t 0)
+plain-form Remove t v none n = plain-old t 0
+plain-form Remove t v (some w) n = plain-old t valueLimit
+plain-form RemoveIfUnmodified t v none n = plain-old t 0
+plain-form RemoveIfUnmodified t v (some w) n =
+    pick (λ (p : Plan). plain (formOf t (allowed (bodyAt (p .status) (table RemoveIfUnmodified)))) ≡ true) (eqb w v) (λ q. plain-old t valueLimit) (plain-old t 0)
+plain-form Get t v none n = refl
+plain-form Get t v (some w) n = refl
+plain-form GetWithVersion t v none n = refl
+plain-form GetWithVersion t v (some w) n = refl
+plain-form ContainsKey t v none n = refl
+plain-form ContainsKey t v (some w) n = refl
+plain-form Clear t v h n = refl
+plain-form Stats t v h n = absurd (n refl)
+plain-form Ping t v h n = refl
+
+-- the tags of the operations but stats
+pub not-stats : (o : Operation) → OneOf (0 ∷ 1 ∷ 2 ∷ 3 ∷ 4 ∷ 5 ∷ 6 ∷ 7 ∷ 8 ∷ 9 ∷ 11 ∷ []) (tagOf operation-code.the-type o) → o ≡ Stats → ⊥
+not-stats o k e = miss (0 ∷ 1 ∷ 2 ∷ 3 ∷ 4 ∷ 5 ∷ 6 ∷ 7 ∷ 8 ∷ 9 ∷ 11 ∷ []) 10 tt (rw e at k)
 
 -- the rows of a reply to an operation are the operation's
 rows-are : (o : Operation) → rowsOf o (codeOf o + 1) ≡ table o
@@ -104,27 +151,32 @@ rows-are o = rw (ne-eqb (codeOf o + 1) 0x50 (λ e. omega (arith, code-small o)))
 abbrev pub form : Request → ℕ → Form
 form q s = formOf (wantsOld q) (allowed (bodyAt s (rowsOf (q .op) (codeOf (q .op) + 1))))
 
-module _ {t : List ℕ} {q : Request} {y : Held} {s : ℕ} (g : Planned t q y s) where
-  -- the reply to a request, of an operation's code, a version and a value
+module _ (c : Context) {t : List ℕ} {q : Request} {y : Held} {s : ℕ} (g : Planned t q y s) where
+  -- the reply to any request but stats, of an operation's code, a version and a value
   abbrev made : ℕ → ℕ → List ℕ → Reply
   made code e v = record { id = q .id; op = code + 1; status = s; payload = payload e v [] }
 
-  made-is : {code e : ℕ} {v : List ℕ} → code ≡ codeOf (q .op) → e ≡ entryShown (form q s) (heldAt t (q .args .key)) → v ≡ valueShown (form q s) (heldAt t (q .args .key))
-      → made code e v ≡ replyTo q (answer q (stateOf t))
-  unfolding answer held
-  made-is o e w =
-      let f = shown-same (formOf (wantsOld q) (allowed (bodyAt s (table (q .op))))) (heldAt t (q .args .key)) in
-      rw (g .status, o, e, w, rows-are (q .op), f .0, f .1)
+  pub held-sent : {code e : ℕ} {v : List ℕ} {x : wire.Sent} (old : List ℕ) {new : List ℕ} → (q .op ≡ Stats → ⊥) → code ≡ codeOf (q .op)
+      → e ≡ entryShown (form q s) (heldAt t (q .args .key)) → v ≡ valueShown (form q s) (heldAt t (q .args .key))
+      → (x, new) ≡ send (reply (asked code (wantsOld q))) (made code e v) old → (x, new) ≡ sentTo c q (stateOf t) old
+  unfolding answer held planned
+  held-sent old n o e w z =
+      let f = shown-same (formOf (wantsOld q) (allowed (bodyAt (planned q (stateOf t) .status) (table (q .op))))) (statistics c (stateOf t)) (heldAt t (q .args .key)) (plain-form (q .op) (wantsOld q) (q .args .entryVersion) (versionOf (heldAt t (q .args .key))) n) in
+      z ∙ rw (o, e, w, rows-are (q .op), ← (g .status), f)
 
-  pub reply-sent : {code e : ℕ} {v : List ℕ} {x : wire.Sent} {old new : List ℕ} {n : ℕ} {d : stream.Verdict} {r : Answer}
-      → code ≡ codeOf (q .op) → e ≡ entryShown (form q s) (heldAt t (q .args .key)) → v ≡ valueShown (form q s) (heldAt t (q .args .key))
-      → room ≤ length old → (x, new) ≡ send (reply (asked code (wantsOld q))) (made code e v) old
-      → ((m : ℕ) → x ≡ written m → Says n m d r) → Sends (pieces q (answer q (stateOf t))) n d old new r
-  reply-sent o e v l z h =
-      let p = pieces-reply q (stateOf t) in
-      let b = answer-most q (stateOf t) (g .valid) (g .sound .table) in
-      sent (reply (askedBy q)) (replyTo q (answer q (stateOf t))) (rw (made-is o e v, o) at z) (reply-valid q (stateOf t) (g .valid) (g .sound .table))
-      (omega (arith, ap length p)) l p h
+  -- the reply to stats
+  pub stats-sent : {x : wire.Sent} {ns : List ℕ} (old : List ℕ) {new : List ℕ} → q .op ≡ Stats → ns ≡ statistics c (stateOf t)
+      → ((flag : Bool) → (x, new) ≡ send (reply (asked 0x15 flag)) (statisticsReply (q .id) ns) old) → (x, new) ≡ sentTo c q (stateOf t) old
+  unfolding answer planned plan plans bodyAt shows
+  stats-sent old o e z = rw (o, ← e) (z (wantsOld q))
+
+  -- the map's reply to a request is sent
+  pub reply-sent : {x : wire.Sent} (old : List ℕ) {new : List ℕ} {n : ℕ} {d : stream.Verdict} {r : Answer} → c .second < 0x1_0000_0000 → room ≤ length old
+      → (x, new) ≡ sentTo c q (stateOf t) old → ((m : ℕ) → x ≡ written m → Says n m d r) → Sends (pieces q (answer c q (stateOf t))) n d old new r
+  reply-sent old k l z h =
+      let p = pieces-reply c q (stateOf t) in
+      let b = answer-under c q (stateOf t) (g .valid) (g .sound .table) k in
+      sent (reply (askedBy q)) (replyTo q (answer c q (stateOf t))) z (reply-valid c q (stateOf t) (g .valid) (g .sound .table) k) (omega (arith, ap length p)) l p h
 
 -- a message id is small
 found-small : (s : List ℕ) → Bytes s → (r : Read ℕ) → start .dec s ≡ r → idFound r < 0x8000_0000_0000_0000

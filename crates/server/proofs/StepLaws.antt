@@ -1,5 +1,5 @@
 -- What a step of the map makes of an answer and of the table. Assumes nothing.
-use mathlib.Core.Path.{_≡_, refl, ap₂}
+use mathlib.Core.Path.{_≡_, refl, ap₂, _∙_}
 use mathlib.Core.List.{List, [], _∷_}
 use mathlib.Core.Bool.{Bool, true, false, cond}
 use mathlib.Core.Option.{Option, none, some}
@@ -14,17 +14,17 @@ use Rattle.message.specs.Request.{Request, request, isEmpty}
 use Rattle.message.proofs.Sizes.{small}
 use Rattle.map.specs.State.{Entry, State, without, hasKey}
 use Rattle.map.specs.Step as map
-use Rattle.map.specs.Step.{Context, Change, Outcome, answered, lastVersion, deadline, entry, stored, isNone, held, versionOf, full, planned, answer, act, step}
+use Rattle.map.specs.Step.{Context, Change, Outcome, answered, lastVersion, deadline, entry, stored, isNone, held, versionOf, full, planned, answer, act, core, arrive, step}
+use Rattle.map.specs.Table.{IsTable}
 use Rattle.map.specs.Reply.{flat, pieces}
-use Rattle.map.proofs.Keeps.{keeps-table}
 use Rattle.table.specs.Memory as memory
 use Rattle.table.specs.Memory.{stateOf, Sound}
 use Rattle.table.specs.Found.{entryAt, FoundIs}
-use Rattle.table.specs.Change.{Changed, Left, added, renewed, removed}
+use Rattle.table.specs.Change.{Changed, Left, added, renewed, removed, arrived}
 use Rattle.table.specs.declared.Found.the-variants as f
 use Rattle.table.proofs.Lists.{says-yes, says-no}
 use Rattle.table.proofs.Keys.{found-without, found-less}
-use Rattle.table.proofs.Changes.{added-changed, renewed-changed, removed-changed}
+use Rattle.table.proofs.Changes.{added-changed, renewed-changed, removed-changed, arrived-sound}
 use Rattle.service.specs.Serve as stream
 use Rattle.service.specs.Serve.{effect, errorPieces, onStep, served}
 use Rattle.service.specs.Stream as stream-of
@@ -75,42 +75,29 @@ module _ {t k v : List ℕ} {held : Held} {t′ : List ℕ} (s : Storable t k v 
       let w = found-without t k e in
       rw w (added-changed (s .sound) k v d (s .key) (s .value) h (rw w at (s .room)) (s .version) l)
 
--- a step on a sound table leaves a sound one
-module _ (c : Context) (q : Request) (t : List ℕ) (s : Sound t) (v : Valid request q) (h : c .second < 0x1_0000_0000) where
-  sound-after : {b : map.Answer} {st : State} {t′ : List ℕ} → step c q (stateOf t) ≡ answered b st → Changed t t′ st → (stateOf t′ ≡ st) × Sound t′
-  sound-after {b} {st} {t′} e d =
-      (d .state, record { form = d .form; table = rw (d .state) (keeps-table c q (stateOf t) (s .table) b st e v h) })
-
-  pub does-answered : {b : map.Answer} {st : State} {n : ℕ} {old new t′ : List ℕ} {a : Answer} → step c q (stateOf t) ≡ answered b st → Sends (pieces q b) n served old new a
-      → Changed t t′ st → Does (onStep q n (step c q (stateOf t))) t old (doneOf a new t′)
-  unfolding onStep
-  does-answered e w d = let l = sound-after e d in rw e (does w l)
+-- a request that is answered: the table is the one behind its change
+pub does-answered : (q : Request) {o : Outcome} {b : map.Answer} {st : State} {n : ℕ} {old new t u t′ : List ℕ} {a : Answer} → o ≡ answered b st → IsTable st
+    → Sends (pieces q b) n served old new a → Changed u t′ st → Does (onStep q n o) t old (doneOf a new t′)
+unfolding onStep
+does-answered q e i w d = rw e (does w (d .state, record { form = d .form; table = rw (d .state) i }))
 
 -- the refusal of a store, by its two tests
 abbrev number : Bool → Bool → Option ℕ
 number full left = cond full (some 10) (cond left none (some 11))
 
--- the step of a request without a name
+-- a version is held where an entry is
 none-version : (f : Option Entry) → isNone (versionOf f) ≡ isNone f
 none-version none = refl
 none-version (some e) = refl
 
 module _ (c : Context) (q : Request) (st : State) where
-  pub step-named : isEmpty (q .name) ≡ false → step c q st ≡ map.refused 9
-  unfolding step
-  step-named e = rw e
-
-  pub step-acts : {d : Change} → isEmpty (q .name) ≡ true → planned q st .change ≡ d → step c q st ≡ act c q st (answer q st) d
-  unfolding step
-  step-acts e p = rw (e, p)
-
   -- the change that is planned, by what the code holds: it is refused, or it is made
   module _ (o : Option ℕ) (n : o ≡ versionOf (held q st)) where
     full-same : isFull st o ≡ full q st
     unfolding isFull full
     full-same = rw (n, none-version)
 
-    pub act-refused : (d : Change) (k : ℕ) → refusalOf st o d ≡ some k → (act c q st (answer q st) d ≡ map.refused k) × ((1 ≤ k) × (k ≤ 11))
+    act-refused : (d : Change) (k : ℕ) → refusalOf st o d ≡ some k → (act c q st (answer c q st) d ≡ map.refused k) × ((1 ≤ k) × (k ≤ 11))
     unfolding refusalOf act
     act-refused map.keep k h = never (cc)
     act-refused map.drop k h = never (cc)
@@ -118,12 +105,12 @@ module _ (c : Context) (q : Request) (st : State) where
     act-refused map.store k h = go (full q st) (ltb (st .last) lastVersion) (rw full-same at h)
       where
         go : (x y : Bool) → number x y ≡ some k
-            → (cond x (map.refused 10) (cond y (answered (answer q st) (stored c q st)) (map.refused 11)) ≡ map.refused k) × ((1 ≤ k) × (k ≤ 11))
+            → (cond x (map.refused 10) (cond y (answered (answer c q st) (stored c q st)) (map.refused 11)) ≡ map.refused k) × ((1 ≤ k) × (k ≤ 11))
         go true y h = let e : _≡_ {A = ℕ} 10 k = cc in rw (← e) (refl, (omega arith, omega arith))
         go false true h = never (cc)
         go false false h = let e : _≡_ {A = ℕ} 11 k = cc in rw (← e) (refl, (omega arith, omega arith))
 
-    pub act-made : (d : Change) → refusalOf st o d ≡ none → act c q st (answer q st) d ≡ answered (answer q st) (after c q st d)
+    act-made : (d : Change) → refusalOf st o d ≡ none → act c q st (answer c q st) d ≡ answered (answer c q st) (after c q st d)
     unfolding refusalOf act
     act-made map.keep e = refl
     act-made map.drop e = refl
@@ -131,10 +118,54 @@ module _ (c : Context) (q : Request) (st : State) where
     act-made map.store e = go (full q st) (ltb (st .last) lastVersion) (rw full-same at e)
       where
         go : (x y : Bool) → number x y ≡ none
-            → cond x (map.refused 10) (cond y (answered (answer q st) (stored c q st)) (map.refused 11)) ≡ answered (answer q st) (stored c q st)
+            → cond x (map.refused 10) (cond y (answered (answer c q st) (stored c q st)) (map.refused 11)) ≡ answered (answer c q st) (stored c q st)
         go true y e = never (cc)
         go false true e = refl
         go false false e = never (cc)
+
+-- the table counts a call as the map does, by whether its key is held
+pub arrives : (c : Context) (q : Request) {t u : List ℕ} {absent : Bool} → Sound t → c .second < 0x1_0000_0000 → isNone (held q (stateOf t)) ≡ absent
+    → Left t (arrived (q .op) absent (c .second) t) u → stream-of.Becomes t (some (arrive c q (stateOf t))) u
+arrives c q {u = u} s h e l = let z = arrived-sound {u = u} s c q (omega arith) (rw e l) in (z .1, z .0)
+
+-- what is held and what is planned and refused of a call do not go by the history
+module _ (c : Context) (q : Request) (st : State) where
+  held-arrived : held q (arrive c q st) ≡ held q st
+  unfolding held arrive
+  held-arrived = refl
+
+  pub planned-arrived : planned q (arrive c q st) ≡ planned q st
+  unfolding planned
+  planned-arrived = rw held-arrived
+
+  pub refusal-arrived : (o : Option ℕ) (d : Change) → refusalOf (arrive c q st) o d ≡ refusalOf st o d
+  unfolding refusalOf isFull arrive
+  refusal-arrived o map.keep = refl
+  refusal-arrived o map.store = refl
+  refusal-arrived o map.drop = refl
+  refusal-arrived o map.empty = refl
+
+  -- so a step goes by what the code finds before the call is counted
+  pub step-named : isEmpty (q .name) ≡ false → step c q st ≡ map.refused 9
+  unfolding step core
+  step-named e = rw e
+
+  module _ (o : Option ℕ) (n : o ≡ versionOf (held q st)) (d : Change) (e : isEmpty (q .name) ≡ true) (p : planned q st .change ≡ d) where
+    abbrev come : State
+    come = arrive c q st
+
+    step-acts : step c q st ≡ act c q come (answer c q come) d
+    unfolding step core
+    step-acts = rw (e, planned-arrived, p)
+
+    same-held : o ≡ versionOf (held q come)
+    same-held = rw held-arrived n
+
+    pub step-refused : (k : ℕ) → refusalOf st o d ≡ some k → (step c q st ≡ map.refused k) × ((1 ≤ k) × (k ≤ 11))
+    step-refused k h = let z = act-refused c q come o same-held d k (refusal-arrived o d ∙ h) in (step-acts ∙ z .0, z .1)
+
+    pub step-made : refusalOf st o d ≡ none → step c q st ≡ answered (answer c q come) (after c q come d)
+    step-made h = step-acts ∙ act-made c q come o same-held d (refusal-arrived o d ∙ h)
 
 -- a store that is not refused has a version left
 pub version-left : (st : State) (o : Option ℕ) → refusalOf st o map.store ≡ none → st .last < lastVersion
@@ -151,21 +182,20 @@ pub same-table : (t : List ℕ) → Sound t → Changed t t (stateOf t)
 same-table t s = record { long = refl; state = refl; form = s .form }
 
 -- the request's value can be stored, and storing it is the map's change
-module _ (c : Context) (q : Request) (t : List ℕ) (s : Sound t) (v : Valid request q) (h : c .second < 0x1_0000_0000) where
-  pub storable : {b : map.Answer} {held : Held} → step c q (stateOf t) ≡ answered b (stored c q (stateOf t)) → Holds t (q .args .key) held → stateOf t .last < lastVersion
-      → Storable t (q .args .key) (q .args .value) held
-  unfolding stored
-  storable {b} e g l =
-      let x = keeps-table c q (stateOf t) (s .table) b (stored c q (stateOf t)) e v h .few in
-      let es = without (hasKey (q .args .key)) (stateOf t .entries) in
-      record {
-        sound = s;
-        holds = g;
-        key = small q v .key;
-        value = small q v .value;
-        room = omega (arith, length-append es (entry c q (suc (stateOf t .last)) ∷ []));
-        version = l;
-      }
+pub storable : (c : Context) (q : Request) (t : List ℕ) {held : Held} → Sound t → Valid request q → IsTable (stored c q (stateOf t)) → Holds t (q .args .key) held
+    → stateOf t .last < lastVersion → Storable t (q .args .key) (q .args .value) held
+unfolding stored
+storable c q t s v i g l =
+    let x = i .few in
+    let es = without (hasKey (q .args .key)) (stateOf t .entries) in
+    record {
+      sound = s;
+      holds = g;
+      key = small q v .key;
+      value = small q v .value;
+      room = omega (arith, length-append es (entry c q (suc (stateOf t .last)) ∷ []));
+      version = l;
+    }
 
 pub replaced-is : (c : Context) (q : Request) (st : State) {d : ℕ} → d ≡ deadline c q → replaced (q .args .key) (q .args .value) d st ≡ stored c q st
 unfolding stored entry memory.entry

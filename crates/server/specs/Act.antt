@@ -7,11 +7,14 @@ use Prim.Native.Nat.{ℕ, _<_, _≤_}
 use lib.ListN.{length}
 use lib.Dec.{eqb}
 use Rattle.wire.specs.Codec.{Valid}
+use Rattle.wire.specs.Write.{Sent, send}
 use Rattle.message.specs.Request.{keyLimit, valueLimit, Request, request}
 use Rattle.map.specs.State.{Entry, State, withEntries, without, hasKey}
 use Rattle.map.specs.Step as map
 use Rattle.map.specs.Step.{Context}
-use Rattle.map.specs.Reply.{pieces}
+use Rattle.map.specs.Table.{IsTable}
+use Rattle.map.specs.Reply.{pieces, askedBy, replyTo}
+use Rattle.message.specs.Reply.{reply}
 use Rattle.message.specs.declared.Form.{Form}
 use Rattle.message.specs.declared.Form.the-variants as f
 use Rattle.table.specs.Memory.{stateOf, Sound}
@@ -33,6 +36,7 @@ valueShown f.Nothing (some e) = []
 valueShown (f.Value lim) (some e) = cond (eqb lim 0) [] (e .value)
 valueShown f.Versioned (some e) = e .value
 valueShown f.Text (some e) = []
+valueShown f.Statistics (some e) = []
 
 abbrev pub entryShown : Form → Option Entry → ℕ
 entryShown g none = 0
@@ -40,6 +44,11 @@ entryShown f.Nothing (some e) = 0
 entryShown (f.Value lim) (some e) = 0
 entryShown f.Versioned (some e) = e .version
 entryShown f.Text (some e) = 0
+entryShown f.Statistics (some e) = 0
+
+-- the map's reply to the request, as a writer sends it into a buffer
+abbrev pub sentTo : Context → Request → State → List ℕ → Sent × List ℕ
+sentTo c q st old = send (reply (askedBy q)) (replyTo q (map.answer c q st)) old
 
 -- the state without the entry that has the key
 abbrev pub less : List ℕ → State → State
@@ -78,18 +87,18 @@ after c q st map.store = map.stored c q st
 after c q st map.drop = map.dropped q st
 after c q st map.empty = map.emptied st
 
--- the step of a well-formed request on a sound table makes the change, and is not refused
+-- the change of a well-formed request on a sound table is not refused, and leaves a table
 pub record Agreed (t : List ℕ) (q : Request) (second : ℕ) (held : Held) (d : map.Change) : Type 0 where
   pub sound : Sound t
   pub valid : Valid request q
   pub holds : Holds t (q .args .key) held
   pub within : second < 0x1_0000_0000
   pub free : refusalOf (stateOf t) (heldVersion held) d ≡ none
-  pub step : map.step (at second) q (stateOf t) ≡ map.answered (map.answer q (stateOf t)) (after (at second) q (stateOf t) d)
+  pub left : IsTable (after (at second) q (stateOf t) d)
 
 -- the map's reply to the request is sent
-abbrev pub Replies : List ℕ → Request → ℕ → List ℕ → List ℕ → Answer → Type 0
-Replies t q n old new a = Sends (pieces q (map.answer q (stateOf t))) n served old new a
+abbrev pub Replies : List ℕ → Request → ℕ → ℕ → List ℕ → List ℕ → Answer → Type 0
+Replies t q second n old new a = Sends (pieces q (map.answer (at second) q (stateOf t))) n served old new a
 
 -- the request is performed, of which n bytes are taken
 abbrev pub Performs : List ℕ → Request → ℕ → ℕ → List ℕ → Done → Type 0

@@ -6,6 +6,7 @@ use field::Second;
 use message::Asked;
 use message::Form;
 use message::Head;
+use message::Operation;
 use message::ReplyHead;
 use message::Request;
 use message::Sent;
@@ -16,6 +17,7 @@ use request_reader::RequestRead;
 use table::Table;
 ghost use mathlib.Core.Path.{_≡_};
 ghost use mathlib.Core.List.{List};
+ghost use mathlib.Core.Option.{some};
 ghost use Prim.Native.Nat.{ℕ, _+_, _≤_, _<_};
 ghost use lib.ListN.{length};
 ghost use Rattle.wire.specs.Codec.{Valid};
@@ -23,15 +25,16 @@ ghost use Rattle.wire.specs.Write.{written};
 ghost use Rattle.message.specs.Sent.{asSent};
 ghost use Rattle.message.specs.Request as message;
 ghost use Rattle.message.specs.Request.{request, requestOf, requestIn};
+ghost use Rattle.message.specs.declared.Operation.the-variants.{Stats};
 ghost use Rattle.map.specs.Step as map;
 ghost use Rattle.table.specs.Memory.{stateOf, Sound};
 ghost use Rattle.table.specs.Found.{entryAt};
 ghost use Rattle.table.specs.Change as table;
 ghost use Rattle.service.specs.Serve as stream;
-ghost use Rattle.service.specs.Stream.{Serves};
+ghost use Rattle.service.specs.Stream.{Becomes, Serves};
 ghost use Rattle.plan.specs.Plan.{asChange, Holds, heldAt};
 ghost use Rattle.server.specs.CallDone.{asVerdict, callOf, doneOf, Says, Sends};
-ghost use Rattle.server.specs.Act.{at, valueShown, entryShown, less, replaced, Storable, after, Planned, Agreed, Given, Replies, Performs};
+ghost use Rattle.server.specs.Act.{at, valueShown, entryShown, sentTo, less, replaced, Storable, after, Planned, Agreed, Given, Replies, Performs};
 
 // Nothing taken and nothing sent.
 pub(crate) fn still(v: Verdict) -> Answer
@@ -83,6 +86,7 @@ fn shown_row(f: Form, held: Held) -> usize
         Form::Value(lim) => { if lim == 0 { Table::KEYS } else { i } }
         Form::Versioned => i,
         Form::Text => Table::KEYS,
+        Form::Statistics => Table::KEYS,
     }
 }
 
@@ -99,10 +103,9 @@ fn shown_version(f: Form, held: Held) -> EntryVersion
     }
 }
 
-// The reply of a status, with what it shows of the entry held.
-fn respond(out: &mut [u8], t: &[u8], h: Head, status: u8, held: Held, taken: usize) -> Answer
-    requires { ⌜ stream.room ≤ length (now out) ⌝ }
-    ensures { λ r. ⌜ ((name key value : List ℕ) → Planned (now (t .entry)) (requestOf h name key value) held status → Replies (now (t .entry)) (requestOf h name key value) taken (now (out .entry)) (now (out .exit)) r) ⌝ }
+// Writes the reply of a status to any operation but stats, with what it shows of the entry held.
+fn write_held(out: &mut [u8], t: &[u8], h: Head, status: u8, held: Held) -> Sent
+    ensures { λ r. ⌜ ((c : map.Context) (name key value : List ℕ) → (h .op ≡ Stats → ⊥) → Planned (now (t .entry)) (requestOf h name key value) held status → (asSent r, now (out .exit)) ≡ sentTo c (requestOf h name key value) (stateOf (now (t .entry))) (now (out .entry))) ⌝ }
 {
     let op = h.op;
     let code = message::code(op);
@@ -116,7 +119,7 @@ fn respond(out: &mut [u8], t: &[u8], h: Head, status: u8, held: Held, taken: usi
         entry: shown_version(f, held),
     };
     let value = table::value_at(t, shown_row(f, held));
-    let w = reply_writer::write_reply(
+    reply_writer::write_reply(
         out,
         Asked {
             op: code,
@@ -125,8 +128,43 @@ fn respond(out: &mut [u8], t: &[u8], h: Head, status: u8, held: Held, taken: usi
         a,
         value,
         b"",
-    );
+    )
+}
+
+// The reply of a status: the statistics at the second, or what it shows of the entry held.
+fn respond(
+    out: &mut [u8],
+    t: &[u8],
+    h: Head,
+    status: u8,
+    held: Held,
+    second: Second,
+    taken: usize,
+) -> Answer
+    requires { ⌜ stream.room ≤ length (now out) ⌝ }
+    requires { ⌜ second .0 < 0x1_0000_0000 ⌝ }
+    ensures { λ r. ⌜ ((name key value : List ℕ) → Planned (now (t .entry)) (requestOf h name key value) held status → Replies (now (t .entry)) (requestOf h name key value) (second .0) taken (now (out .entry)) (now (out .exit)) r) ⌝ }
+{
+    let op = h.op;
+    let Operation::Stats = op else {
+        let w = write_held(out, t, h, status, held);
+        return ended(w, taken, Verdict::Served);
+    };
+    let w = reply_writer::write_statistics(out, h.id, table::statistics(t, second));
     ended(w, taken, Verdict::Served)
+}
+
+// The call is counted, by its operation and by what is held, and its second is the first one where none was served before.
+fn arrive(t: &mut [u8], h: Head, held: Held, second: Second)
+    requires { ⌜ second .0 < 0x1_0000_0000 ⌝ }
+    ensures { λ _. ⌜ ((name key value : List ℕ) → Sound (now (t .entry)) → Holds (now (t .entry)) key held → Becomes (now (t .entry)) (some (map.arrive (at (second .0)) (requestOf h name key value) (stateOf (now (t .entry))))) (now (t .exit))) ⌝ }
+{
+    let op = h.op;
+    let Held::Row(_, _) = held else {
+        table::arrive(t, op, true, second);
+        return;
+    };
+    table::arrive(t, op, false, second);
 }
 
 // The table without the row held.
@@ -192,7 +230,8 @@ fn change(input: &[u8], r: Request, t: &mut [u8], second: Second, c: Change, hel
     }
 }
 
-// A request that was read, which took n bytes. The reply comes before the change, since an old value stands in the table.
+// A request that was read, which took n bytes. A call that is refused is not counted. The reply comes before the change, since an old value stands in
+// the table.
 pub(crate) fn perform(
     input: &[u8],
     r: Request,
@@ -218,7 +257,8 @@ pub(crate) fn perform(
     match j {
         Judged::Refused(k) => refuse(out, h.id, k, n),
         Judged::Free => {
-            let a = respond(out, t, h, p.status, held, n);
+            arrive(t, h, held, second);
+            let a = respond(out, t, h, p.status, held, second, n);
             change(input, r, t, second, c, held);
             a
         }

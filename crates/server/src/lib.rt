@@ -124,7 +124,7 @@ pub struct Fed {
 
 impl Fed {
     // The least room for the output of a line, and the longest line.
-    pub const ROOM: usize = 559;
+    pub const ROOM: usize = 615;
 
     pub const LONGEST: usize = 1024;
 }

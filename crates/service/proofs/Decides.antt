@@ -2,22 +2,23 @@
 use mathlib.Core.Path.{_≡_, refl}
 use mathlib.Core.List.{List, [], _∷_}
 use mathlib.Core.Bool.{Bool, true, false}
-use Prim.Native.Nat.{ℕ, zero, suc, _+_, _≤_, _<_}
+use Prim.Native.Nat.{ℕ, zero, suc, _+_, _≤_, _<_, _^_}
 use native.Mathlib.Decide.{decLe, decLt}
 use native.Mathlib.Omega.{arith}
-use lib.ListN.{length}
+use lib.ListN.{length, getD, List·getD-eq-default}
 use lib.Dec.{eqb}
 use borrow.Author.Tests.{eqb-true, eqb-false}
 use Rattle.message.specs.Request.{keyLimit, valueLimit}
 use Rattle.wire.specs.Codec.{isBytes}
 use Rattle.wire.proofs.Laws.{never}
 use Rattle.wire.specs.Same.{sameList}
+use Rattle.map.specs.History.{History, countsHeld, mostCount}
 use Rattle.map.specs.State.{Entry, State}
 use Rattle.map.specs.Step.{mostKeys, lastVersion}
-use Rattle.map.specs.Table.{Each, Pairs, lastDeadline, Sizes, OtherKey, OtherVersion, Issued, IsTable, Ascending}
+use Rattle.map.specs.Table.{Each, Pairs, lastDeadline, Sizes, OtherKey, OtherVersion, Issued, Counts, IsTable, Ascending}
 use Rattle.wire.proofs.SameLaws.{same-true, other-differ}
 use Rattle.table.specs.Bytes.{be8}
-use Rattle.table.specs.Memory.{countIndex, size, numberOf, placeOf, rowAt, countOf, stateOf, Permutation, Form, Sound}
+use Rattle.table.specs.Memory.{countIndex, firstIndex, size, numberOf, placeOf, rowAt, countOf, stateOf, Permutation, Form, Sound}
 
 decMap : {P Q : Type 0} → (P → Q) → (Q → P) → Dec P → Dec Q
 decMap f g (yes p) = yes (f p)
@@ -83,13 +84,22 @@ decSizes e =
     (decBoth (decLe (length (e .key)) keyLimit) (decBoth (decLe (length (e .value)) valueLimit)
     (decBoth (decBool (isBytes (e .key)) true) (decBoth (decBool (isBytes (e .value)) true) (decLe (e .deadline) lastDeadline)))))
 
+decCounts : (h : History) → Dec (Counts h)
+decCounts h =
+    decMap (λ z. record { long = z .0; most = λ i. each (h .counts) (z .1) i (decLt i (length (h .counts))) }) (λ c. (c .long, λ i _. c .most i))
+    (decBoth (decEq (length (h .counts)) countsHeld) (decBelow _ (λ i. decLe (getD (h .counts) i 0) mostCount) (length (h .counts))))
+  where
+    each : (ns : List ℕ) → ((i : ℕ) → i < length ns → getD ns i 0 ≤ mostCount) → (i : ℕ) → Dec (i < length ns) → getD ns i 0 ≤ mostCount
+    each ns z i (yes l) = z i l
+    each ns z i (no l) = omega (arith, List·getD-eq-default ns 0 {n = i} (omega arith))
+
 decTable : (st : State) → Dec (IsTable st)
 decTable st =
-    decMap (λ z. record { few = z .0; keys = z .1 .0; sizes = z .1 .1 .0; versions = z .1 .1 .1 .0; issued = z .1 .1 .1 .1 .0; last = z .1 .1 .1 .1 .1 })
-    (λ s. (s .few, (s .keys, (s .sizes, (s .versions, (s .issued, s .last))))))
+    decMap (λ z. record { few = z .0; keys = z .1 .0; sizes = z .1 .1 .0; versions = z .1 .1 .1 .0; issued = z .1 .1 .1 .1 .0; last = z .1 .1 .1 .1 .1 .0; counts = z .1 .1 .1 .1 .1 .1 })
+    (λ s. (s .few, (s .keys, (s .sizes, (s .versions, (s .issued, (s .last, s .counts)))))))
     (decBoth (decLe (length (st .entries)) mostKeys) (decBoth (decPairs (λ e f. decNot (decKey (e .key) (f .key))) (st .entries))
     (decBoth (decEach decSizes (st .entries)) (decBoth (decPairs (λ e f. decNot (decEq (e .version) (f .version))) (st .entries))
-    (decBoth (decEach (λ e. decBoth (decLe 1 (e .version)) (decLe (e .version) (st .last))) (st .entries)) (decLe (st .last) lastVersion))))))
+    (decBoth (decEach (λ e. decBoth (decLe 1 (e .version)) (decLe (e .version) (st .last))) (st .entries)) (decBoth (decLe (st .last) lastVersion) (decCounts (st .history))))))))
 
 decPlaces : (t : List ℕ) → Dec (Permutation t)
 decPlaces t =
@@ -99,11 +109,11 @@ decPlaces t =
 
 decForm : (t : List ℕ) → Dec (Form t)
 decForm t =
-    decMap (λ z. record { long = z .0; counted = z .1 .0; places = z .1 .1 .0; lengths = z .1 .1 .1 .0; order = z .1 .1 .1 .1 })
-    (λ f. (f .long, (f .counted, (f .places, (f .lengths, f .order)))))
-    (decBoth (decEq (length t) size) (decBoth (decLe (numberOf t countIndex) mostKeys) (decBoth (decPlaces t)
+    decMap (λ z. record { long = z .0; counted = z .1 .0; first = z .1 .1 .0; places = z .1 .1 .1 .0; lengths = z .1 .1 .1 .1 .0; order = z .1 .1 .1 .1 .1 })
+    (λ f. (f .long, (f .counted, (f .first, (f .places, (f .lengths, f .order))))))
+    (decBoth (decEq (length t) size) (decBoth (decLe (numberOf t countIndex) mostKeys) (decBoth (decLt (numberOf t firstIndex) (2 ^ 64)) (decBoth (decPlaces t)
     (decBoth (decBelow _ (λ i. decBoth (decLe (be8 t (rowAt t i + 16)) keyLimit) (decLe (be8 t (rowAt t i + 24)) valueLimit)) (countOf t))
-    (decPairs (λ e f. decLt (e .version) (f .version)) (stateOf t .entries))))))
+    (decPairs (λ e f. decLt (e .version) (f .version)) (stateOf t .entries)))))))
 
 pub decSound : (t : List ℕ) → Dec (Sound t)
 decSound t = decMap (λ z. record { form = z .0; table = z .1 }) (λ s. (s .form, s .table)) (decBoth (decForm t) (decTable (stateOf t)))

@@ -14,7 +14,7 @@ use Rattle.message.specs.Reply.{bodyAt, textBody, fieldsOf, fields, message, er
 use Rattle.message.specs.Request.{shapeOf, argsOf, operation, transaction, fields as request-fields, request}
 use Rattle.message.specs.Start.{start, idIn}
 use Rattle.map.specs.Reply.{flat, shownPieces, pieces}
-use Rattle.map.specs.Step.{plans, plan, shows, entry, stored, held, full, planned, answer, act, step}
+use Rattle.map.specs.Step.{plans, plan, shows, entry, stored, held, full, planned, answer, act, core, arrive, step}
 use Rattle.service.specs.Line.{asks, onFrame, lineStep}
 use Rattle.service.specs.Serve.{onStep, onRead}
 use Rattle.service.specs.Edges.{All, cases}
@@ -22,6 +22,6 @@ use Rattle.wire.specs.Same.{sameList}
 use Rattle.map.specs.State.{fresh, find, without}
 
 pub edges : All cases fresh
-unfolding cases limitedText empty byte raw guard seq as-type bigEndian limited numberDec numberEnc number vInt vLong textAfter isText digitOf isDigit digitValue toHex fromHex second editionOf findCode rows rowOf refusal bodyAt textBody fieldsOf fields message errorReply shapeOf argsOf operation transaction request-fields request start idIn flat shownPieces pieces sameList find without plans plan shows entry stored held full planned answer act step onStep onRead asks onFrame lineStep
+unfolding cases limitedText empty byte raw guard seq as-type bigEndian limited numberDec numberEnc number vInt vLong textAfter isText digitOf isDigit digitValue toHex fromHex second editionOf findCode rows rowOf refusal bodyAt textBody fieldsOf fields message errorReply shapeOf argsOf operation transaction request-fields request start idIn flat shownPieces pieces sameList find without plans plan shows entry stored held full planned answer act core arrive step onStep onRead asks onFrame lineStep
 edges =
     ((refl, refl), ((refl, refl), ((refl, refl), ((refl, refl), ((refl, refl), ((refl, refl), ((refl, tt), ((refl, tt), ((refl, tt), ((refl, refl), (refl, (refl, (refl, (refl, (refl, tt)))))))))))))))

@@ -9,9 +9,9 @@ use Rattle.map.specs.State.{State}
 use Rattle.service.specs.Line.{stateLeft, later}
 use Rattle.service.specs.Feed.{Turn, turn, turnOf}
 
--- the room for the longest line that a line gives: 279 bytes in digits, and the line end
+-- the room for the longest line that a line gives: the 307 bytes of a stats reply in digits, and the line end
 abbrev pub lineRoom : ℕ
-lineRoom = 559
+lineRoom = 615
 
 -- what a turn and the turns behind it make together
 abbrev pub both : Turn → Turn → Turn

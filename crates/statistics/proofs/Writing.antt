@@ -1,24 +1,26 @@
 -- What writing statistics goes by. Assumes nothing.
 use mathlib.Core.Path.{_≡_, refl, sym, ap, _∙_}
 use mathlib.Core.List.{List, [], _∷_, _++_}
-use mathlib.Core.Bool.{Bool, true, _&&_}
+use mathlib.Core.Bool.{Bool, true, false, _&&_}
 use Prim.Native.Nat.{ℕ, zero, suc, _+_, _≤_, _<_}
 use native.Mathlib.Omega.{arith}
 use native.Mathlib.Numerals.{add-one}
 use native.Mathlib.Nat.{add-zero}
 use lib.ListN.{length, getD, drop, length-append, drop-of-length-le}
 use lib.Seq.{sets, drop-cons}
-use lib.Dec.{eqb}
-use borrow.Author.Tests.{lt-ltb}
+use lib.Dec.{eqb, ltb}
+use borrow.Author.Tests.{eqb-true, lt-ltb}
 use Rattle.wire.specs.Codec.{Valid, empty, raw, byte, guard, seq, as-type, all, isBytes}
 use Rattle.wire.specs.Number.{vInt, number, numberEnc}
 use Rattle.wire.specs.Same.{sameList}
 use Rattle.wire.specs.Field.{limited}
 use Rattle.wire.specs.Write.{Room, Wrote, putAt}
-use Rattle.wire.proofs.Laws.{both, seq-valid, guard-valid, type-valid}
+use Rattle.wire.proofs.Laws.{never, both, and, seq-valid, guard-valid, type-valid}
 use Rattle.wire.proofs.FieldLaws.{limited-valid}
 use Rattle.wire.proofs.WriteLaws.{sets-append, put-wrote, wrote-seq, wrote-guard, wrote-type}
 use Rattle.decimal.specs.Decimal.{decimal}
+use Rattle.decimal.proofs.DecimalLaws.{decimal-good}
+use Rattle.decimal.proofs.DecimalWrite.{decimal-most}
 use Rattle.statistics.specs.Statistics.{names, nameLimit, named, statistic, values, statistics}
 
 -- none of the first eight is the ninth
@@ -54,6 +56,10 @@ unfolding goodNames
 good-at [] i e h = absurd (omega arith)
 good-at (n ∷ ns) zero e h = both (named n .ok n) (goodNames ns) e .0
 good-at (n ∷ ns) (suc i) e h = good-at ns i (both (named n .ok n) (goodNames ns) e .1) (omega arith)
+
+one-good : (n : List ℕ) (v : ℕ) → Valid (named n) n → v ≤ 0x7fff_ffff_ffff_ffff → Valid (statistic n) v
+unfolding statistic as-type seq
+one-good n v e h = and e (decimal-good v h)
 
 statistic-ok : (i v : ℕ) → i < 9 → statistic (getD names i []) .ok v ≡ decimal .ok v
 unfolding statistic as-type seq names
@@ -91,6 +97,52 @@ values-length (n ∷ ns) (v ∷ vs) e h =
 statistics-length : (vs : List ℕ) → length vs ≡ 9 → length (statistics .enc vs) ≡ suc (size names vs)
 unfolding statistics as-type seq guard vInt number numberEnc names
 statistics-length vs h = ap suc (values-length names vs names-good h)
+
+-- how many there are, and then each
+pub statistics-ok : (vs : List ℕ) → statistics .ok vs ≡ values names .ok vs
+unfolding statistics as-type seq guard vInt number
+statistics-ok vs = refl
+
+-- nine vLongs have one
+values-good : (ns : List (List ℕ)) (vs : List ℕ) → goodNames ns ≡ true → length vs ≡ length ns → ((i : ℕ) → getD vs i 0 ≤ 0x7fff_ffff_ffff_ffff) → Valid (values ns) vs
+unfolding goodNames values as-type empty
+values-good [] [] e h g = refl
+values-good [] (v ∷ vs) e h g = absurd (omega arith)
+values-good (n ∷ ns) [] e h g = absurd (omega arith)
+values-good (n ∷ ns) (v ∷ vs) e h g =
+    let w = both (named n .ok n) (goodNames ns) e in
+    values-ok n ns v vs ∙ and (one-good n v (w .0) (g 0)) (values-good ns vs (w .1) (omega arith) (λ i. g (suc i)))
+
+pub statistics-good : (vs : List ℕ) → length vs ≡ 9 → ((i : ℕ) → getD vs i 0 ≤ 0x7fff_ffff_ffff_ffff) → Valid statistics vs
+unfolding names
+statistics-good vs h g = statistics-ok vs ∙ values-good names vs names-good h g
+
+-- no value has no written form
+pub none-bad : statistics .ok [] ≡ false
+unfolding statistics as-type seq guard vInt number values names
+none-bad = refl
+
+-- a value for each name
+valid-length : (ns : List (List ℕ)) (vs : List ℕ) → Valid (values ns) vs → length vs ≡ length ns
+unfolding values
+valid-length [] vs v = eqb-true _ 0 (type-valid (λ vs. eqb (length vs) 0) (λ u. []) (λ vs. tt) empty vs v .0)
+valid-length (n ∷ ns) [] v = never (cc (type-valid (λ vs. ltb 0 (length vs)) (λ p. p .0 ∷ p .1) (λ vs. (getD vs 0 0, drop 1 vs)) (seq (statistic n) λ _. values ns) [] v .0))
+valid-length (n ∷ ns) (x ∷ vs) v = ap suc (valid-length ns vs (both (statistic n .ok x) (values ns .ok vs) (sym (values-ok n ns x vs) ∙ v) .1))
+
+-- a value takes at most 20 bytes
+sizeMost : List (List ℕ) → ℕ
+sizeMost [] = 0
+sizeMost (n ∷ ns) = suc (length n + 20) + sizeMost ns
+
+size-most : (ns : List (List ℕ)) (vs : List ℕ) → size ns vs ≤ sizeMost ns
+unfolding sizeMost
+size-most [] vs = omega arith
+size-most (n ∷ ns) [] = omega arith
+size-most (n ∷ ns) (v ∷ vs) = omega (arith, decimal-most v, size-most ns vs)
+
+pub statistics-most : (vs : List ℕ) → Valid statistics vs → length (statistics .enc vs) ≤ 294
+unfolding sizeMost names
+statistics-most vs v = omega (arith, statistics-length vs (valid-length names vs (sym (statistics-ok vs) ∙ v)), size-most names vs)
 
 -- the names and their lengths take 113 bytes
 pub nine-length : (a b c d e f g h i : ℕ) → length (statistics .enc (a ∷ b ∷ c ∷ d ∷ e ∷ f ∷ g ∷ h ∷ i ∷ []))
@@ -163,11 +215,6 @@ wrote-named n v at old g h e f =
   where
     both-length : length (limited nameLimit .enc n ++ decimal .enc v) ≡ length (limited nameLimit .enc n) + length (decimal .enc v)
     both-length = length-append (limited nameLimit .enc n) (decimal .enc v)
-
--- how many there are, and then each
-pub statistics-ok : (vs : List ℕ) → statistics .ok vs ≡ values names .ok vs
-unfolding statistics as-type seq guard vInt number
-statistics-ok vs = refl
 
 pub first-more : (vs : List ℕ) → length (statistics .enc vs) ≡ suc (length (values names .enc vs))
 unfolding statistics as-type seq guard vInt number numberEnc

@@ -41,6 +41,13 @@ fn keeps_rules(ns: [u64; 9]) -> bool
     true
 }
 
+// Whether the nine have a written form.
+pub fn can_send(x: Statistics) -> bool
+    ensures { λ r. ⌜ r ≡ statistics .ok (listOf x) ⌝ }
+{
+    keeps_rules(list_of(x))
+}
+
 // How many bytes they take: the names and their lengths take 113, and how many there are takes one.
 pub fn statistics_len(x: Statistics) -> usize
     ensures { λ r. ⌜ (r ≡ length (statistics .enc (listOf x))) × (r ≤ 294) ⌝ }

@@ -5,13 +5,28 @@ use Prim.Native.Nat.{ℕ}
 use native.Mathlib.Omega.{arith}
 use lib.ListN.{length, length-append}
 use Rattle.wire.specs.Codec.{Valid}
+use Rattle.map.specs.History.{History}
 use Rattle.map.specs.State.{Entry, State}
 use Rattle.map.specs.Table.{Each, IsTable}
 use Rattle.table.specs.Memory.{stateOf, Sound}
+use Rattle.map.proofs.CountLaws.{fresh-counts}
 use Rattle.hex.specs.Hex.{line}
-use Rattle.stored.specs.File.{Form, entryLine, headLine, entryLines, file, Stores}
+use Rattle.stored.specs.File.{Form, entryLine, headLine, entryLines, file, afresh, Stores}
 use Rattle.stored.proofs.LineLaws.{entry-laws, entry-spelt, table-good, head-laws, head-spelt, head-good, same-line}
 use Rattle.hex.proofs.HexLaws.{line-length}
+
+-- a table with no history is one
+table-afresh : {st : State} → IsTable st → IsTable (afresh st)
+table-afresh s =
+    record {
+      few = s .few;
+      keys = s .keys;
+      sizes = s .sizes;
+      versions = s .versions;
+      issued = s .issued;
+      last = s .last;
+      counts = fresh-counts;
+    }
 
 module _ (f : Form) where
   some-line : (e : Entry) (x : List ℕ) → line (entryLine f .enc e) ++ x ≡ [] → ⊥
@@ -48,12 +63,19 @@ module _ (f : Form) where
   no-lines [] p = refl
   no-lines (e ∷ es) p = absurd (some-line e (entryLines f es) (sym p))
 
+  same-state : (s t : State) → s .entries ≡ t .entries → s .last ≡ t .last → s .history ≡ t .history → s ≡ t
+  same-state s t e l h =
+      ap {B = State} (λ (es : List Entry). record { entries = es; last = s .last; history = s .history }) e
+      ∙ ap {B = State} (λ (m : ℕ). record { entries = t .entries; last = m; history = s .history }) l
+      ∙ ap {B = State} (λ (x : History). record { entries = t .entries; last = t .last; history = x }) h
+
   pub one-table : (bytes : List ℕ) (s t : State) → Stores f bytes s → Stores f bytes t → s ≡ t
   one-table bytes s t x y =
       let r = file-front s t [] (x .table) (y .table) (append-nil (file f s) ∙ sym (x .same) ∙ y .same) in
       let n : t .entries ≡ s .entries = r .all ∙ rw (no-lines (r .entries) (r .behind), append-nil) in
-      ap {B = State} (λ (m : ℕ). record { entries = s .entries; last = m }) (sym (r .last)) ∙ ap {B = State} (λ (es : List Entry). record { entries = es; last = t .last }) (sym n)
+      same-state s t (sym n) (sym (r .last)) (x .history ∙ sym (y .history))
 
-  -- what `store` writes of a sound table can be loaded
-  pub stores-own : (t : List ℕ) → Sound t → Stores f (file f (stateOf t)) (stateOf t)
-  stores-own t s = record { table = s .table; order = s .form .order; same = refl }
+  -- what `store` writes of a sound table can be loaded, and gives the table with no history
+  pub stores-own : (t : List ℕ) → Sound t → Stores f (file f (stateOf t)) (afresh (stateOf t))
+  unfolding file
+  stores-own t s = record { table = table-afresh (s .table); order = s .form .order; history = refl; same = refl }

@@ -24,7 +24,7 @@ use Rattle.hex.specs.Coding as hex
 use Rattle.hex.proofs.HexLaws.{line-length}
 use Rattle.hex.proofs.InPlace.{line-over}
 use Rattle.table.specs.Bytes.{be8, part}
-use Rattle.table.specs.Memory.{lastIndex, numberAt, size, numberOf, rowAt, entry, entryOf, entriesOf, stateOf}
+use Rattle.table.specs.Memory.{lastIndex, numberAt, size, numberOf, rowAt, entry, entryOf, entriesOf, historyOf, stateOf}
 use Rattle.table.specs.Found.{entryAt}
 use Rattle.table.proofs.Lists.{lt-or-ge}
 use Rattle.table.proofs.Parts.{bytes-part}
@@ -141,6 +141,6 @@ pub last-small : (t : List ℕ) → Bytes t → stateOf t .last < 256 ^ 8
 unfolding stateOf numberOf
 last-small t b = go (eqb (length t) size) refl
   where
-    go : (x : Bool) → eqb (length t) size ≡ x → cond x (record { entries = entriesOf t; last = numberOf t lastIndex }) fresh .last < 256 ^ 8
+    go : (x : Bool) → eqb (length t) size ≡ x → cond x (record { entries = entriesOf t; last = numberOf t lastIndex; history = historyOf t }) fresh .last < 256 ^ 8
     go true e = be8-small t (numberAt lastIndex) b
     go false e = omega arith

@@ -15,6 +15,7 @@ use Rattle.wire.specs.Codec.{Valid}
 use Rattle.wire.proofs.Laws.{never, bytes-are}
 use Rattle.wire.proofs.FieldLaws.{limited-valid}
 use Rattle.message.specs.Request.{keyLimit, valueLimit}
+use Rattle.map.specs.History.{noHistory}
 use Rattle.map.specs.State.{Entry, State}
 use Rattle.map.specs.Table.{Each, IsTable}
 use Rattle.hex.specs.Hex.{toHex, line}
@@ -139,46 +140,48 @@ module _ {f : Form} {b : Bool} {p t u : List ℕ} {r : Loading} (q : List ℕ) (
         ends = rw (e, drop-append-le (r .taken) p q w) (ends-on f (r .begun) (drop (r .taken) p) u q (rw e at (g .ends)));
       }
 
--- a first line that is loaded is the file of the table that it leaves
-head-sound : (l t u : List ℕ) → headLoaded form1 l t ≡ some u → Sound u × (file form1 (stateOf u) ≡ l ++ (0x0a ∷ []))
+-- a first line that is loaded is the file of the table that it leaves, which has no history
+head-sound : (l t u : List ℕ) → headLoaded form1 l t ≡ some u → Sound u × (file form1 (stateOf u) ≡ l ++ (0x0a ∷ [])) × (stateOf u .history ≡ noHistory)
 unfolding headLoaded file entryLines line
 head-sound l t u e = go (readLine (headLine form1) l) refl e
   where
-    go : (o : Option ℕ) → readLine (headLine form1) l ≡ o → startWith t o ≡ some u → Sound u × (file form1 (stateOf u) ≡ l ++ (0x0a ∷ []))
+    go : (o : Option ℕ) → readLine (headLine form1) l ≡ o → startWith t o ≡ some u
+        → Sound u × (file form1 (stateOf u) ≡ l ++ (0x0a ∷ [])) × (stateOf u .history ≡ noHistory)
     go none p q = never (cc)
     go (some n) p q =
         let s = started-says n t u q in
         let d = started-sound n t u (s .0) (s .1) (rw q refl) in
         let x = line-read (headLine form1) (head-laws form1) l n p in
-        (d .0, ap (file form1) (d .1) ∙ append-nil (line (headLine form1 .enc n)) ∙ ap (λ (y : List ℕ). y ++ (0x0a ∷ [])) (sym (x .same)))
+        (d .0, ap (file form1) (d .1) ∙ append-nil (line (headLine form1 .enc n)) ∙ ap (λ (y : List ℕ). y ++ (0x0a ∷ [])) (sym (x .same)), ap (λ (st : State). st .history) (d .1))
 
 -- an entry's line that is loaded is behind the file of the table before it
 line-sound : (l t u : List ℕ) → Sound t → lineLoaded form1 l t ≡ some u
-    → Sound u × (file form1 (stateOf u) ≡ file form1 (stateOf t) ++ (l ++ (0x0a ∷ [])))
+    → Sound u × (file form1 (stateOf u) ≡ file form1 (stateOf t) ++ (l ++ (0x0a ∷ []))) × (stateOf u .history ≡ stateOf t .history)
 unfolding lineLoaded file entryLines entry line
 line-sound l t u h e = go (readLine (entryLine form1) l) refl e
   where
     go : (o : Option Entry) → readLine (entryLine form1) l ≡ o → restoreTo t o ≡ some u
-        → Sound u × (file form1 (stateOf u) ≡ file form1 (stateOf t) ++ (l ++ (0x0a ∷ [])))
+        → Sound u × (file form1 (stateOf u) ≡ file form1 (stateOf t) ++ (l ++ (0x0a ∷ []))) × (stateOf u .history ≡ stateOf t .history)
     go none p q = never (cc)
     go (some x) p q =
         let y = line-read (entryLine form1) (entry-laws form1) l x p in
         let k = parts x (y .good) .1 .1 in
         let d = restored-sound (x .key) (x .value) (x .version) (x .deadline) t u h
         (bytes-are _ (limited-valid keyLimit (x .key) (k .0) .1)) (bytes-are _ (limited-valid valueLimit (x .value) (k .1) .1)) q in
-        (d .0, ap (file form1) (d .1) ∙ rw (lines-append, append-nil, y .same) (sym (append-assoc (line (headLine form1 .enc (stateOf t .last))) (entryLines form1 (stateOf t .entries)) (line (entryLine form1 .enc x)))))
+        (d .0, ap (file form1) (d .1) ∙ rw (lines-append, append-nil, y .same) (sym (append-assoc (line (headLine form1 .enc (stateOf t .last))) (entryLines form1 (stateOf t .entries)) (line (entryLine form1 .enc x)))), ap (λ (st : State). st .history) (d .1))
 
 -- lines behind a file
 loads-true : {f : Form} {c : Bool} {s t u : List ℕ} → Loads f true s t c u → c ≡ true
 loads-true no-line = refl
 loads-true (a-line l o e r) = loads-true r
 
-loads-sound : {c : Bool} {s t u : List ℕ} → Loads form1 true s t c u → Sound t → Sound u × (file form1 (stateOf u) ≡ file form1 (stateOf t) ++ s)
-loads-sound {t = t} no-line h = (h, sym (append-nil (file form1 (stateOf t))))
+loads-sound : {c : Bool} {s t u : List ℕ} → Loads form1 true s t c u → Sound t
+    → Sound u × (file form1 (stateOf u) ≡ file form1 (stateOf t) ++ s) × (stateOf u .history ≡ stateOf t .history)
+loads-sound {t = t} no-line h = (h, sym (append-nil (file form1 (stateOf t))), refl)
 loads-sound {t = t} (a-line {u = u} l o e r) h =
     let a = line-sound l t u h e in
     let d = loads-sound r (a .0) in
-    (d .0, d .1 ∙ rw (a .1, append-assoc, append-assoc))
+    (d .0, d .1 ∙ rw (a .1, append-assoc, append-assoc), d .2 ∙ a .2)
 
 -- a file of lines that are all loaded stores the table that they leave
 pub loads-stores : {c : Bool} {s t u : List ℕ} → Loads form1 false s t c u → c ≡ true → Sound u × Stores form1 s (stateOf u)
@@ -186,7 +189,7 @@ loads-stores no-line p = never (cc)
 loads-stores {t = t} (a-line {u = u} l o e r) p =
     let a = head-sound l t u e in
     let d = loads-sound r (a .0) in
-    (d .0, record { table = d .0 .table; order = d .0 .form .order; same = sym (d .1 ∙ rw (a .1, append-assoc)) })
+    (d .0, record { table = d .0 .table; order = d .0 .form .order; history = d .2 ∙ a .2; same = sym (d .1 ∙ rw (a .1, append-assoc)) })
 
 -- a line that can be loaded does not end the loading
 stuck : (b : Bool) (bs z u : List ℕ) (g : Bool) → isSome (loaded form1 b (toHex bs) u) ≡ true → Ends form1 b (line bs ++ z) u g → ⊥

@@ -7,7 +7,8 @@ use lib.Dec.{eqb}
 use Rattle.wire.specs.Codec.{Codec, byte, guard, seq, as-type, all}
 use Rattle.wire.specs.Field.{entryVersion, second, limited}
 use Rattle.message.specs.Request.{keyLimit, valueLimit}
-use Rattle.map.specs.State.{Entry, State}
+use Rattle.map.specs.History.{noHistory}
+use Rattle.map.specs.State.{Entry, State, withHistory}
 use Rattle.map.specs.Table.{IsTable, Ascending}
 use Rattle.hex.specs.Hex.{line}
 
@@ -44,8 +45,13 @@ entryLines f (e ∷ es) = line (entryLine f .enc e) ++ entryLines f es
 unfoldable pub file : Form → State → List ℕ
 file f st = line (headLine f .enc (st .last)) ++ entryLines f (st .entries)
 
+-- the table that the file of a table gives back: the counts and the first second are "of the history since start or the last load", and no file holds them
+abbrev pub afresh : State → State
+afresh st = withHistory noHistory st
+
 -- "Reading accepts exactly what writing a table can give."
 pub record Stores (f : Form) (bytes : List ℕ) (st : State) : Type 0 where
   pub table : IsTable st
   pub order : Ascending (st .entries)
+  pub history : st .history ≡ noHistory
   pub same : bytes ≡ file f st

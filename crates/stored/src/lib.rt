@@ -153,10 +153,10 @@ pub fn load_lines(piece: &[u8], t: &mut [u8], begun: bool) -> Loading
 }
 
 // Memory of a table.
-fn memory() -> [u8; 45200]
+fn memory() -> [u8; 45264]
     ensures { λ r. ⌜ size ≡ length r ⌝ }
 {
-    [0; 45200]
+    [0; 45264]
 }
 
 // Loads a stored file: the table is built in memory of its own, and takes the place of t only when the last line is good. Else it is 17.

@@ -1,6 +1,6 @@
 -- What the public functions answer: of memory of another length, of a row that is not held, and where nothing is changed. Assumes nothing.
 use mathlib.Core.Path.{_≡_, refl, sym, ap, _∙_}
-use mathlib.Core.List.{List, []}
+use mathlib.Core.List.{List, [], _∷_}
 use mathlib.Core.Bool.{Bool, true, false, cond, _&&_}
 use mathlib.Core.Option.{none, some}
 use mathlib.Core.Logic.{⊎-elim}
@@ -11,18 +11,20 @@ use lib.Dec.{eqb, leb, ltb}
 use borrow.Author.Tests.{eqb-true, eqb-false, eq-eqb, ne-eqb, ltb-true, lt-ltb, le-ltb, leb-true, le-leb, lt-leb}
 use Rattle.wire.proofs.Laws.{never, both, and, and-false}
 use Rattle.message.specs.Request.{keyLimit, valueLimit}
+use Rattle.message.specs.declared.Operation.{Operation}
+use Rattle.map.specs.History.{adds, startOf}
 use Rattle.map.specs.State.{Entry, State, fresh}
-use Rattle.map.specs.Step.{mostKeys, lastVersion}
-use Rattle.table.specs.Bytes.{be8}
-use Rattle.table.specs.Memory.{countIndex, lastIndex, size, rowAt, entry, entryOf, countOf, stateOf}
+use Rattle.map.specs.Step.{mostKeys, lastVersion, Context, statistics}
+use Rattle.table.specs.Bytes.{be8, upto}
+use Rattle.table.specs.Memory.{countIndex, lastIndex, firstIndex, countsIndex, size, numberOf, firstOf, rowAt, entry, entryOf, countOf, historyOf, stateOf}
 use Rattle.table.specs.Found.{entryAt, FoundIs, NumberAt}
 use Rattle.table.specs.Check.{FoundFrom}
 use Rattle.table.specs.declared.Found.{Found}
 use Rattle.table.specs.declared.Found.the-variants.{At, Absent}
-use Rattle.table.specs.Change.{Answers, fitsRow, hasRoom, added, renewed, removed, cleared}
-use Rattle.table.specs.Write.{withNumber, turned, withValue, withEntry}
+use Rattle.table.specs.Change.{Answers, fitsRow, hasRoom, added, renewed, removed, cleared, lastSecond, arrived}
+use Rattle.table.specs.Write.{withNumber, begun, counted, turned, withValue, withEntry}
 use Rattle.table.proofs.Lists.{lt-or-ge}
-use Rattle.table.proofs.RowLaws.{length-entries, entry-is}
+use Rattle.table.proofs.RowLaws.{history-is, length-entries, entry-is}
 
 pub other-length : (t : List ℕ) → (length t ≡ size → ⊥) → stateOf t ≡ fresh
 unfolding stateOf
@@ -156,3 +158,37 @@ found-first t k h Absent f =
     λ j l q.
     let m : j < countOf t = omega (arith, length-entries t h) in
     f j m (omega arith) (sym (ap (λ (e : Entry). e .key) (entry-is t h j m)) ∙ q)
+
+-- a call that arrives
+module _ (o : Operation) (absent : Bool) (second : ℕ) (t : List ℕ) where
+  abbrev after : List ℕ
+  after = counted countsIndex (adds o absent) (begun second t)
+
+  abbrev may-arrive : Bool
+  may-arrive = eqb (length t) size && leb second lastSecond
+
+  pub arrived-yes : (u : List ℕ) → length t ≡ size → second ≤ lastSecond → u ≡ after → Answers t (arrived o absent second t) true u
+  unfolding arrived
+  arrived-yes u h l x = taken t after may-arrive (and (eq-eqb _ _ h) (le-leb _ _ l)) x
+
+  pub arrived-sized : (length t ≡ size → ⊥) → Answers t (arrived o absent second t) false t
+  unfolding arrived
+  arrived-sized h = left t after may-arrive (rw (ne-eqb (length t) size h))
+
+  pub arrived-late : lastSecond < second → Answers t (arrived o absent second t) false t
+  unfolding arrived
+  arrived-late l = left t after may-arrive (rw (lt-leb second lastSecond l, and-false))
+
+-- the statistics
+module _ (second : ℕ) (t : List ℕ) where
+  abbrev at : Context
+  at = record { second = second }
+
+  pub statistics-none : (length t ≡ size → ⊥) → 0 ∷ 0 ∷ 0 ∷ 0 ∷ 0 ∷ 0 ∷ 0 ∷ 0 ∷ 0 ∷ [] ≡ statistics at (stateOf t)
+  unfolding statistics
+  statistics-none h = let e : second - second ≡ 0 = omega arith in rw (other-length t h, e)
+
+  pub statistics-are : length t ≡ size → statistics at (stateOf t) ≡
+      (second - startOf (firstOf (numberOf t firstIndex)) second) ∷ countOf t ∷ numberOf t 3 ∷ numberOf t 4 ∷ numberOf t 5 ∷ numberOf t 6 ∷ numberOf t 7 ∷ numberOf t 8 ∷ numberOf t 9 ∷ []
+  unfolding statistics historyOf upto
+  statistics-are h = rw (history-is t h, length-entries t h)

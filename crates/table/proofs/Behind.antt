@@ -10,7 +10,7 @@ use Rattle.table.specs.Bytes.{part, upto}
 use Rattle.table.specs.Memory.{headCount, countIndex, lastIndex, numberAt, placesAt, rowWidth, size, numberOf, placeOf, rowAt, entryOf, countOf, entriesOf, stateOf}
 use Rattle.table.proofs.Lists.{upto-ext}
 use Rattle.table.proofs.Parts.{getD-part}
-use Rattle.table.proofs.RowLaws.{be8-same, row-same, state-is, entries-are, last-is}
+use Rattle.table.proofs.RowLaws.{be8-same, row-same, history-same, state-is, entries-are, last-is, history-is}
 use Rattle.table.proofs.Regions.{row-at-same, row-in}
 
 -- memory of the right length with the same header, the same places of entries and the same rows of entries
@@ -48,3 +48,4 @@ module _ (t u : List ℕ) (ht : length t ≡ size) (hu : length u ≡ size) (hea
 
   pub behind : stateOf u ≡ stateOf t
   behind = state-is u (stateOf t) hu (entries ∙ sym (entries-are t ht)) (number lastIndex (omega arith) ∙ sym (last-is t ht))
+      (history-same u t (λ i _ l. number i l) ∙ sym (history-is t ht))

@@ -1,48 +1,56 @@
 -- On sound memory each change of the bytes is a change of the map's state, and keeps the form. Assumes nothing.
 use mathlib.Core.Path.{_≡_, refl, sym, ap, _∙_, subst}
 use mathlib.Core.List.{List, [], _∷_, _++_}
-use Prim.Native.Nat.{ℕ, suc, _-_, _≤_, _<_, _^_}
+use mathlib.Core.Logic.{inl}
+use Prim.Native.Nat.{ℕ, suc, _≤_, _<_, _^_}
 use native.Mathlib.Omega.{arith}
 use lib.ListN.{length}
 use borrow.Author.Tests.{eq-eqb, lt-ltb, le-leb}
 use Rattle.message.specs.Request.{keyLimit, valueLimit}
-use Rattle.map.specs.State.{Entry, State, withEntries}
-use Rattle.map.specs.Step.{mostKeys, lastVersion}
-use Rattle.map.specs.Table.{Each, Ascending}
+use Rattle.message.specs.Request.{Request}
+use Rattle.map.specs.History.{History, noHistory, adds}
+use Rattle.map.specs.State.{Entry, State, withEntries, withLast}
+use Rattle.map.specs.Step.{mostKeys, lastVersion, Context, isNone, held, arrive}
+use Rattle.map.specs.Table.{Each, Counts, IsTable, Ascending}
+use Rattle.map.proofs.Counting.{arrive-table}
 use Rattle.map.proofs.Each.{each-map, pairs-add}
-use Rattle.table.specs.Memory.{countIndex, lastIndex, size, numberOf, rowAt, entry, entryOf, countOf, entriesOf, stateOf, Form, Sound}
+use Rattle.table.specs.Memory.{countIndex, lastIndex, firstIndex, countsIndex, size, numberOf, rowAt, entry, entryOf, countOf, entriesOf, historyOf, stateOf, Form, Sound}
 use Rattle.table.specs.Found.{entryAt}
-use Rattle.table.specs.Write.{withNumber, withEntry}
-use Rattle.table.specs.Change.{Changed, Left, newest, fitsRow, hasRoom, added, renewed, removed, cleared, started, grown, extended, shrunk, refreshed}
+use Rattle.table.specs.Write.{withNumber, withNone, begun, counted, withEntry}
+use Rattle.table.specs.Change.{Changed, Left, newest, fitsRow, hasRoom, added, renewed, removed, cleared, started, lastSecond, arrived, grown, extended, shrunk, refreshed}
 use Rattle.table.proofs.Lists.{removeAt}
 use Rattle.table.proofs.Order.{each-less, pairs-less, to-newest}
-use Rattle.table.proofs.RowLaws.{state-is, entries-are, last-is, length-entries, entry-is}
-use Rattle.table.proofs.Writes.{Shape, Contains, number-is, number-written, issue}
+use Rattle.table.proofs.RowLaws.{state-is, entries-are, last-is, history-is, length-entries, entry-is}
+use Rattle.table.proofs.Regions.{kept-wide, number-kept}
+use Rattle.table.proofs.Writes.{Shape, Contains, numbers, issue}
+use Rattle.table.proofs.Numbers.{none-kept, none-number, no-history, arrives-kept, arrives-first, arrives}
 use Rattle.table.proofs.Entries.{one-more, one-less, one-renewed, none-left, none-yet}
 
 abbrev shape : {t : List ℕ} → Form t → Shape t
-shape f = record { long = f .long; counted = f .counted; places = f .places; lengths = f .lengths }
+shape f = record { long = f .long; counted = f .counted; first = f .first; places = f .places; lengths = f .lengths }
 
 -- the state and the form of memory by its entries
-pub state-of : {u : List ℕ} {es : List Entry} {x : ℕ} → Contains u es x → stateOf u ≡ record { entries = es; last = x }
-state-of {u} b = state-is u _ (b .shape .long) (b .entries) (b .last)
+pub state-of : {u : List ℕ} {es : List Entry} {x : ℕ} {y : History} → Contains u es x y → stateOf u ≡ record { entries = es; last = x; history = y }
+state-of {u} b = state-is u _ (b .shape .long) (b .entries) (b .last) (b .history)
 
-pub form-of : {u : List ℕ} {es : List Entry} {x : ℕ} → Contains u es x → Ascending es → Form u
+pub form-of : {u : List ℕ} {es : List Entry} {x : ℕ} {y : History} → Contains u es x y → Ascending es → Form u
 form-of b a =
     let s = b .shape in
     record {
       long = s .long;
       counted = s .counted;
+      first = s .first;
       places = s .places;
       lengths = s .lengths;
       order = subst (λ (st : State). Ascending (st .entries)) (sym (state-of b)) a;
     }
 
-changed : {t u : List ℕ} {es fs : List Entry} {x y : ℕ} → length t ≡ size → Contains u es x → es ≡ fs → x ≡ y → Ascending fs → Changed t u (record { entries = fs; last = y })
-changed h b e f a =
+changed : {t u : List ℕ} {es fs : List Entry} {x z : ℕ} {y w : History} → length t ≡ size → Contains u es x y → es ≡ fs → x ≡ z → y ≡ w → Ascending fs
+    → Changed t u (record { entries = fs; last = z; history = w })
+changed h b e f g a =
     record {
       long = b .shape .long ∙ sym h;
-      state = state-of b ∙ rw (e, f);
+      state = state-of b ∙ rw (e, f, g);
       form = form-of b (subst Ascending (sym e) a);
     }
 
@@ -61,7 +69,7 @@ module _ (k v : List ℕ) (n d : ℕ) (t : List ℕ) (s : Sound t) (room : lengt
   abbrev h : length t ≡ size
   h = s .form .long
 
-  longer : Contains (withEntry k v n d t) (entriesOf t ++ (entry k v n d ∷ [])) (numberOf t lastIndex)
+  longer : Contains (withEntry k v n d t) (entriesOf t ++ (entry k v n d ∷ [])) (numberOf t lastIndex) (historyOf t)
   longer = one-more k v n d t (shape (s .form)) (omega (arith, length-entries t h)) hk hv hn hd
 
   same : entriesOf t ++ (entry k v n d ∷ []) ≡ stateOf t .entries ++ (entry k v n d ∷ [])
@@ -73,10 +81,10 @@ module _ (k v : List ℕ) (n d : ℕ) (t : List ℕ) (s : Sound t) (room : lengt
 
   -- an entry more as it is, and one with its version issued
   pub entry-changed : Changed t (withEntry k v n d t) (extended k v n d (stateOf t))
-  entry-changed = changed h longer same (sym (last-is t h)) rises
+  entry-changed = changed h longer same (sym (last-is t h)) (sym (history-is t h)) rises
 
-  entry-issued : Changed t (withNumber lastIndex n (withEntry k v n d t)) (record { entries = stateOf t .entries ++ (entry k v n d ∷ []); last = n })
-  entry-issued = changed h (issue _ _ _ n longer hn) same refl rises
+  entry-issued : Changed t (withNumber lastIndex n (withEntry k v n d t)) (withLast n (withEntries (stateOf t .entries ++ (entry k v n d ∷ [])) (stateOf t)))
+  entry-issued = changed h (issue _ _ _ n _ longer hn) same refl (sym (history-is t h)) rises
 
 -- the public functions' changes
 module _ {t u : List ℕ} (s : Sound t) where
@@ -94,7 +102,7 @@ module _ {t u : List ℕ} (s : Sound t) where
       let e = rw (lt-ltb i (length (stateOf t .entries)) l) at c in
       let h = s .form .long in
       rw e
-      (changed h (one-less t i (shape (s .form)) (omega (arith, length-entries t h))) (ap (removeAt i) (sym (entries-are t h))) (sym (last-is t h))
+      (changed h (one-less t i (shape (s .form)) (omega (arith, length-entries t h))) (ap (removeAt i) (sym (entries-are t h))) (sym (last-is t h)) (sym (history-is t h))
       (pairs-less _ (stateOf t .entries) i (s .form .order)))
 
   pub renewed-changed : (i : ℕ) (v : List ℕ) (d : ℕ) → length v ≤ valueLimit → d < 2 ^ 64 → i < length (stateOf t .entries) → stateOf t .last < lastVersion
@@ -107,20 +115,43 @@ module _ {t u : List ℕ} (s : Sound t) where
       let n : ℕ = suc (stateOf t .last) in
       let k : entryOf t (rowAt t i) .key ≡ entryAt t i .key = ap (λ (x : Entry). x .key) (sym (entry-is t h i m)) in
       rw e
-      (changed h (issue _ _ _ n (one-renewed t i (shape (s .form)) m v n d hv (omega arith) hd) (omega arith)) (ap (λ (es : List Entry). removeAt i es ++ (entry (entryOf t (rowAt t i) .key) v n d ∷ [])) (sym (entries-are t h)) ∙ ap (λ (x : List ℕ). removeAt i (stateOf t .entries) ++ (entry x v n d ∷ [])) k) refl
+      (changed h (issue _ _ _ n _ (one-renewed t i (shape (s .form)) m v n d hv (omega arith) hd) (omega arith)) (ap (λ (es : List Entry). removeAt i es ++ (entry (entryOf t (rowAt t i) .key) v n d ∷ [])) (sym (entries-are t h)) ∙ ap (λ (x : List ℕ). removeAt i (stateOf t .entries) ++ (entry x v n d ∷ [])) k) refl (sym (history-is t h))
       (pairs-add _ _ (removeAt i (stateOf t .entries)) (pairs-less _ (stateOf t .entries) i (s .form .order)) (each-less _ (stateOf t .entries) i (next-above t s))))
 
   pub cleared-changed : Left t (cleared t) u → Changed t u (withEntries [] (stateOf t))
   unfolding cleared
   cleared-changed c =
       let h = s .form .long in
-      rw (rw (eq-eqb (length t) size h) at c) (changed h (none-left t h (s .form .places)) refl (sym (last-is t h)) tt)
+      rw (rw (eq-eqb (length t) size h) at c) (changed h (none-left t h (s .form .first) (s .form .places)) refl (sym (last-is t h)) (sym (history-is t h)) tt)
 
 -- and a start, of any memory
-pub started-changed : (x : ℕ) (t u : List ℕ) → length t ≡ size → x ≤ lastVersion → Left t (started x t) u → Changed t u (record { entries = []; last = x })
+pub started-changed : (x : ℕ) (t u : List ℕ) → length t ≡ size → x ≤ lastVersion → Left t (started x t) u → Changed t u (record { entries = []; last = x; history = noHistory })
 unfolding started
 started-changed x t u h l c =
     let e = rw (eq-eqb (length t) size h, le-leb x lastVersion l) at c in
-    let k = number-written countIndex 0 t h (omega arith) in
-    let b = none-yet (withNumber countIndex 0 t) (k .long ∙ h) (number-is countIndex 0 t h (omega arith) (omega arith)) in
-    rw e (changed h (issue _ _ _ x b (omega arith)) refl refl tt)
+    let n = none-number t h in
+    let b = none-yet (withNone t) (none-kept t h .long ∙ h) (n countIndex (omega arith)) (omega (arith, n firstIndex (omega arith))) in
+    rw e (changed h (issue _ _ _ x _ b (omega arith)) refl refl (no-history (withNone t) n) tt)
+
+-- and a call that arrives: the history goes on, and nothing else
+arrived-changed : {t u : List ℕ} → Sound t → (c : Context) (r : Request) → c .second ≤ lastSecond
+    → Left t (arrived (r .op) (isNone (held r (stateOf t))) (c .second) t) u → Changed t u (arrive c r (stateOf t))
+unfolding arrived arrive
+arrived-changed {t} {u} s c r l d =
+    let h = s .form .long in
+    let o = r .op in
+    let a = isNone (held r (stateOf t)) in
+    let x : u ≡ counted countsIndex (adds o a) (begun (c .second) t) = rw (eq-eqb (length t) size h, le-leb (c .second) lastSecond l) at d in
+    let k = arrives-kept o a (c .second) t h in
+    let q = subst Counts (history-is t h) (s .table .counts) in
+    let b = numbers t (counted countsIndex (adds o a) (begun (c .second) t)) _ _ _ (record { shape = shape (s .form); entries = refl; last = refl; history = refl })
+    (kept-wide (omega arith) (omega arith) k) (arrives-first o a (c .second) t h l (s .form .first)) in
+    rw x
+    (changed h b (sym (entries-are t h)) (number-kept k lastIndex (inl (omega arith)) ∙ sym (last-is t h))
+    (arrives o a (c .second) t h l (s .form .first) q ∙ rw (history-is t h)) (s .form .order))
+
+pub arrived-sound : {t u : List ℕ} → Sound t → (c : Context) (r : Request) → c .second ≤ lastSecond
+    → Left t (arrived (r .op) (isNone (held r (stateOf t))) (c .second) t) u → Sound u × (stateOf u ≡ arrive c r (stateOf t))
+arrived-sound {t} s c r l d =
+    let x = arrived-changed s c r l d in
+    (record { form = x .form; table = subst IsTable (sym (x .state)) (arrive-table c r (stateOf t) (s .table)) }, x .state)

@@ -2,29 +2,34 @@
 -- Assumes nothing.
 use mathlib.Core.Path.{_≡_, refl, sym, ap, _∙_, subst}
 use mathlib.Core.List.{List, [], _∷_, _++_, append-nil}
-use mathlib.Core.Logic.{⊎-elim}
+use mathlib.Core.Logic.{⊎-elim, inl}
+use mathlib.Core.Option.{Option, none, some}
 use mathlib.Core.Bool.{true}
-use Prim.Native.Nat.{ℕ, _+_, _%_, _≤_, _<_, _^_}
+use Prim.Native.Nat.{ℕ, suc, _+_, _%_, _≤_, _<_, _^_}
 use native.Mathlib.Omega.{arith}
-use lib.ListN.{length, getD, length-append, List·getD-eq-default}
-use lib.Seq.{append-snoc}
+use lib.ListN.{length, length-append, List·getD-eq-default}
+use lib.Seq.{append-snoc, ext-getD}
 use lib.Dec.{ltb}
 use borrow.Author.Tests.{lt-ltb}
 use Rattle.wire.specs.Codec.{Bytes, isBytes}
 use Rattle.wire.proofs.Laws.{bytes-are}
+use Rattle.map.specs.History.{noHistory}
 use Rattle.map.specs.State.{Entry, State}
 use Rattle.map.specs.Step.{mostKeys, lastVersion}
 use Rattle.map.specs.Table.{Each, Sizes, IsTable, Ascending}
-use Rattle.table.specs.Bytes.{be8, upto}
-use Rattle.table.specs.Memory.{countIndex, lastIndex, numberAt, placesAt, deadlineStart, keyLengthStart, valueLengthStart, keyStart, valueStart, size, numberOf, rowAt, entry, countOf, entriesOf, stateOf, Sound}
+use Rattle.table.specs.Bytes.{upto, zeros}
+use Rattle.table.specs.Memory.{headCount, countIndex, lastIndex, firstIndex, countsIndex, numberAt, placesAt, deadlineStart, keyLengthStart, valueLengthStart, keyStart, valueStart, size, numberOf, firstOf, rowAt, entry, countOf, entriesOf, historyOf, stateOf, Sound}
 use Rattle.table.specs.Change.{Left, made, started}
-use Rattle.table.specs.Write.{put, digits, withNumber, inOrder, withKey, withValue, withEntry}
-use Rattle.table.specs.Form.{zeros, withAll, form}
+use Rattle.table.specs.Write.{put, digits, withNumber, withNumbers, inOrder, withKey, withValue, withEntry}
+use Rattle.table.specs.Form.{withAll, firstNumber, form}
 use Rattle.map.proofs.Each.{each-both}
+use Rattle.map.proofs.CountLaws.{fresh-counts}
 use Rattle.table.proofs.Lists.{length-upto, getD-upto, lt-or-ge}
 use Rattle.table.proofs.Parts.{length-put, bytes-put}
-use Rattle.table.proofs.RowLaws.{be8-same, length-digits}
-use Rattle.table.proofs.Writes.{Contains, issue}
+use Rattle.table.proofs.RowLaws.{length-digits}
+use Rattle.table.proofs.Regions.{Kept, kept-both, kept-wide, number-kept}
+use Rattle.table.proofs.Writes.{Contains, number-written, number-is, numbers, issue}
+use Rattle.table.proofs.Numbers.{length-zeros, zero-at, no-number, no-history, numbers-kept, numbers-at}
 use Rattle.table.proofs.Entries.{one-more, none-yet}
 use Rattle.table.proofs.Changes.{state-of, form-of, started-changed}
 
@@ -48,17 +53,8 @@ held-put {n} {t} a vs h b l =
 held-put8 : {n : ℕ} {t : List ℕ} (a x : ℕ) → Held n t → a + 8 ≤ n → Held n (put t a (digits x))
 held-put8 a x h l = held-put a (digits x) h (bytes-digits x) (omega (arith, length-digits x))
 
-zero-at : (n k : ℕ) → getD (zeros n) k 0 ≡ 0
-unfolding zeros
-zero-at n k =
-    ⊎-elim
-    (λ l. getD-upto {A = ℕ} (λ i. 0) n k 0 l)
-    (λ l. List·getD-eq-default (upto {A = ℕ} (λ i. 0) n) 0 {n = k} (omega (arith, length-upto {A = ℕ} (λ i. 0) n)))
-    (lt-or-ge k n)
-
 held-zeros : (n : ℕ) → Held n (zeros n)
-unfolding zeros
-held-zeros n = record { long = length-upto {A = ℕ} (λ i. 0) n; bytes = λ i. omega (arith, zero-at n i) }
+held-zeros n = record { long = length-zeros n; bytes = λ i. omega (arith, zero-at n i) }
 
 -- an entry that a row can hold
 record Holdable (e : Entry) : Type 0 where
@@ -94,15 +90,10 @@ count-of t = length-upto _ _
 -- memory as entries are written to it
 record Growing (t : List ℕ) (es : List Entry) : Type 0 where
   bytes : Bytes t
-  contains : Contains t es 0
+  contains : Contains t es 0 noHistory
 
-no-bytes : be8 [] 0 ≡ 0
-unfolding be8
-no-bytes = refl
-
-no-number : (i : ℕ) → numberOf (zeros size) i ≡ 0
-unfolding numberOf
-no-number i = be8-same (zeros size) [] (numberAt i) 0 (λ k l. zero-at size (numberAt i + k)) ∙ no-bytes
+zero-number : (i : ℕ) → numberOf (zeros size) i ≡ 0
+zero-number i = no-number (zeros size) i (λ k l. zero-at size (numberAt i + k))
 
 start : Growing (inOrder (zeros size)) []
 unfolding inOrder
@@ -112,7 +103,10 @@ start =
     let m = length-upto (λ (i : ℕ). i) mostKeys in
     record {
       bytes = held-put placesAt (upto (λ (i : ℕ). i) mostKeys) z order-bytes (omega arith) .bytes;
-      contains = subst (λ (x : ℕ). Contains (inOrder (zeros size)) [] x) (no-number lastIndex) (none-yet (zeros size) h (no-number countIndex));
+      contains =
+          subst (λ (x : ℕ). Contains (inOrder (zeros size)) [] x noHistory) (zero-number lastIndex)
+          (subst (Contains (inOrder (zeros size)) [] (numberOf (zeros size) lastIndex)) (no-history (zeros size) (λ i _. zero-number i))
+          (none-yet (zeros size) h (zero-number countIndex) (omega (arith, zero-number firstIndex))));
     }
 
 grows : (t : List ℕ) (es : List Entry) (e : Entry) → Growing t es → Holdable e → length es < mostKeys
@@ -125,9 +119,10 @@ grows t es e g k l =
     record {
       bytes = entry-bytes t e (b .shape .long) (g .bytes) s;
       contains =
-          subst (λ (x : ℕ). Contains (withEntry (e .key) (e .value) (e .version) (e .deadline) t) (es ++ (e ∷ [])) x) (b .last)
-          (subst (λ (fs : List Entry). Contains (withEntry (e .key) (e .value) (e .version) (e .deadline) t) (fs ++ (e ∷ [])) (numberOf t lastIndex)) (b .entries)
-          (one-more (e .key) (e .value) (e .version) (e .deadline) t (b .shape) n (s .key) (s .value) (k .version) (omega (arith, s .deadline))));
+          subst (λ (x : ℕ). Contains (withEntry (e .key) (e .value) (e .version) (e .deadline) t) (es ++ (e ∷ [])) x noHistory) (b .last)
+          (subst (λ (fs : List Entry). Contains (withEntry (e .key) (e .value) (e .version) (e .deadline) t) (fs ++ (e ∷ [])) (numberOf t lastIndex) noHistory) (b .entries)
+          (subst (Contains (withEntry (e .key) (e .value) (e .version) (e .deadline) t) (entriesOf t ++ (e ∷ [])) (numberOf t lastIndex)) (b .history)
+          (one-more (e .key) (e .value) (e .version) (e .deadline) t (b .shape) n (s .key) (s .value) (k .version) (omega (arith, s .deadline)))));
     }
 
 rows : (es : List Entry) (t : List ℕ) (fs : List Entry) → Growing t fs → Each Holdable es → length fs + length es ≤ mostKeys → Growing (withAll t es) (fs ++ es)
@@ -142,27 +137,95 @@ pub record Formed (st : State) (t : List ℕ) : Type 0 where
   pub sound : Sound t
   pub bytes : Bytes t
 
-pub has-form : (st : State) → IsTable st → Ascending (st .entries) → Formed st (form st)
-unfolding form withNumber
-has-form st h a =
-    let r = rows (st .entries) (inOrder (zeros size)) [] start (holdable st h) (omega (arith, h .few)) in
-    let b = issue _ _ _ (st .last) (r .contains) (omega (arith, h .last)) in
-    let e : stateOf (form st) ≡ st = state-of b in
-    record {
-      state = e;
-      sound = record { form = form-of b a; table = subst IsTable (sym e) h };
-      bytes = held-put8 (numberAt lastIndex) (st .last) (record { long = r .contains .shape .long; bytes = r .bytes }) (omega arith) .bytes;
-    }
+-- the numbers of a row of numbers
+bytes-numbers : (ns : List ℕ) (i : ℕ) (t : List ℕ) → Held size t → i + length ns ≤ headCount → Held size (withNumbers i ns t)
+unfolding withNumbers withNumber
+bytes-numbers [] i t h l = h
+bytes-numbers (n ∷ ns) i t h l = bytes-numbers ns (suc i) _ (held-put8 (numberAt i) n h (omega arith)) (omega arith)
+
+-- memory can hold the first second
+abbrev pub FirstHeld : State → Type 0
+FirstHeld st = firstNumber (st .history .first) < 2 ^ 64
+
+first-of : (o : Option ℕ) → firstOf (firstNumber o) ≡ o
+first-of none = refl
+first-of (some n) = refl
+
+module _ (st : State) (h : IsTable st) (a : Ascending (st .entries)) (q : FirstHeld st) where
+  abbrev ns : List ℕ
+  ns = st .history .counts
+
+  r : Growing (withAll (inOrder (zeros size)) (st .entries)) (st .entries)
+  r = rows (st .entries) (inOrder (zeros size)) [] start (holdable st h) (omega (arith, h .few))
+
+  abbrev w₁ : List ℕ
+  w₁ = withNumber lastIndex (st .last) (withAll (inOrder (zeros size)) (st .entries))
+
+  abbrev w₂ : List ℕ
+  w₂ = withNumber firstIndex (firstNumber (st .history .first)) w₁
+
+  abbrev w₃ : List ℕ
+  w₃ = withNumbers countsIndex ns w₂
+
+  b : Contains w₁ (st .entries) (st .last) noHistory
+  b = issue _ _ _ (st .last) _ (r .contains) (omega (arith, h .last))
+
+  k₂ : Kept (numberAt firstIndex) (numberAt countsIndex) w₁ w₂
+  k₂ = number-written firstIndex _ w₁ (b .shape .long) (omega arith)
+
+  l₂ : length w₂ ≡ size
+  l₂ = k₂ .long ∙ b .shape .long
+
+  k₃ : Kept (numberAt countsIndex) placesAt w₂ w₃
+  k₃ = numbers-kept ns countsIndex w₂ l₂ (omega (arith, h .counts .long))
+
+  k : Kept (numberAt firstIndex) placesAt w₁ w₃
+  k = kept-both (kept-wide (omega arith) (omega arith) k₂) (kept-wide (omega arith) (omega arith) k₃)
+
+  first-is : numberOf w₃ firstIndex ≡ firstNumber (st .history .first)
+  first-is = number-kept k₃ firstIndex (inl (omega arith)) ∙ number-is firstIndex _ w₁ (b .shape .long) (omega arith) q
+
+  c : Contains w₃ (st .entries) (numberOf w₃ lastIndex) (historyOf w₃)
+  c = numbers w₁ w₃ _ _ _ b (kept-wide (omega arith) (omega arith) k) (rw first-is q)
+
+  counts-are : upto (λ i. numberOf w₃ (countsIndex + i)) 7 ≡ ns
+  counts-are =
+      let f : ℕ → ℕ = λ i. numberOf w₃ (countsIndex + i) in
+      let m = length-upto f 7 in
+      ext-getD 0 (upto f 7) ns (m ∙ sym (h .counts .long))
+      (λ i l. getD-upto f 7 i 0 (omega arith) ∙ numbers-at ns countsIndex w₂ l₂ (omega (arith, h .counts .long)) (λ j. omega (arith, h .counts .most j)) i (omega (arith, h .counts .long)))
+
+  history-is : historyOf w₃ ≡ st .history
+  unfolding historyOf
+  history-is = rw (first-is, first-of (st .history .first), counts-are)
+
+  state-is : stateOf w₃ ≡ st
+  state-is = state-of c ∙ rw (number-kept k lastIndex (inl (omega arith)), b .last, history-is)
+
+  bytes-all : Bytes w₃
+  unfolding withNumber
+  bytes-all =
+      let w₀ : Held size (withAll (inOrder (zeros size)) (st .entries)) = record { long = r .contains .shape .long; bytes = r .bytes } in
+      bytes-numbers ns countsIndex w₂ (held-put8 (numberAt firstIndex) _ (held-put8 (numberAt lastIndex) (st .last) w₀ (omega arith)) (omega arith)) (omega (arith, h .counts .long)) .bytes
+
+  pub has-form : Formed st (form st)
+  unfolding form
+  has-form =
+      record {
+        state = state-is;
+        sound = record { form = form-of c a; table = subst IsTable (sym state-is) h };
+        bytes = bytes-all;
+      }
 
 -- memory that was started, and memory that was made
 pub started-sound : (x : ℕ) (t u : List ℕ) → length t ≡ size → x ≤ lastVersion → Left t (started x t) u
-    → Sound u × (stateOf u ≡ record { entries = []; last = x })
+    → Sound u × (stateOf u ≡ record { entries = []; last = x; history = noHistory })
 started-sound x t u h l d =
     let c = started-changed x t u h l d in
     let e = c .state in (
       record {
         form = c .form;
-        table = subst IsTable (sym e) (record { few = omega arith; keys = tt; sizes = tt; versions = tt; issued = tt; last = l });
+        table = subst IsTable (sym e) (record { few = omega arith; keys = tt; sizes = tt; versions = tt; issued = tt; last = l; counts = fresh-counts });
       },
       e,
     )

@@ -7,6 +7,7 @@ pub mod Seen
 pub mod Order
 pub mod Writes
 pub mod Entries
+pub mod Numbers
 pub mod Changes
 pub mod Answers
 pub mod Compare

@@ -16,11 +16,11 @@ use Rattle.map.specs.State.{Entry, State, find, hasKey}
 use Rattle.map.specs.Step.{mostKeys, lastVersion, isNone}
 use Rattle.map.specs.Table.{Each, Pairs, lastDeadline, Sizes, OtherKey, OtherVersion, Issued, IsTable, Ascending}
 use Rattle.wire.proofs.SameLaws.{same-other, other-differ}
-use Rattle.table.specs.Memory.{countIndex, lastIndex, size, rowAt, entry, countOf, stateOf, Sound}
+use Rattle.table.specs.Memory.{lastIndex, size, rowAt, entry, countOf, stateOf, Sound}
 use Rattle.table.specs.Bytes.{be8}
 use Rattle.table.specs.Found.{entryAt}
 use Rattle.table.specs.Change.{Answers, extended, started, newest, fitsRow, hasRoom, fitting, next, restored}
-use Rattle.table.specs.Write.{withNumber, inOrder, withEntry}
+use Rattle.table.specs.Write.{withNumber, withNone, inOrder, withEntry}
 use Rattle.map.proofs.Each.{each-map, each-add, pairs-add}
 use Rattle.table.proofs.Order.{each-at}
 use Rattle.table.proofs.RowLaws.{length-entries}
@@ -36,7 +36,7 @@ passed new false u e = never (cc)
 -- the answers of `start`
 module _ (x : ℕ) (t : List ℕ) where
   abbrev bare : List ℕ
-  bare = withNumber lastIndex x (inOrder (withNumber countIndex 0 t))
+  bare = withNumber lastIndex x (inOrder (withNone t))
 
   abbrev may-start : Bool
   may-start = eqb (length t) size && leb x lastVersion
@@ -228,6 +228,7 @@ restored-table k v n d t u h bk bv r =
       versions = pairs-add _ OtherVersion es (old .versions) (each-map _ _ (λ e l q. omega arith) es low);
       issued = each-add _ (Issued (stateOf t .last)) es (old .issued) (omega (arith, r .follows .above), r .follows .most);
       last = old .last;
+      counts = old .counts;
     }
 
 pub restored-sound : (k v : List ℕ) (n d : ℕ) (t u : List ℕ) → Sound t → Bytes k → Bytes v → restored k v n d t ≡ some u

@@ -8,10 +8,10 @@ use borrow.Author.Tests.{eq-eqb}
 use Rattle.map.specs.State.{Entry, State}
 use Rattle.map.specs.Step.{mostKeys}
 use Rattle.table.specs.Bytes.{be8}
-use Rattle.table.specs.Memory.{lastIndex, size, numberOf, rowAt, entry, entryOf, countOf, entriesOf, stateOf}
+use Rattle.table.specs.Memory.{lastIndex, firstIndex, countsIndex, headCount, size, numberOf, rowAt, entry, entryOf, countOf, entriesOf, historyOf, stateOf}
 use Rattle.table.specs.Found.{entryAt}
 use Rattle.table.specs.Write.{put, digits}
-use Rattle.table.proofs.Lists.{length-upto, getD-upto}
+use Rattle.table.proofs.Lists.{length-upto, getD-upto, upto-ext}
 use Rattle.table.proofs.Parts.{part-ext, length-put, put-before, put-in}
 
 -- eight-byte numbers
@@ -91,20 +91,32 @@ module _ (t u : List ℕ) (a b : ℕ) (ht : a + 352 ≤ length t) (hu : b + 352 
   pub row-same : SameRow t a u b
   row-same = record { entry = entry-same; key = n₁; value = n₂ }
 
+-- memory with the same numbers of the history has the same history
+abbrev pub SameHistory : List ℕ → List ℕ → Type 0
+SameHistory u t = (i : ℕ) → firstIndex ≤ i → i < headCount → numberOf u i ≡ numberOf t i
+
+pub history-same : (u t : List ℕ) → SameHistory u t → historyOf u ≡ historyOf t
+unfolding historyOf
+history-same u t h =
+    rw (h firstIndex (omega arith) (omega arith), upto-ext (λ (i : ℕ). numberOf t (countsIndex + i)) (λ (i : ℕ). numberOf u (countsIndex + i)) 7 (λ i l. h (countsIndex + i) (omega arith) (omega arith)))
+
 -- the state of memory of the right length, and of another
-pub state-is : (t : List ℕ) (st : State) → length t ≡ size → entriesOf t ≡ st .entries → numberOf t lastIndex ≡ st .last → stateOf t ≡ st
+pub state-is : (t : List ℕ) (st : State) → length t ≡ size → entriesOf t ≡ st .entries → numberOf t lastIndex ≡ st .last → historyOf t ≡ st .history → stateOf t ≡ st
 unfolding stateOf
-state-is t st h e f = rw (eq-eqb (length t) size h, e, f)
+state-is t st h e f g = rw (eq-eqb (length t) size h, e, f, g)
 
 module _ (t : List ℕ) (h : length t ≡ size) where
-  sized : stateOf t ≡ record { entries = entriesOf t; last = numberOf t lastIndex }
-  sized = state-is t _ h refl refl
+  sized : stateOf t ≡ record { entries = entriesOf t; last = numberOf t lastIndex; history = historyOf t }
+  sized = state-is t _ h refl refl refl
 
   pub entries-are : stateOf t .entries ≡ entriesOf t
   entries-are = ap (λ (st : State). st .entries) sized
 
   pub last-is : stateOf t .last ≡ numberOf t lastIndex
   last-is = ap (λ (st : State). st .last) sized
+
+  pub history-is : stateOf t .history ≡ historyOf t
+  history-is = ap (λ (st : State). st .history) sized
 
   pub length-entries : length (stateOf t .entries) ≡ countOf t
   unfolding entriesOf

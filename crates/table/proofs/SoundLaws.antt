@@ -2,23 +2,23 @@
 use mathlib.Core.Path.{_≡_, sym, ap, _∙_, subst}
 use mathlib.Core.List.{List, []}
 use mathlib.Core.Logic.{⊎-elim}
-use Prim.Native.Nat.{ℕ, zero, suc, _+_, _≤_, _<_, min}
+use Prim.Native.Nat.{ℕ, zero, suc, _+_, _≤_, _<_, _^_, min}
 use native.Mathlib.Omega.{arith}
 use borrow.Author.Count.{below-more}
-use lib.ListN.{length}
+use lib.ListN.{length, List·getD-eq-default}
 use Rattle.wire.specs.Codec.{Bytes}
 use Rattle.wire.proofs.Laws.{is-bytes}
 use Rattle.map.specs.State.{Entry}
 use Rattle.map.specs.Step.{mostKeys, lastVersion}
-use Rattle.map.specs.Table.{Each, Pairs, Sizes, OtherKey, OtherVersion, Issued, Ascending}
-use Rattle.table.specs.Bytes.{be8}
-use Rattle.table.specs.Memory.{countIndex, lastIndex, size, numberOf, rowAt, entry, entryOf, countOf, stateOf, Permutation, Sound}
+use Rattle.map.specs.Table.{Each, Pairs, Sizes, OtherKey, OtherVersion, Issued, Counts, Ascending}
+use Rattle.table.specs.Bytes.{be8, upto}
+use Rattle.table.specs.Memory.{countIndex, lastIndex, firstIndex, countsIndex, numberAt, size, numberOf, rowAt, entry, entryOf, countOf, historyOf, stateOf, Permutation, Sound}
 use Rattle.table.specs.Found.{entryAt}
-use Rattle.table.specs.Check.{Within, AllWithin, Rising, Differ}
-use Rattle.table.proofs.Lists.{lt-or-ge}
+use Rattle.table.specs.Check.{Within, AllWithin, Rising, Differ, CountsWithin}
+use Rattle.table.proofs.Lists.{lt-or-ge, length-upto, getD-upto}
 use Rattle.table.proofs.Order.{each-at, each-all, pairs-at, pairs-all}
 use Rattle.table.proofs.Parts.{length-part, bytes-part}
-use Rattle.table.proofs.RowLaws.{entry-is, length-entries, last-is, count-most}
+use Rattle.table.proofs.RowLaws.{entry-is, length-entries, last-is, history-is, count-most}
 
 -- a version more, above those passed
 pub rising-more : (t : List ℕ) (i low v : ℕ) → Rising t i low → v ≡ be8 t (rowAt t i) → low < v → Rising t (i + 1) v
@@ -72,9 +72,29 @@ module _ (t : List ℕ) (h : length t ≡ size) (i : ℕ) (l : i < countOf t) wh
         deadline = w .deadline;
       })
 
+-- the numbers of the header
+number-most : (t : List ℕ) (i : ℕ) → Bytes t → numberOf t i < 2 ^ 64
+unfolding numberOf be8
+number-most t i b =
+    let a = numberAt i in
+    omega (arith, b a, b (a + 1), b (a + 2), b (a + 3), b (a + 4), b (a + 5), b (a + 6), b (a + 7))
+
+counts-within : (t : List ℕ) → CountsWithin t → Counts (historyOf t)
+unfolding historyOf
+counts-within t n =
+    let f : ℕ → ℕ = λ i. numberOf t (countsIndex + i) in
+    record {
+      long = length-upto f 7;
+      most = λ i.
+          ⊎-elim
+          (λ l. omega (arith, getD-upto f 7 i 0 l, n i l))
+          (λ l. omega (arith, List·getD-eq-default (upto f 7) 0 {n = i} (omega (arith, length-upto f 7))))
+          (lt-or-ge i 7);
+    }
+
 -- memory that passes the check is sound
 module _ (t : List ℕ) (h : length t ≡ size) (counted : numberOf t countIndex ≤ mostKeys) (last : numberOf t lastIndex ≤ lastVersion) (p : Permutation t) (all : AllWithin t)
-    (r : Rising t (countOf t) (numberOf t lastIndex)) (d : Differ t) (b : Bytes t) where
+    (r : Rising t (countOf t) (numberOf t lastIndex)) (d : Differ t) (n : CountsWithin t) (b : Bytes t) where
   abbrev es : List Entry
   es = stateOf t .entries
 
@@ -97,7 +117,7 @@ module _ (t : List ℕ) (h : length t ≡ size) (counted : numberOf t countIndex
   pub checked : Sound t
   checked =
       record {
-        form = record { long = h; counted = counted; places = p; lengths = λ i l. (all i l .key, all i l .value); order = order };
+        form = record { long = h; counted = counted; first = number-most t firstIndex b; places = p; lengths = λ i l. (all i l .key, all i l .value); order = order };
         table = record {
           few = omega (arith, length-entries t h, count-most t);
           keys = by-pairs OtherKey
@@ -108,6 +128,7 @@ module _ (t : List ℕ) (h : length t ≡ size) (counted : numberOf t countIndex
           issued = by-each (Issued (stateOf t .last))
               (λ i l. let v = version-is t h i l in (omega (arith, r .first i l), omega (arith, r .most i l, last-is t h)));
           last = omega (arith, last-is t h);
+          counts = subst Counts (sym (history-is t h)) (counts-within t n);
         };
       }
 
@@ -149,3 +170,8 @@ module _ (t : List ℕ) (s : Sound t) where
 
   pub sound-last : numberOf t lastIndex ≤ lastVersion
   sound-last = omega (arith, last-is t (s .form .long), s .table .last)
+
+  pub sound-counts : CountsWithin t
+  unfolding historyOf
+  sound-counts i l =
+      omega (arith, subst Counts (history-is t (s .form .long)) (s .table .counts) .most i, getD-upto (λ (k : ℕ). numberOf t (countsIndex + k)) 7 i 0 l)

@@ -6,14 +6,15 @@ use Prim.Native.Nat.{ℕ, _+_, _-_, _≤_, _<_, _^_, min}
 use native.Mathlib.Omega.{arith}
 use lib.ListN.{length}
 use Rattle.message.specs.Request.{keyLimit, valueLimit}
+use Rattle.map.specs.History.{History}
 use Rattle.map.specs.State.{Entry}
 use Rattle.map.specs.Step.{mostKeys}
 use Rattle.table.specs.Bytes.{be8, part, upto}
-use Rattle.table.specs.Memory.{headCount, countIndex, lastIndex, numberAt, rowWidth, deadlineStart, keyLengthStart, valueLengthStart, keyStart, valueStart, size, numberOf, placeOf, rowAt, entry, entryOf, countOf, entriesOf, Permutation}
+use Rattle.table.specs.Memory.{headCount, countIndex, lastIndex, firstIndex, numberAt, placesAt, rowWidth, deadlineStart, keyLengthStart, valueLengthStart, keyStart, valueStart, size, numberOf, placeOf, rowAt, entry, entryOf, countOf, entriesOf, historyOf, Permutation}
 use Rattle.table.specs.Write.{put, digits, withNumber, withKey, withValue, withEntry}
 use Rattle.table.proofs.Lists.{upto-ext}
 use Rattle.table.proofs.Parts.{part-put}
-use Rattle.table.proofs.RowLaws.{length-digits, length-put8, be8-put, be8-before, SameRow}
+use Rattle.table.proofs.RowLaws.{length-digits, length-put8, be8-put, be8-before, SameRow, SameHistory, history-same}
 use Rattle.table.proofs.Regions.{Kept, kept-put, kept-both, kept-wide, be8-kept, part-kept, number-kept, place-kept, row-in, row-from, permutation-same}
 
 abbrev pub Fit : List ℕ → ℕ → Type 0
@@ -159,14 +160,16 @@ entry-long k v n d t h hk hv =
 pub record Shape (t : List ℕ) : Type 0 where
   pub long : length t ≡ size
   pub counted : numberOf t countIndex ≤ mostKeys
+  pub first : numberOf t firstIndex < 2 ^ 64
   pub places : Permutation t
   pub lengths : AllFit t
 
--- memory of a shape that has the entries and the last version
-pub record Contains (u : List ℕ) (es : List Entry) (x : ℕ) : Type 0 where
+-- memory of a shape that has the entries, the last version and the history
+pub record Contains (u : List ℕ) (es : List Entry) (x : ℕ) (y : History) : Type 0 where
   pub shape : Shape u
   pub entries : entriesOf u ≡ es
   pub last : numberOf u lastIndex ≡ x
+  pub history : historyOf u ≡ y
 
 abbrev pub held : List ℕ → ℕ → Entry
 held t i = entryOf t (rowAt t i)
@@ -175,29 +178,45 @@ pub count-is : (t : List ℕ) (m : ℕ) → numberOf t countIndex ≡ m → m �
 unfolding countOf
 count-is t m e l = omega arith
 
--- memory by its count and the entry of each row held
-pub contains : (u : List ℕ) (m x : ℕ) (es : List Entry) → length u ≡ size → numberOf u countIndex ≡ m → m ≤ mostKeys → numberOf u lastIndex ≡ x → Permutation u
-    → ((i : ℕ) → i < m → Fit u (rowAt u i)) → upto (held u) m ≡ es → Contains u es x
+-- memory by its count and the entry of each row held, with the history of t
+pub contains : (t u : List ℕ) (m x : ℕ) (es : List Entry) → length u ≡ size → numberOf u countIndex ≡ m → m ≤ mostKeys → numberOf u lastIndex ≡ x
+    → numberOf t firstIndex < 2 ^ 64 → SameHistory u t → Permutation u
+    → ((i : ℕ) → i < m → Fit u (rowAt u i)) → upto (held u) m ≡ es → Contains u es x (historyOf t)
 unfolding entriesOf
-contains u m x es h c l e p f g =
+contains t u m x es h c l e b y p f g =
     let n = count-is u m c l in
     record {
-      shape = record { long = h; counted = omega arith; places = p; lengths = λ i q. f i (omega arith) };
+      shape = record { long = h; counted = omega arith; first = omega (arith, y firstIndex (omega arith) (omega arith)); places = p; lengths = λ i q. f i (omega arith) };
       entries = ap (upto (held u)) n ∙ g;
       last = e;
+      history = history-same u t y;
     }
 
--- the last version is written
-pub issue : (t : List ℕ) (es : List Entry) (x y : ℕ) → Contains t es x → y < 2 ^ 64 → Contains (withNumber lastIndex y t) es y
+-- numbers of the header are written, but for the count
+pub numbers : (t u : List ℕ) (es : List Entry) (x : ℕ) (y : History) → Contains t es x y → Kept (numberAt lastIndex) placesAt t u
+    → numberOf u firstIndex < 2 ^ 64 → Contains u es (numberOf u lastIndex) (historyOf u)
 unfolding entriesOf
-issue t es x y b l =
+numbers t u es x y b k q =
     let s = b .shape in
-    let u = withNumber lastIndex y t in
-    let k = number-written lastIndex y t (s .long) (omega arith) in
     let p : (i : ℕ) → placeOf u i ≡ placeOf t i = λ i. place-kept k i (inr (omega arith)) in
     let r : (i : ℕ) → SameRow u (rowAt u i) t (rowAt t i) = λ i. row-from (kept-wide (omega arith) (omega arith) k) (s .long) i i (p i) in
-    contains u (numberOf t countIndex) y es (k .long ∙ s .long) (number-kept k countIndex (inl (omega arith))) (s .counted)
-    (number-is lastIndex y t (s .long) (omega arith) l) (permutation-same (s .places) (λ i _. p i))
+    contains u u (numberOf t countIndex) (numberOf u lastIndex) es (k .long ∙ s .long) (number-kept k countIndex (inl (omega arith))) (s .counted)
+    refl q (λ i _ _. refl) (permutation-same (s .places) (λ i _. p i))
     (λ i q. fit (r i) (s .lengths i (omega (arith, count-is t (numberOf t countIndex) refl (s .counted)))))
     (upto-ext (held t) (held u) (numberOf t countIndex) (λ i _. r i .entry)
     ∙ ap (upto (held t)) (sym (count-is t (numberOf t countIndex) refl (s .counted))) ∙ b .entries)
+
+-- the last version is written
+pub issue : (t : List ℕ) (es : List Entry) (x z : ℕ) (y : History) → Contains t es x y → z < 2 ^ 64 → Contains (withNumber lastIndex z t) es z y
+issue t es x z y b l =
+    let s = b .shape in
+    let u = withNumber lastIndex z t in
+    let k = number-written lastIndex z t (s .long) (omega arith) in
+    let e : (i : ℕ) → firstIndex ≤ i → i < headCount → numberOf u i ≡ numberOf t i = λ i p q. number-kept k i (inr (omega arith)) in
+    let c = numbers t u es x y b (kept-wide (omega arith) (omega arith) k) (omega (arith, s .first, e firstIndex (omega arith) (omega arith))) in
+    record {
+      shape = c .shape;
+      entries = c .entries;
+      last = number-is lastIndex z t (s .long) (omega arith) l;
+      history = history-same u t e ∙ b .history;
+    }

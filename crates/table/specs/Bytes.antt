@@ -16,3 +16,7 @@ part xs a n = take n (drop a xs)
 unfoldable pub upto : {A : Type 0} → (ℕ → A) → ℕ → List A
 upto f zero = []
 upto f (suc n) = upto f n ++ (f n ∷ [])
+
+-- n times 0
+unfoldable pub zeros : ℕ → List ℕ
+zeros n = upto (λ i. 0) n

@@ -7,11 +7,13 @@ use Prim.Native.Nat.{ℕ, suc, _-_}
 use lib.ListN.{length, getD, take, drop}
 use lib.Dec.{eqb, leb, ltb}
 use Rattle.message.specs.Request.{keyLimit, valueLimit}
-use Rattle.map.specs.State.{Entry, State, withEntries, find, hasKey}
+use Rattle.map.specs.State.{Entry, State, withEntries, withLast, find, hasKey}
+use Rattle.message.specs.declared.Operation.{Operation}
+use Rattle.map.specs.History.{adds}
 use Rattle.map.specs.Step.{mostKeys, lastVersion, isNone}
 use Rattle.map.specs.Table.{lastDeadline}
-use Rattle.table.specs.Memory.{countIndex, lastIndex, size, rowAt, entry, countOf, stateOf, Form}
-use Rattle.table.specs.Write.{withNumber, turned, inOrder, withValue, withEntry}
+use Rattle.table.specs.Memory.{countIndex, lastIndex, countsIndex, size, rowAt, entry, countOf, stateOf, Form}
+use Rattle.table.specs.Write.{withNumber, withNone, begun, counted, turned, inOrder, withValue, withEntry}
 use Rattle.table.specs.declared.Outcome.{Outcome}
 use Rattle.table.specs.declared.Outcome.the-variants.{Done, Refused}
 
@@ -69,14 +71,24 @@ removed i t =
 unfoldable pub cleared : List ℕ → Option (List ℕ)
 cleared t = cond (eqb (length t) size) (some (withNumber countIndex 0 t)) none
 
--- memory of the right length made a table with no entries and a last version
+-- memory of the right length made a table with no entries, a last version and no history: "the history since start or the last load"
 unfoldable pub started : ℕ → List ℕ → Option (List ℕ)
 started x t =
-    cond (eqb (length t) size && leb x lastVersion) (some (withNumber lastIndex x (inOrder (withNumber countIndex 0 t)))) none
+    cond (eqb (length t) size && leb x lastVersion) (some (withNumber lastIndex x (inOrder (withNone t)))) none
 
 -- a fresh table: "The table holds the last version issued, 0 when fresh."
 abbrev pub made : List ℕ → Option (List ℕ)
 made t = started 0 t
+
+-- "Each call is given a second, 0 to 4,294,967,295."
+abbrev pub lastSecond : ℕ
+lastSecond = 4_294_967_295
+
+-- What a call that is served does to the history, before its step: its second is the first one where none was served before, and it is counted, by its
+-- operation and by whether no entry has its key.
+unfoldable pub arrived : Operation → Bool → ℕ → List ℕ → Option (List ℕ)
+arrived o absent second t =
+    cond (eqb (length t) size && leb second lastSecond) (some (counted countsIndex (adds o absent) (begun second t))) none
 
 -- the version of the last entry; 0 where there is none
 unfoldable pub newest : List Entry → ℕ
@@ -103,7 +115,7 @@ pub record Changed (old new : List ℕ) (st : State) : Type 0 where
 
 -- the state with an entry more, of the next version; with one more as it is; with entry i less; and with entry i renewed
 abbrev pub grown : List ℕ → List ℕ → ℕ → State → State
-grown k v d st = record { entries = st .entries ++ (entry k v (suc (st .last)) d ∷ []); last = suc (st .last) }
+grown k v d st = withLast (suc (st .last)) (withEntries (st .entries ++ (entry k v (suc (st .last)) d ∷ [])) st)
 
 abbrev pub extended : List ℕ → List ℕ → ℕ → ℕ → State → State
 extended k v n d st = withEntries (st .entries ++ (entry k v n d ∷ [])) st

@@ -3,9 +3,10 @@ use mathlib.Core.Path.{_≡_}
 use mathlib.Core.List.{List}
 use Prim.Native.Nat.{ℕ, _+_, _≤_, _<_}
 use Rattle.message.specs.Request.{keyLimit, valueLimit}
+use Rattle.map.specs.History.{countsHeld, mostCount}
 use Rattle.map.specs.Table.{lastDeadline}
 use Rattle.table.specs.Bytes.{be8}
-use Rattle.table.specs.Memory.{deadlineStart, keyLengthStart, valueLengthStart, rowAt, entryOf, countOf}
+use Rattle.table.specs.Memory.{countsIndex, deadlineStart, keyLengthStart, valueLengthStart, numberOf, rowAt, entryOf, countOf}
 use Rattle.table.specs.declared.Found.{Found}
 use Rattle.table.specs.declared.Found.the-variants.{At, Absent}
 
@@ -36,6 +37,10 @@ pub record Rising (t : List ℕ) (n top : ℕ) : Type 0 where
   pub first : (i : ℕ) → i < n → 1 ≤ be8 t (rowAt t i)
   pub rise : (i : ℕ) → i + 1 < n → be8 t (rowAt t i) < be8 t (rowAt t (i + 1))
   pub most : (i : ℕ) → i < n → be8 t (rowAt t i) ≤ top
+
+-- "13 for a greater count": the seven counts are at most the largest vLong
+abbrev pub CountsWithin : List ℕ → Type 0
+CountsWithin t = (i : ℕ) → i < countsHeld → numberOf t (countsIndex + i) ≤ mostCount
 
 -- no entry before entry i has the key
 abbrev pub NoneBefore : List ℕ → List ℕ → ℕ → Type 0

@@ -1,17 +1,22 @@
--- The memory that a state is written to: its rows in order, and 0 behind them.
+-- The memory that a state is written to: its numbers, its rows in order, and 0 behind them.
 use mathlib.Core.List.{List, [], _∷_}
-use Prim.Native.Nat.{ℕ}
+use mathlib.Core.Option.{Option, none, some}
+use Prim.Native.Nat.{ℕ, suc}
 use Rattle.map.specs.State.{Entry, State}
-use Rattle.table.specs.Bytes.{upto}
-use Rattle.table.specs.Memory.{lastIndex, size}
-use Rattle.table.specs.Write.{withNumber, inOrder, withEntry}
-
-unfoldable pub zeros : ℕ → List ℕ
-zeros n = upto (λ i. 0) n
+use Rattle.table.specs.Bytes.{zeros}
+use Rattle.table.specs.Memory.{lastIndex, firstIndex, countsIndex, size}
+use Rattle.table.specs.Write.{withNumber, withNumbers, inOrder, withEntry}
 
 unfoldable pub withAll : List ℕ → List Entry → List ℕ
 withAll t [] = t
 withAll t (e ∷ es) = withAll (withEntry (e .key) (e .value) (e .version) (e .deadline) t) es
 
+-- the number that a first second is held as
+abbrev pub firstNumber : Option ℕ → ℕ
+firstNumber none = 0
+firstNumber (some n) = suc n
+
 unfoldable pub form : State → List ℕ
-form st = withNumber lastIndex (st .last) (withAll (inOrder (zeros size)) (st .entries))
+form st =
+    withNumbers countsIndex (st .history .counts)
+    (withNumber firstIndex (firstNumber (st .history .first)) (withNumber lastIndex (st .last) (withAll (inOrder (zeros size)) (st .entries))))

@@ -1,28 +1,37 @@
--- The table in lent memory. First a header of numbers, 8 bytes each, highest first: the count of entries and the last version issued. Then the
--- places, a byte for each row: the row of each entry held, ascending by version, and behind them the rows that are free. Then 128 rows of fixed
--- width, which never move. A row has version, deadline, key length and value length, 8 bytes each, then 64 bytes for the key and 256 for the
--- value.
+-- The table in lent memory. First a header of numbers, 8 bytes each, highest first: the count of entries, the last version issued, the second of
+-- the first call served (one more than it, and 0 where none was served) and the seven counts of the history. Then the places, a byte for each row:
+-- the row of each entry held, ascending by version, and behind them the rows that are free. Then 128 rows of fixed width, which never move. A row
+-- has version, deadline, key length and value length, 8 bytes each, then 64 bytes for the key and 256 for the value.
 use mathlib.Core.Path.{_≡_}
 use mathlib.Core.List.{List}
 use mathlib.Core.Bool.{cond}
-use Prim.Native.Nat.{ℕ, _+_, _*_, _%_, _≤_, _<_, min}
+use mathlib.Core.Option.{Option, none, some}
+use Prim.Native.Nat.{ℕ, zero, suc, _+_, _*_, _%_, _≤_, _<_, _^_, min}
 use lib.ListN.{length, getD}
 use lib.Dec.{eqb}
 use Rattle.message.specs.Request.{keyLimit, valueLimit}
+use Rattle.map.specs.History.{History, countsHeld}
 use Rattle.map.specs.State.{Entry, State, fresh}
 use Rattle.map.specs.Step.{mostKeys}
 use Rattle.map.specs.Table.{IsTable, Ascending}
 use Rattle.table.specs.Bytes.{be8, part, upto}
 
--- how many numbers the header has, which of them are the count of entries and the last version issued, and where number i stands
-abbrev pub headCount : ℕ
-headCount = 2
-
+-- which numbers of the header are the count of entries, the last version issued, the first second and the first of the counts; how many numbers
+-- it has, and where number i stands
 abbrev pub countIndex : ℕ
 countIndex = 0
 
 abbrev pub lastIndex : ℕ
 lastIndex = 1
+
+abbrev pub firstIndex : ℕ
+firstIndex = 2
+
+abbrev pub countsIndex : ℕ
+countsIndex = 3
+
+abbrev pub headCount : ℕ
+headCount = countsIndex + countsHeld
 
 abbrev pub numberAt : ℕ → ℕ
 numberAt i = 8 * i
@@ -83,20 +92,29 @@ countOf t = min (numberOf t countIndex) mostKeys
 unfoldable pub entriesOf : List ℕ → List Entry
 entriesOf t = upto (λ i. entryOf t (rowAt t i)) (countOf t)
 
+-- the second of the first call served, by the number that is held: one more than it, or 0 where none was served
+abbrev pub firstOf : ℕ → Option ℕ
+firstOf zero = none
+firstOf (suc n) = some n
+
+unfoldable pub historyOf : List ℕ → History
+historyOf t = record { first = firstOf (numberOf t firstIndex); counts = upto (λ i. numberOf t (countsIndex + i)) countsHeld }
+
 -- the state that any memory stands for; memory of another length stands for a fresh one
 unfoldable pub stateOf : List ℕ → State
-stateOf t = cond (eqb (length t) size) (record { entries = entriesOf t; last = numberOf t lastIndex }) fresh
+stateOf t = cond (eqb (length t) size) (record { entries = entriesOf t; last = numberOf t lastIndex; history = historyOf t }) fresh
 
 -- the places are a permutation of the row numbers: each is one, and no two are the same
 pub record Permutation (t : List ℕ) : Type 0 where
   pub below : (i : ℕ) → i < mostKeys → placeOf t i < mostKeys
   pub once : (i j : ℕ) → i < mostKeys → j < mostKeys → placeOf t i ≡ placeOf t j → i ≡ j
 
--- what the memory adds to a table's conditions: its length, the permutation, that nothing is capped, and the order of entries. The bytes of rows
--- that are not held mean nothing.
+-- what the memory adds to a table's conditions: its length, the permutation, that nothing is capped, and the order of entries. That the first
+-- second's number is one of eight bytes holds of all bytes. The bytes of rows that are not held mean nothing.
 pub record Form (t : List ℕ) : Type 0 where
   pub long : length t ≡ size
   pub counted : numberOf t countIndex ≤ mostKeys
+  pub first : numberOf t firstIndex < 2 ^ 64
   pub places : Permutation t
   pub lengths : (i : ℕ) → i < countOf t → (be8 t (rowAt t i + keyLengthStart) ≤ keyLimit) × (be8 t (rowAt t i + valueLengthStart) ≤ valueLimit)
   pub order : Ascending (stateOf t .entries)

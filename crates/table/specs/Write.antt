@@ -1,10 +1,13 @@
--- What is written to the memory: a list with a part overwritten, the eight bytes of a number, a number of the header, the places, and a row.
+-- What is written to the memory: a list with a part overwritten, the eight bytes of a number, the numbers of the header, the places, and a row.
 use mathlib.Core.List.{List, [], _∷_, _++_}
-use Prim.Native.Nat.{ℕ, _+_, _-_, _/_, _%_}
+use mathlib.Core.Bool.{Bool, cond}
+use Prim.Native.Nat.{ℕ, suc, _+_, _-_, _/_, _%_}
 use lib.ListN.{length, take, drop}
+use lib.Dec.{eqb}
+use Rattle.map.specs.History.{onward}
 use Rattle.map.specs.Step.{mostKeys}
-use Rattle.table.specs.Bytes.{part, upto}
-use Rattle.table.specs.Memory.{countIndex, numberAt, placesAt, deadlineStart, keyLengthStart, valueLengthStart, keyStart, valueStart, placeOf, rowAt, countOf}
+use Rattle.table.specs.Bytes.{part, upto, zeros}
+use Rattle.table.specs.Memory.{countIndex, firstIndex, numberAt, placesAt, deadlineStart, keyLengthStart, valueLengthStart, keyStart, valueStart, numberOf, placeOf, rowAt, countOf}
 
 -- xs with vs laid over it from index a on
 unfoldable pub put : List ℕ → ℕ → List ℕ → List ℕ
@@ -18,6 +21,27 @@ digits x =
 -- number i of the header is x
 unfoldable pub withNumber : ℕ → ℕ → List ℕ → List ℕ
 withNumber i x t = put t (numberAt i) (digits x)
+
+-- the numbers from i on are ns
+unfoldable pub withNumbers : ℕ → List ℕ → List ℕ → List ℕ
+withNumbers i [] t = t
+withNumbers i (n ∷ ns) t = withNumbers (suc i) ns (withNumber i n t)
+
+-- every number is 0
+unfoldable pub withNone : List ℕ → List ℕ
+withNone t = put t 0 (zeros placesAt)
+
+-- the first second is this one where none is held
+unfoldable pub begun : ℕ → List ℕ → List ℕ
+begun second t = cond (eqb (numberOf t firstIndex) 0) (withNumber firstIndex (suc second) t) t
+
+-- number i goes on by one if its mark is true, and so does each from i on
+unfoldable pub goneOn : ℕ → Bool → List ℕ → List ℕ
+goneOn i b t = cond b (withNumber i (onward (numberOf t i)) t) t
+
+unfoldable pub counted : ℕ → List Bool → List ℕ → List ℕ
+counted i [] t = t
+counted i (b ∷ bs) t = counted (suc i) bs (goneOn i b t)
 
 -- the row number at place i goes to place j, and those between move down by one
 unfoldable pub turned : ℕ → ℕ → List ℕ → List ℕ

@@ -16,7 +16,7 @@ ghost use lib.ListN.{length};
 ghost use Rattle.table.specs.Memory.{lastIndex, rowWidth, size, numberOf, countOf, stateOf, Permutation};
 ghost use Rattle.table.specs.Found.{Tells};
 ghost use Rattle.table.specs.Change.{newest, fitsRow, hasRoom, fitting, next};
-ghost use Rattle.table.specs.Check.{Within, AllWithin, Rising, NoneBefore, Differ};
+ghost use Rattle.table.specs.Check.{Within, AllWithin, Rising, NoneBefore, Differ, CountsWithin};
 
 // Whether the lengths and the deadline of the row at a are within their limits.
 fn within(t: &[u8], a: usize) -> bool
@@ -44,6 +44,21 @@ pub(crate) fn all_within(t: &[u8]) -> bool
     let mut i = 0;
     while i < n {
         if !within(t, rows::row_at(t, i)) {
+            return false;
+        }
+        i += 1;
+    }
+    true
+}
+
+// Whether the counts of the history are within their limit.
+pub(crate) fn counts_within(t: &[u8]) -> bool
+    requires { ⌜ length (now t) ≡ size ⌝ }
+    ensures { λ r. ⌜ Tells r (CountsWithin (now (t .entry))) ⌝ }
+{
+    let mut i = Table::TOTAL;
+    while i < Table::NUMBERS {
+        if rows::header(t, i) > Table::MOST_COUNT {
             return false;
         }
         i += 1;

@@ -1,18 +1,23 @@
 // The table in memory that the caller lends. Every function takes memory of any length and any bytes.
 mod check;
+mod history;
 mod mark;
 mod number;
 mod rows;
 
 use field::EntryVersion;
 use field::Second;
+use message::Operation;
+use statistics::Statistics;
 ghost use mathlib.Core.Path.{_≡_};
 ghost use Prim.Native.Nat.{_+_, _≤_};
 ghost use lib.ListN.{length};
 ghost use Rattle.table.specs.Memory.{rowWidth, stateOf, Sound};
+ghost use Rattle.map.specs.Step as map;
+ghost use Rattle.statistics.specs.Statistics.{listOf};
 ghost use Rattle.table.specs.Compare.{compared};
 ghost use Rattle.table.specs.Found.{entryAt, FoundIs, NumberAt, Tells};
-ghost use Rattle.table.specs.Change.{doneOr, Answers, AnswersBy, made, started, added, restored, renewed, removed, cleared};
+ghost use Rattle.table.specs.Change.{doneOr, Answers, AnswersBy, made, started, added, restored, renewed, removed, cleared, arrived};
 
 // What a search for a key finds: its entry, or that no entry has it.
 pub enum Found {
@@ -40,23 +45,48 @@ pub struct Row {}
 
 impl Table {
     // Its length, how many keys it holds at most, and the largest version.
-    pub const SIZE: usize = 45200;
+    pub const SIZE: usize = 45264;
 
     pub const KEYS: usize = 128;
 
     pub const LAST_VERSION: u64 = 0x7fff_ffff_ffff_ffff;
 
-    // The length of a number, and which numbers are the count of entries and the last version issued.
+    // The largest second of a call, and the largest count.
+    pub const LAST_SECOND: u64 = 4_294_967_295;
+
+    pub const MOST_COUNT: u64 = 0x7fff_ffff_ffff_ffff;
+
+    // The length of a number, and which numbers are the count of entries, the last version issued, the first second (one more than it, 0 for none) and
+    // the seven counts.
     pub const NUMBER: usize = 8;
 
     pub const COUNT: usize = 0;
 
     pub const LAST: usize = 1;
 
-    // Where the places and the rows begin.
-    pub const PLACES: usize = 16;
+    pub const FIRST: usize = 2;
 
-    pub const ROWS: usize = 144;
+    pub const TOTAL: usize = 3;
+
+    pub const STORES: usize = 4;
+
+    pub const RETRIEVALS: usize = 5;
+
+    pub const HITS: usize = 6;
+
+    pub const MISSES: usize = 7;
+
+    pub const REMOVE_HITS: usize = 8;
+
+    pub const REMOVE_MISSES: usize = 9;
+
+    // How many numbers there are.
+    pub const NUMBERS: usize = 10;
+
+    // Where the places and the rows begin.
+    pub const PLACES: usize = 80;
+
+    pub const ROWS: usize = 208;
 }
 
 impl Row {
@@ -129,7 +159,7 @@ pub fn make(t: &mut [u8]) -> Outcome
     done_or(start(t, EntryVersion(0)), 13)
 }
 
-// Makes the memory a table with no entries, of a last version within its limit.
+// Makes the memory a table with no entries and no history, of a last version within its limit.
 pub fn start(t: &mut [u8], last: EntryVersion) -> bool
     ensures { λ r. ⌜ Answers (now (t .entry)) (started (last .0) (now (t .entry))) r (now (t .exit)) ⌝ }
 {
@@ -139,7 +169,7 @@ pub fn start(t: &mut [u8], last: EntryVersion) -> bool
     if last.0 > Table::LAST_VERSION {
         return false;
     }
-    rows::clear(t);
+    rows::set_none(t);
     rows::set_order(t);
     rows::set_header(t, Table::LAST, last.0);
     true
@@ -156,6 +186,9 @@ pub fn is_table(t: &[u8]) -> bool
         return false;
     }
     if rows::header(t, Table::LAST) > Table::LAST_VERSION {
+        return false;
+    }
+    if !check::counts_within(t) {
         return false;
     }
     if !check::is_permutation(t) {
@@ -319,4 +352,50 @@ pub fn clear(t: &mut [u8]) -> bool
     }
     rows::clear(t);
     true
+}
+
+// What a call that is served does before its step: its second is the first one where none was served before, and it is counted, by its operation and
+// by whether no entry has its key. The entries stay. A second above the largest, and memory of another length, change nothing.
+pub fn arrive(t: &mut [u8], op: Operation, absent: bool, second: Second) -> bool
+    ensures { λ r. ⌜ Answers (now (t .entry)) (arrived op absent (second .0) (now (t .entry))) r (now (t .exit)) ⌝ }
+{
+    if t.len() != Table::SIZE {
+        return false;
+    }
+    if second.0 > Table::LAST_SECOND {
+        return false;
+    }
+    history::begin(t, second);
+    history::tally(t, op, absent);
+    true
+}
+
+// The nine statistics at a second.
+pub fn statistics(t: &[u8], second: Second) -> Statistics
+    ensures { λ r. ⌜ listOf r ≡ map.statistics (record { second = second .0 }) (stateOf (now (t .entry))) ⌝ }
+{
+    if t.len() != Table::SIZE {
+        return Statistics {
+            time: 0,
+            current: 0,
+            total: 0,
+            stores: 0,
+            retrievals: 0,
+            hits: 0,
+            misses: 0,
+            removehits: 0,
+            removemisses: 0,
+        };
+    }
+    Statistics {
+        time: history::since(rows::header(t, Table::FIRST), second),
+        current: rows::count(t) as u64,
+        total: rows::header(t, Table::TOTAL),
+        stores: rows::header(t, Table::STORES),
+        retrievals: rows::header(t, Table::RETRIEVALS),
+        hits: rows::header(t, Table::HITS),
+        misses: rows::header(t, Table::MISSES),
+        removehits: rows::header(t, Table::REMOVE_HITS),
+        removemisses: rows::header(t, Table::REMOVE_MISSES),
+    }
 }

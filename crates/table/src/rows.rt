@@ -14,7 +14,7 @@ ghost use Rattle.message.specs.Request.{keyLimit, valueLimit};
 ghost use Rattle.map.specs.Step.{mostKeys, lastVersion};
 ghost use Rattle.table.specs.Bytes.{be8, part};
 ghost use Rattle.table.specs.Memory.{headCount, countIndex, lastIndex, rowWidth, size, numberOf, rowAt, entryOf, countOf};
-ghost use Rattle.table.specs.Write.{put, withNumber, turned, inOrder, withKey, withValue, withEntry};
+ghost use Rattle.table.specs.Write.{put, withNumber, withNone, turned, inOrder, withKey, withValue, withEntry};
 ghost use Rattle.table.specs.Found.{Tells};
 ghost use Rattle.table.specs.Check.{Has, FoundFrom};
 
@@ -140,6 +140,18 @@ fn turn(t: &mut [u8], i: usize, j: usize)
         k += 1;
     }
     t[last] = row;
+}
+
+// Makes every number of the header 0.
+pub(crate) fn set_none(t: &mut [u8])
+    requires { ⌜ length (now t) ≡ size ⌝ }
+    ensures { λ _. ⌜ now (t .exit) ≡ withNone (now (t .entry)) ⌝ }
+{
+    let mut i = 0;
+    while i < Table::PLACES {
+        t[i] = 0;
+        i += 1;
+    }
 }
 
 // Has place i name row i.

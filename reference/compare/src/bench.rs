@@ -6,7 +6,7 @@ use std::hint::black_box;
 use std::time::{Duration, Instant};
 
 use reference::hex::to_digits;
-use reference::operation::{GET, PUT};
+use reference::operation::{GET, PUT, STATS};
 use reference::{Entry, Read, Reply, Request, Table};
 
 use crate::chance::Chance;
@@ -166,6 +166,16 @@ impl Setup {
             .collect()
     }
 
+    fn stats(&mut self) -> Vec<Request> {
+        let without_key = |request: Request| Request {
+            key: Vec::new(),
+            ..request
+        };
+        (0..REQUESTS)
+            .map(|_| without_key(self.request(STATS)))
+            .collect()
+    }
+
     /// Requests of which so many in ten are puts.
     fn requests(&mut self, puts: usize) -> Vec<Request> {
         let operation = |at: usize| if at % 10 < puts { PUT } else { GET };
@@ -189,6 +199,7 @@ pub fn rows<S: Subject>(subject: &mut S) -> Vec<Row> {
     let puts = bytes_of(&setup.requests(10));
     let mixed = bytes_of(&setup.requests(1));
     let last = bytes_of(&setup.gets_of_last());
+    let stats = bytes_of(&setup.stats());
     vec![
         read_request(subject, &mut setup),
         write_request(subject, &mut setup),
@@ -203,6 +214,7 @@ pub fn rows<S: Subject>(subject: &mut S) -> Vec<Row> {
             &mixed,
         ),
         stream(subject, &setup, "serve_stream, get of the last key", &last),
+        stream(subject, &setup, "serve_stream, stats", &stats),
         calls(subject, &mut setup, "serve, get", 0),
         calls(subject, &mut setup, "serve, put over a held key", 10),
         calls(subject, &mut setup, "serve, nine gets to one put", 1),

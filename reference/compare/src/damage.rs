@@ -1,6 +1,8 @@
 //! Messages damaged: one byte changed, cut, doubled, followed by others, one
 //! field broken.
 
+use reference::statistics::NAMES;
+
 use crate::chance::Chance;
 use crate::fields::{join, Field, Kind};
 
@@ -76,12 +78,13 @@ fn stretched(good: &[u8]) -> Vec<u8> {
 
 /// A length about its limit, far above it, or no good number.
 fn odd_length(chance: &mut Chance, good: &[u8], limit: usize) -> Vec<u8> {
-    let length = match chance.below(6) {
+    let length = match chance.below(7) {
         0 => limit as u64,
         1 => limit as u64 + 1,
         2 => 2 * limit as u64,
         3 => u64::from(u32::MAX),
         4 => chance.below(600) as u64,
+        5 => limit.saturating_sub(1) as u64,
         _ => return odd_number(chance, good, 5),
     };
     let mut bytes = Vec::new();
@@ -97,10 +100,74 @@ pub fn break_field(chance: &mut Chance, fields: &mut [Field]) {
         Kind::Byte => field.bytes = vec![odd_byte(chance, field.bytes[0])],
         Kind::Long => field.bytes = odd_number(chance, &field.bytes, 9),
         Kind::Int => field.bytes = odd_number(chance, &field.bytes, 5),
-        Kind::Length(limit) => field.bytes = odd_length(chance, &field.bytes, limit),
+        Kind::Just(limit) | Kind::Length(limit) => {
+            field.bytes = odd_length(chance, &field.bytes, limit);
+        }
         Kind::Eight | Kind::Key | Kind::Value => chance.fill(&mut field.bytes),
         Kind::Name | Kind::Text => break_text(chance, &mut field.bytes),
+        Kind::Title => {
+            let other = odd_title(chance, &field.bytes);
+            replace(fields, at, other);
+        }
+        Kind::Decimal => {
+            let other = odd_decimal(chance, &field.bytes);
+            replace(fields, at, other);
+        }
     }
+}
+
+/// Gives the field these bytes, and the field before it their length.
+fn replace(fields: &mut [Field], at: usize, bytes: Vec<u8>) {
+    fields[at - 1].bytes.clear();
+    reference::write_number(bytes.len() as u64, &mut fields[at - 1].bytes);
+    fields[at].bytes = bytes;
+}
+
+/// Another name than that of the statistic, at times one of another.
+fn odd_title(chance: &mut Chance, good: &[u8]) -> Vec<u8> {
+    let mut bytes = good.to_vec();
+    match chance.below(7) {
+        0 => bytes = chance.pick(&NAMES).as_bytes().to_vec(),
+        1 => bytes = one_byte_changed(chance, good),
+        2 => bytes.make_ascii_uppercase(),
+        3 => drop(bytes.pop()),
+        4 => bytes.resize(21 + chance.below(3), b's'),
+        5 => break_text(chance, &mut bytes),
+        _ => bytes.clear(),
+    }
+    bytes
+}
+
+/// Values at the edge of what is the shortest decimal of a vLong.
+const ODD_DECIMALS: [&[u8]; 16] = [
+    b"",
+    b"0",
+    b"00",
+    b"01",
+    b"+1",
+    b"-0",
+    b" 1",
+    b"1 ",
+    b"1e3",
+    b"0x1",
+    b"9223372036854775807",
+    b"9223372036854775808",
+    b"9999999999999999999",
+    b"0000000000000000001",
+    b"18446744073709551615",
+    b"18446744073709551616",
+];
+
+fn odd_decimal(chance: &mut Chance, good: &[u8]) -> Vec<u8> {
+    let mut bytes = good.to_vec();
+    match chance.below(6) {
+        0 => bytes.insert(0, b'0'),
+        1 => bytes.push(b'0'),
+        2 => break_text(chance, &mut bytes),
+        3 => bytes = one_byte_changed(chance, good),
+        _ => bytes = chance.pick(&ODD_DECIMALS).to_vec(),
+    }
+    bytes
 }
 
 fn odd_byte(chance: &mut Chance, byte: u8) -> u8 {

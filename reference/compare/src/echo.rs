@@ -2,17 +2,24 @@
 //! slices, the table in the same memory. The tests of the harness put one
 //! fault at a time into it, and the harness has to find it.
 
+use reference::history::{COUNTS, RETRIEVALS, STORES};
 use reference::lines::{LINE_END, LINE_LIMIT};
 use reference::map::{LARGEST_DEADLINE, LARGEST_VERSION, LONGEST_SPAN, MOST_KEYS};
-use reference::operation::{sends_entry_version, sends_value, CLEAR, REMOVE};
+use reference::number::LARGEST_VLONG;
+use reference::operation::{
+    sends_entry_version, sends_value, CLEAR, GET, GET_WITH_VERSION, PUT, REMOVE, STATS,
+};
 use reference::serve::{answer_request, error_id, LEAST_ROOM};
 use reference::{
-    load, read_reply, read_request, same_key, serve_line, store, write_reply, write_request, Read,
-    Reply, Request, Table, Verdict,
+    is_text, load, read_reply, read_request, same_key, serve_line, store, write_reply,
+    write_request, History, Read, Reply, Request, Statistics, Table, Verdict,
 };
 
 use crate::fields::{of_reply, of_request, place, Kind};
-use crate::memory::{self, number, put_number, row_at, COUNT, DEADLINE, LAST, PLACES, ROWS, SIZE};
+use crate::memory::{
+    self, number, put_history, put_number, row_at, COUNT, COUNTED, DEADLINE, LAST, PLACES, ROWS,
+    SIZE,
+};
 use crate::messages::{reply_numbers, request_numbers};
 use crate::subject::{
     read_code, verdict_code, write_code, Asked, ComparesKeys, Piece, ReplyParts, RequestParts,
@@ -92,6 +99,21 @@ pub enum Fault {
     LoadsWithoutEnd,
     LoadTouchesOld,
     LoadsLateDeadline,
+    // Statistics.
+    SwapsStatistics,
+    TellsStatisticsAlways,
+    ReadsLeadingZero,
+    SevenForName,
+    AnyNumberOfStatistics,
+    RefusedPutCounts,
+    RefusedCallIsFirst,
+    GetWithVersionCounts,
+    CountWraps,
+    LastCallIsFirst,
+    ClearClearsCounts,
+    ValueSteersCount,
+    LoadKeepsCounts,
+    GreatCount,
     // Keys.
     ComparesFromFront,
     OnePairTooFew,
@@ -171,6 +193,7 @@ fn reply_from(numbers: &[u64], parts: ReplyParts) -> Option<Reply> {
         version: number(3)?,
         value: parts.value.to_vec(),
         text: parts.text.to_vec(),
+        ..Reply::default()
     })
 }
 
@@ -229,6 +252,9 @@ impl Echo {
         let count = number(memory, COUNT).min(MOST_KEYS as u64) as usize;
         match self.fault {
             Some(Fault::LastTooLarge) => cap(memory, LAST, LARGEST_VERSION),
+            Some(Fault::GreatCount) => {
+                (0..COUNTS).for_each(|at| cap(memory, COUNTED + 8 * at, LARGEST_VLONG));
+            }
             Some(Fault::VersionAboveLast) if count > 0 => {
                 let greatest = number(memory, row_at(memory, count - 1));
                 put_number(memory, LAST, greatest.max(number(memory, LAST)));
@@ -237,7 +263,9 @@ impl Echo {
             Some(Fault::EqualKeys) => spread_keys(memory, count),
             Some(Fault::AnyOrder) => sort_places(memory, count),
             Some(Fault::PlacesBehind) => mend_places(memory, count),
-            Some(Fault::PlaceCutToBits) => memory[PLACES..ROWS].iter_mut().for_each(|at| *at &= 0x7f),
+            Some(Fault::PlaceCutToBits) => {
+                memory[PLACES..ROWS].iter_mut().for_each(|at| *at &= 0x7f)
+            }
             _ => self.forgive_rows(memory, count),
         }
     }
@@ -302,11 +330,19 @@ impl Echo {
             }
             Read::Whole(request, taken) => {
                 let (message, verdict) = self.step(request, second, &mut table);
-                if verdict == Verdict::Served {
+                if verdict == Verdict::Served || self.counts_refused(verdict) {
                     self.put_back(&table, memory);
                 }
                 (verdict_code(verdict), taken, message)
             }
+        }
+    }
+
+    fn counts_refused(&self, verdict: Verdict) -> bool {
+        match self.fault {
+            Some(Fault::RefusedPutCounts) => verdict == Verdict::Refused(10),
+            Some(Fault::RefusedCallIsFirst) => verdict == Verdict::Refused(9),
+            _ => false,
         }
     }
 
@@ -328,6 +364,7 @@ impl Echo {
         let before = table.clone();
         let answer = answer_request(&request, second, table);
         self.change_table(&request, second, &before, table);
+        self.change_history(&request, second, &before, table);
         answer
     }
 
@@ -396,6 +433,30 @@ impl Echo {
         }
     }
 
+    fn change_history(&self, request: &Request, second: u32, before: &Table, table: &mut Table) {
+        let wrote = table.last > before.last;
+        let history = &mut table.history;
+        let odd = u64::from(request.value.first().unwrap_or(&0) & 1);
+        match (self.fault, request.operation) {
+            (Some(Fault::RefusedPutCounts), PUT) if !wrote => once_more(history, STORES),
+            (Some(Fault::GetWithVersionCounts), GET_WITH_VERSION) => once_more(history, RETRIEVALS),
+            (Some(Fault::RefusedCallIsFirst), _) => {
+                history.first.get_or_insert(u64::from(second));
+            }
+            (Some(Fault::LastCallIsFirst), _) => history.first = Some(u64::from(second)),
+            (Some(Fault::CountWraps), GET)
+                if before.history.counts[RETRIEVALS] == LARGEST_VLONG =>
+            {
+                history.counts[RETRIEVALS] = 0;
+            }
+            (Some(Fault::ClearClearsCounts), CLEAR) => history.counts = [0; COUNTS],
+            (Some(Fault::ValueSteersCount), _) if wrote => {
+                history.counts[STORES] = (history.counts[STORES] & !1) | odd;
+            }
+            _ => {}
+        }
+    }
+
     fn stream_goes_on(&self, code: u64) -> bool {
         let first = if self.has(Fault::StopsAtNine) { 10 } else { 9 };
         code == GOOD || (first..=11).contains(&code)
@@ -435,6 +496,10 @@ impl Default for Echo {
     fn default() -> Echo {
         Echo::new()
     }
+}
+
+fn once_more(history: &mut History, place: usize) {
+    history.counts[place] = (history.counts[place] + 1).min(LARGEST_VLONG);
 }
 
 fn cap(memory: &mut [u8], at: usize, greatest: u64) {
@@ -538,6 +603,16 @@ impl Subject for Echo {
         let flag = asked.flag || self.has(Fault::IgnoresFlag);
         let read = read_reply(asked.op, flag, input);
         let code = read_code(&read);
+        let wrong_text = asked.op == STATS && code == 8 && !is_text(input.get(6..).unwrap_or(&[]));
+        if self.has(Fault::SevenForName) && wrong_text {
+            return 7;
+        }
+        if self.has(Fault::AnyNumberOfStatistics) && asked.op == STATS && code == 8 {
+            return read_code(&read_reply(asked.op, flag, &with_nine(input)));
+        }
+        if self.has(Fault::ReadsLeadingZero) && code == 8 {
+            return read_code(&read_reply(asked.op, flag, &without_zero(input)));
+        }
         if self.has(Fault::ReplyTextUnchecked) && code == 7 {
             return 0;
         }
@@ -552,7 +627,11 @@ impl Subject for Echo {
             span(place(&fields, Kind::Value), &reply.value),
             span(place(&fields, Kind::Text), &reply.text),
         ];
-        let words = [&reply_numbers(&reply, taken)[..], &spans.concat()].concat();
+        let numbers = reply_numbers(&reply, taken);
+        let mut words = [&numbers[..], &spans.concat(), &reply.statistics].concat();
+        if self.has(Fault::TellsStatisticsAlways) {
+            words[9] += 1;
+        }
         fill(answer, &words);
         code
     }
@@ -567,7 +646,27 @@ impl Subject for Echo {
         let Some(reply) = reply_from(numbers, parts) else {
             return 16;
         };
+        if reply.operation == STATS + 1 {
+            return 16;
+        }
         let code = write_code(write_reply(asked.op, asked.flag, &reply, out));
+        self.after_writing(code, out)
+    }
+
+    fn write_statistics(&mut self, out: &mut [u8], id: u64, statistics: &[u64]) -> u64 {
+        let Ok(mut statistics) = Statistics::try_from(statistics) else {
+            return 16;
+        };
+        if self.has(Fault::SwapsStatistics) {
+            statistics.swap(5, 6);
+        }
+        let reply = Reply {
+            id,
+            operation: STATS + 1,
+            statistics,
+            ..Reply::default()
+        };
+        let code = write_code(write_reply(STATS, false, &reply, out));
         self.after_writing(code, out)
     }
 
@@ -631,7 +730,7 @@ impl Subject for Echo {
 }
 
 /// The most bytes of an output line, its end included.
-const OUTPUT_LINE: usize = 2 * 279 + 1;
+const OUTPUT_LINE: usize = 2 * 307 + 1;
 
 impl ServesLines for Echo {
     fn serve_lines(
@@ -714,7 +813,11 @@ impl Stores for Echo {
             }
             return 17;
         };
+        let history = memory::history(table);
         memory::encode(&loaded, table);
+        if self.has(Fault::LoadKeepsCounts) {
+            put_history(table, &history);
+        }
         GOOD
     }
 }
@@ -744,6 +847,32 @@ impl ComparesKeys for Echo {
         fill(answer, &[u64::from(told.equal), told.pairs as u64]);
         GOOD
     }
+}
+
+/// The reply with its number of statistics, a number of one byte, made nine.
+fn with_nine(input: &[u8]) -> Vec<u8> {
+    let mut bytes = input.to_vec();
+    let id = bytes.iter().skip(1).position(|byte| *byte < 0x80);
+    if let Some(number) = id.and_then(|last| bytes.get_mut(last + 5)) {
+        *number = if *number < 0x80 { 9 } else { *number };
+    }
+    bytes
+}
+
+/// The reply with the first zero in front of other digits taken out.
+fn without_zero(input: &[u8]) -> Vec<u8> {
+    let mut bytes = input.to_vec();
+    let zero = |at: usize| {
+        let length = usize::from(input[at]);
+        let value = input.get(at + 1..at + 1 + length);
+        let digits = value.is_some_and(|value| value.iter().all(u8::is_ascii_digit));
+        (2..=19).contains(&length) && digits && input[at + 1] == b'0'
+    };
+    if let Some(at) = (0..input.len()).find(|at| zero(*at)) {
+        bytes[at] -= 1;
+        bytes.remove(at + 1);
+    }
+    bytes
 }
 
 /// The file with each deadline of ten digits and more made 0.

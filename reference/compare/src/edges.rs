@@ -1,9 +1,11 @@
 //! Part h: the edges that document 01 names, each with the code it has to give there:
 //! compared like any call, and the code with the paper's.
 
+use reference::history::COUNTS;
 use reference::map::{LARGEST_VERSION, MOST_KEYS};
-use reference::operation::{GET, GET_WITH_VERSION, PUT, PUT_IF_ABSENT, REMOVE, REPLACE};
-use reference::{Answer, Entry, Request, Table};
+use reference::number::LARGEST_VLONG;
+use reference::operation::{GET, GET_WITH_VERSION, PUT, PUT_IF_ABSENT, REMOVE, REPLACE, STATS};
+use reference::{Answer, Entry, History, Request, Table};
 
 use crate::calls::{compared, Call, World};
 use crate::difference::{hold, Difference, Outcome};
@@ -33,6 +35,7 @@ fn table(count: usize, last: u64) -> Table {
     Table {
         entries: (0..count).map(|at| (key(at), entry(at))).collect(),
         last,
+        ..Table::default()
     }
 }
 
@@ -117,7 +120,31 @@ pub fn round<S: Subject>(trial: &mut Trial<S>) -> Outcome {
     let edge = longest();
     let input = join(&of_request(&edge.request));
     let answer = one(trial, &edge, &input, edge.code)?;
-    hold(answer.reply_len == 279, edge.name)
+    hold(answer.reply_len == 279, edge.name)?;
+    longest_statistics(trial)
+}
+
+/// A stats reply with all counts at the largest, the longest time since the
+/// first call, and 128 keys: it passes 279 bytes.
+fn longest_statistics<S: Subject>(trial: &mut Trial<S>) -> Outcome {
+    let mut table = table(MOST_KEYS, SPENT);
+    table.history = History {
+        first: Some(0),
+        counts: [LARGEST_VLONG; COUNTS],
+    };
+    let request = Request {
+        id: LARGEST_VLONG,
+        ..request(STATS, Vec::new(), 0)
+    };
+    let mut world = World::of(&mut trial.chance, table, Vec::new());
+    let call = Call {
+        input: &join(&of_request(&request)),
+        second: u32::MAX,
+        room: 512,
+    };
+    let answer = compared(trial, &mut world, call)?;
+    let good = verdict_code(answer.verdict) == GOOD && answer.reply_len == 282;
+    hold(good, "longest stats reply of a call")
 }
 
 /// The reply to this has a value of 256 bytes and a message id of 9.

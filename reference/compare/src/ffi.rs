@@ -59,6 +59,14 @@ extern "C" {
         text_len: usize,
     ) -> u64;
 
+    fn fq_write_statistics(
+        out: *mut u8,
+        out_len: usize,
+        id: u64,
+        statistics: *const u64,
+        statistics_len: usize,
+    ) -> u64;
+
     fn fq_serve(
         input: *const u8,
         input_len: usize,
@@ -217,7 +225,7 @@ impl Subject for Library {
         };
         check_code("fq_read_reply", code, input.len(), input);
         if code >= GOOD && answer.len() >= REPLY_WORDS {
-            check_spans("fq_read_reply", &answer[5..REPLY_WORDS], input);
+            check_spans("fq_read_reply", &answer[5..9], input);
         }
         code
     }
@@ -245,6 +253,21 @@ impl Subject for Library {
             )
         };
         check_code("fq_write_reply", code, out.len(), &[]);
+        code
+    }
+
+    fn write_statistics(&mut self, out: &mut [u8], id: u64, statistics: &[u64]) -> u64 {
+        // SAFETY: both slices are lent for the call, with their lengths.
+        let code = unsafe {
+            fq_write_statistics(
+                out.as_mut_ptr(),
+                out.len(),
+                id,
+                statistics.as_ptr(),
+                statistics.len(),
+            )
+        };
+        check_code("fq_write_statistics", code, out.len(), &[]);
         code
     }
 

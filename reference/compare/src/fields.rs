@@ -2,7 +2,7 @@
 
 use reference::fields::{KEY_LIMIT, NAME_LIMIT, TEXT_LIMIT, VALUE_LIMIT};
 use reference::operation::{body, sends_entry_version, sends_key, sends_value, Body, ERROR};
-use reference::{write_number, Reply, Request};
+use reference::{statistics, write_number, Reply, Request, Statistics};
 
 use crate::subject::Asked;
 
@@ -13,6 +13,8 @@ pub enum Kind {
     Long,
     /// A vInt.
     Int,
+    /// A vInt that has to be this number.
+    Just(usize),
     /// A vInt that is the length of the field behind it, with its limit.
     Length(usize),
     /// An entry version.
@@ -21,6 +23,10 @@ pub enum Kind {
     Key,
     Value,
     Text,
+    /// The name of a statistic.
+    Title,
+    /// The value of a statistic.
+    Decimal,
 }
 
 #[derive(Clone, Debug)]
@@ -104,8 +110,23 @@ pub fn of_reply(asked: Asked, reply: &Reply) -> Vec<Field> {
             fields.push(field(Kind::Eight, &reply.version.to_be_bytes()));
             limited(&mut fields, Kind::Value, VALUE_LIMIT, &reply.value);
         }
+        Body::Statistics => of_statistics(&mut fields, &reply.statistics),
     }
     fields
+}
+
+fn of_statistics(fields: &mut Vec<Field>, numbers: &Statistics) {
+    fields.push(number(Kind::Just(numbers.len()), numbers.len() as u64));
+    for (name, value) in statistics::NAMES.iter().zip(numbers) {
+        limited(fields, Kind::Title, statistics::NAME_LIMIT, name.as_bytes());
+        let digits = value.to_string();
+        limited(
+            fields,
+            Kind::Decimal,
+            statistics::VALUE_LIMIT,
+            digits.as_bytes(),
+        );
+    }
 }
 
 pub fn join(fields: &[Field]) -> Vec<u8> {

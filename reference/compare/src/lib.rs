@@ -8,7 +8,7 @@
 //!
 //! The parts: `messages` (a), `serving` (b), `streams` (c), `tables` (d),
 //! `values` (e), `lines` (f), `stored` (g), `edges` (h), `dates` (i),
-//! `keys` (j).
+//! `keys` (j), `statistics` (k).
 //!
 //! `cargo test --offline` tests the harness without the library. With it:
 //! `cargo run --release --offline --features library,lines,stored -- quick`;
@@ -35,6 +35,7 @@ pub mod memory;
 pub mod messages;
 pub mod run;
 pub mod serving;
+pub mod statistics;
 pub mod stored;
 pub mod streams;
 pub mod subject;

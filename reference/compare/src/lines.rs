@@ -284,10 +284,11 @@ impl Feed<'_> {
 }
 
 fn small_room(chance: &mut Chance) -> usize {
-    match chance.below(6) {
+    match chance.below(7) {
         0 => chance.pick(&[0, 1, 10, 11, 12]),
         1 => 550 + chance.below(20),
-        2 => chance.below(2500),
+        2 => 605 + chance.below(20),
+        3 => chance.below(2500),
         _ => AMPLE,
     }
 }

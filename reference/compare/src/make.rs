@@ -1,12 +1,14 @@
 //! Well-formed things by chance: numbers, texts, requests, replies, tables.
 
 use reference::fields::{KEY_LIMIT, NAME_LIMIT, TEXT_LIMIT, VALUE_LIMIT};
+use reference::history::COUNTS;
 use reference::map::{LARGEST_DEADLINE, LARGEST_VERSION, LONGEST_SPAN, MOST_KEYS};
+use reference::number::LARGEST_VLONG;
 use reference::operation::{
     body, may_answer, sends_entry_version, sends_key, sends_value, Body, CLEAR, ERROR, PUT,
     PUT_IF_ABSENT, REMOVE, REMOVE_IF_UNMODIFIED, SERVED,
 };
-use reference::{Entry, Reply, Request, Table};
+use reference::{Entry, History, Reply, Request, Statistics, Table};
 
 use crate::chance::Chance;
 use crate::subject::Asked;
@@ -201,7 +203,47 @@ pub fn reply(chance: &mut Chance) -> (Asked, Reply) {
     if body == Body::VersionAndValue {
         reply.version = eight(chance);
     }
+    if body == Body::Statistics {
+        reply.statistics = statistics(chance);
+    }
     (asked, reply)
+}
+
+/// Nine numbers that a stats reply may tell.
+pub fn statistics(chance: &mut Chance) -> Statistics {
+    Statistics::default().map(|_| count(chance))
+}
+
+/// A vLong, often at or near the largest, or about a power of ten.
+fn count(chance: &mut Chance) -> u64 {
+    let ten = 10u64.pow(chance.below(19) as u32);
+    match chance.below(6) {
+        0 => LARGEST_VLONG,
+        1 => LARGEST_VLONG - chance.below(3) as u64,
+        2 => ten,
+        3 => ten - 1,
+        4 => chance.below(300) as u64,
+        _ => long(chance),
+    }
+}
+
+/// What a sound table may remember: nothing, or counts that need not fit each
+/// other and a first second that may be above the largest second.
+pub fn history(chance: &mut Chance) -> History {
+    if chance.one_in(4) {
+        return History::default();
+    }
+    let first = match chance.below(6) {
+        0 => None,
+        1 => Some(0),
+        2 => Some(u64::from(u32::MAX) + chance.below(3) as u64),
+        3 => Some(chance.number() >> 1),
+        _ => Some(u64::from(second(chance))),
+    };
+    History {
+        first,
+        counts: [0; COUNTS].map(|_| count(chance)),
+    }
 }
 
 /// Different keys: a few of edge lengths; many of one length with a common
@@ -280,6 +322,7 @@ pub fn table(chance: &mut Chance, keys: &[Vec<u8>]) -> Table {
 pub fn table_of(chance: &mut Chance, keys: &[Vec<u8>]) -> Table {
     let mut table = Table {
         last: last_version(chance, keys.len()),
+        history: history(chance),
         ..Table::default()
     };
     let mut greatest = table.last;

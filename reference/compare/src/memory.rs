@@ -1,23 +1,27 @@
-//! The table in 45,200 bytes: a head of count and last version, then 128
-//! places, each a byte that names a row, then 128 rows. The first places name
-//! the rows held, which ascend by version. Numbers are eight bytes, highest
-//! first.
+//! The table in 45,264 bytes: a head of ten numbers, then 128 places, each a
+//! byte that names a row, then 128 rows. The first places name the rows held,
+//! which ascend by version. Numbers are eight bytes, highest first.
 
 use std::fmt::Write;
 
 use reference::fields::{KEY_LIMIT, VALUE_LIMIT};
 use reference::hex::to_string;
+use reference::history::COUNTS;
 use reference::map::MOST_KEYS;
-use reference::{Entry, Table};
+use reference::{Entry, History, Table};
 
-pub const SIZE: usize = 45_200;
-pub const PLACES: usize = 16;
-pub const ROWS: usize = 144;
+pub const PLACES: usize = 8 * 10;
+pub const ROWS: usize = PLACES + MOST_KEYS;
 pub const ROW: usize = 352;
+pub const SIZE: usize = ROWS + ROW * MOST_KEYS;
 
 /// Places in the head.
 pub const COUNT: usize = 0;
 pub const LAST: usize = 8;
+/// The first second plus 1, and 0 where no call was served.
+pub const FIRST: usize = 16;
+/// The seven counts.
+pub const COUNTED: usize = 24;
 
 /// Places in a row.
 pub const VERSION: usize = 0;
@@ -44,6 +48,26 @@ pub fn number(memory: &[u8], at: usize) -> u64 {
 
 pub fn put_number(memory: &mut [u8], at: usize, number: u64) {
     memory[at..at + 8].copy_from_slice(&number.to_be_bytes());
+}
+
+/// What the head remembers of calls.
+pub fn history(memory: &[u8]) -> History {
+    let mut counts = [0; COUNTS];
+    for (at, count) in counts.iter_mut().enumerate() {
+        *count = number(memory, COUNTED + 8 * at);
+    }
+    History {
+        first: number(memory, FIRST).checked_sub(1),
+        counts,
+    }
+}
+
+pub fn put_history(memory: &mut [u8], history: &History) {
+    let first = history.first.map_or(0, |second| second + 1);
+    put_number(memory, FIRST, first);
+    for (at, count) in history.counts.iter().enumerate() {
+        put_number(memory, COUNTED + 8 * at, *count);
+    }
 }
 
 /// Where the row begins that a place names.
@@ -108,6 +132,7 @@ pub fn decode(memory: &[u8]) -> Option<Table> {
     }
     let mut table = Table {
         last: number(memory, LAST),
+        history: history(memory),
         ..Table::default()
     };
     for row in rows {
@@ -148,6 +173,7 @@ pub fn encode(table: &Table, memory: &mut [u8]) {
     entries.sort_by_key(|(_, entry)| entry.version);
     put_number(memory, COUNT, entries.len() as u64);
     put_number(memory, LAST, table.last);
+    put_history(memory, &table.history);
     for (place, (key, entry)) in entries.into_iter().enumerate() {
         put_row(memory, place, key, entry);
     }
@@ -179,6 +205,7 @@ pub fn holds(memory: &[u8], table: &Table) -> bool {
     ascend(&rows)
         && rows.len() == table.entries.len()
         && number(memory, LAST) == table.last
+        && history(memory) == table.history
         && rows.iter().all(|row| is_entry(row, table))
 }
 
@@ -214,6 +241,22 @@ mod tests {
             assert_eq!(decode(&memory), Some(table.clone()));
             assert!(is_table(&memory) && holds(&memory, &table));
         }
+    }
+
+    #[test]
+    fn another_history_is_not_held() {
+        let mut chance = Chance::new(7);
+        let table = make::table_of(&mut chance, &[]);
+        let mut memory = vec![0; SIZE];
+        encode(&table, &mut memory);
+        for at in 0..COUNTS {
+            let mut other = table.clone();
+            other.history.counts[at] ^= 1;
+            assert!(!holds(&memory, &other));
+        }
+        let mut other = table.clone();
+        other.history.first = table.history.first.map_or(Some(0), |_| None);
+        assert!(!holds(&memory, &other));
     }
 
     #[test]

@@ -3,6 +3,7 @@
 //! Compared are the return code, every field, and that the input stays as it
 //! was; of writers also every byte of the buffer (see `writers`).
 
+use reference::statistics::NAMES;
 use reference::{read_reply, read_request, Read, Reply, Request};
 
 use crate::damage::variants;
@@ -20,6 +21,7 @@ pub fn round<S: Subject>(trial: &mut Trial<S>) -> Outcome {
         replies(trial)?;
         writers::requests(trial)?;
         writers::replies(trial)?;
+        writers::statistics(trial)?;
     }
     Ok(())
 }
@@ -148,7 +150,8 @@ fn reply_is(asked: Asked, reply: &Reply, taken: usize, answer: &Words, input: &[
     let fields = of_reply(asked, reply);
     let spans = &answer.slice()[numbers.len()..];
     span_is(&fields, Kind::Value, &reply.value, &spans[0..2], input)?;
-    span_is(&fields, Kind::Text, &reply.text, &spans[2..4], input)
+    span_is(&fields, Kind::Text, &reply.text, &spans[2..4], input)?;
+    numbers_are(&reply.statistics, &spans[4..], &NAMES.join(", "))
 }
 
 /// The first words of the answer to a whole reply.

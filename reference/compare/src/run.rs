@@ -7,7 +7,9 @@ use crate::chance::Chance;
 use crate::difference::{Difference, Outcome};
 use crate::subject::{ComparesKeys, ServesLines, Stores, Subject};
 use crate::trial::{Counts, Trial};
-use crate::{dates, edges, keys, lines, messages, serving, stored, streams, tables, values};
+use crate::{
+    dates, edges, keys, lines, messages, serving, statistics, stored, streams, tables, values,
+};
 
 /// One part, and how many rounds of it a quick run plays. A long run plays
 /// the parts in the same proportion.
@@ -63,6 +65,11 @@ pub fn dates_part<S: ServesLines + Stores>() -> Part<S> {
 /// Part j, keys.
 pub fn keys_part<S: ComparesKeys>() -> Part<S> {
     part(9, "keys", 40, keys::round)
+}
+
+/// Part k, statistics.
+pub fn statistics_part<S: Stores>() -> Part<S> {
+    part(10, "statistics", 3_000, statistics::round)
 }
 
 /// Plays one round. The same seed, part and round are the same inputs.
@@ -156,7 +163,7 @@ impl Totals {
         let mut text = String::new();
         for (part, counts) in parts.iter().zip(&self.counts) {
             text += &format!(
-                "{:9} {:>7} rounds {:>10} inputs  {}\n",
+                "{:10} {:>7} rounds {:>10} inputs  {}\n",
                 part.name,
                 counts.rounds,
                 counts.inputs,

@@ -14,7 +14,7 @@ pub const FULL: u64 = 0x101;
 /// done.
 pub const UNTOLD: u64 = 12;
 pub const REQUEST_WORDS: usize = 16;
-pub const REPLY_WORDS: usize = 9;
+pub const REPLY_WORDS: usize = 18;
 pub const SERVE_WORDS: usize = 2;
 pub const STREAM_WORDS: usize = 3;
 pub const LINES_WORDS: usize = 3;
@@ -23,6 +23,7 @@ pub const KEYS_WORDS: usize = 2;
 /// The numbers a writer is given.
 pub const REQUEST_NUMBERS: usize = 9;
 pub const REPLY_NUMBERS: usize = 4;
+pub const STATISTICS_NUMBERS: usize = 9;
 
 /// What is sent beside the numbers: of a request name, key and value, of a
 /// reply value and text.
@@ -62,6 +63,9 @@ pub trait Subject {
         numbers: &[u64],
         parts: ReplyParts,
     ) -> u64;
+
+    /// A stats reply, which `write_reply` does not write.
+    fn write_statistics(&mut self, out: &mut [u8], id: u64, statistics: &[u64]) -> u64;
 
     fn serve(
         &mut self,

@@ -5,7 +5,10 @@
 //! (12 first, if the room is too little) and changes nothing.
 
 use reference::fields::{KEY_LIMIT, VALUE_LIMIT};
+use reference::history::COUNTS;
 use reference::map::{LARGEST_DEADLINE, LARGEST_VERSION, MOST_KEYS};
+
+use reference::number::LARGEST_VLONG;
 
 use crate::calls::{compared, room, Call, World};
 use crate::chance::Chance;
@@ -14,8 +17,8 @@ use crate::fields::{join, of_request};
 use crate::lent::{Lent, Words};
 use crate::make;
 use crate::memory::{
-    decode, is_table, number, put_number, row_at, shown, COUNT, DEADLINE, KEY, KEY_LENGTH, LAST,
-    PLACES, ROW, ROWS, SIZE, VALUE, VALUE_LENGTH, VERSION,
+    decode, is_table, number, put_number, row_at, shown, COUNT, COUNTED, DEADLINE, FIRST, KEY,
+    KEY_LENGTH, LAST, PLACES, ROW, ROWS, SIZE, VALUE, VALUE_LENGTH, VERSION,
 };
 use crate::subject::{Subject, GOOD, SERVE_WORDS, STREAM_WORDS};
 use crate::trial::Trial;
@@ -39,12 +42,15 @@ pub fn round<S: Subject>(trial: &mut Trial<S>) -> Outcome {
 fn noise<S: Subject>(trial: &mut Trial<S>) -> Outcome {
     let length = trial
         .chance
-        .pick(&[0, 1, 8, 16, SIZE - 1, SIZE, SIZE + 1, 2 * SIZE]);
+        .pick(&[0, 1, 8, 16, 80, SIZE - 1, SIZE, SIZE + 1, 2 * SIZE]);
     let mut memory = Lent::random(&mut trial.chance, length);
     if length >= SIZE && trial.chance.one_in(2) {
         let count = trial.chance.below(3) as u64;
         put_number(memory.slice_mut(), COUNT, count);
         memory.slice_mut()[LAST] &= 0x7f;
+        for at in 0..COUNTS {
+            memory.slice_mut()[COUNTED + 8 * at] &= 0x7f;
+        }
     }
     let key = vec![vec![1]];
     check(trial, &memory, &key, "random bytes")?;
@@ -189,19 +195,23 @@ fn damage_places(chance: &mut Chance, memory: &mut [u8], count: usize) -> &'stat
 fn damage_head(chance: &mut Chance, memory: &mut [u8]) -> &'static str {
     let count = number(memory, COUNT);
     let last = number(memory, LAST);
-    match chance.below(6) {
+    let counted = COUNTED + 8 * chance.below(COUNTS);
+    match chance.below(9) {
         0 => put_number(memory, COUNT, count + 1),
         1 => put_number(memory, COUNT, count.saturating_sub(1)),
         2 => put_number(memory, COUNT, MOST_KEYS as u64 + 1),
         3 => put_number(memory, COUNT, count | 1 << (8 + chance.below(56))),
         4 => put_number(memory, LAST, LARGEST_VERSION + chance.below(2) as u64),
+        5 => put_number(memory, counted, LARGEST_VLONG + chance.below(2) as u64),
+        6 => put_number(memory, counted, chance.number()),
+        7 => put_number(memory, FIRST, chance.number()),
         _ => put_number(
             memory,
             LAST,
             last.saturating_sub(1 + chance.below(3) as u64),
         ),
     }
-    "count or last version"
+    "a number of the head"
 }
 
 fn damage_row(chance: &mut Chance, memory: &mut [u8], count: usize) -> &'static str {

@@ -15,7 +15,7 @@ use crate::difference::{hold, same, Difference, Outcome};
 use crate::fields::{join, of_request};
 use crate::lent::{Lent, Words};
 use crate::make;
-use crate::memory::{number, rows, shown, Row, LAST};
+use crate::memory::{history, number, rows, shown, Row, LAST};
 use crate::subject::{Subject, SERVE_WORDS};
 use crate::trial::Trial;
 
@@ -267,6 +267,7 @@ fn states_fit(one: &Lent, two: &Lent, change: &Change) -> Outcome {
         return Err(Difference::new("a table after a call has not the form"));
     };
     let fit = number(one.slice(), LAST) == number(two.slice(), LAST)
+        && history(one.slice()) == history(two.slice())
         && mine.len() == other.len()
         && mine.iter().zip(&other).all(|(a, b)| row_fits(a, b, change));
     hold(fit, "the tables differ outside that entry's value")

@@ -4,7 +4,8 @@
 
 use reference::fields::{KEY_LIMIT, NAME_LIMIT, TEXT_LIMIT, VALUE_LIMIT};
 use reference::number::LARGEST_VLONG;
-use reference::{write_reply, write_request, Reply, Request};
+use reference::operation::STATS;
+use reference::{write_reply, write_request, Reply, Request, Statistics};
 
 use crate::chance::Chance;
 use crate::damage::break_text;
@@ -126,6 +127,7 @@ impl ReplyDraft {
             version: number(3)?,
             value: self.value.clone(),
             text: self.text.clone(),
+            ..Reply::default()
         })
     }
 
@@ -136,8 +138,11 @@ impl ReplyDraft {
         }
     }
 
+    /// A stats reply is written from its numbers (`StatisticsDraft`): here it
+    /// has none, and so it is 16.
     fn written(&self, out: &mut [u8]) -> Result<usize, u8> {
         match self.reply() {
+            Some(reply) if reply.operation == STATS + 1 => Err(16),
             Some(reply) => write_reply(self.asked.op, self.asked.flag, &reply, out),
             None => Err(16),
         }
@@ -163,6 +168,45 @@ impl ReplyDraft {
             .with("numbers", format!("{:?}", self.numbers))
             .bytes("value", &self.value)
             .bytes("text", &self.text)
+    }
+}
+
+/// What a writer of stats replies is given.
+#[derive(Clone, Debug)]
+struct StatisticsDraft {
+    id: u64,
+    numbers: Vec<u64>,
+}
+
+impl StatisticsDraft {
+    /// Too few numbers are 16, like a number above the largest vLong.
+    fn written(&self, out: &mut [u8]) -> Result<usize, u8> {
+        let Ok(statistics) = Statistics::try_from(&self.numbers[..]) else {
+            return Err(16);
+        };
+        let reply = Reply {
+            id: self.id,
+            operation: STATS + 1,
+            statistics,
+            ..Reply::default()
+        };
+        write_reply(STATS, false, &reply, out)
+    }
+
+    fn damage(&mut self, chance: &mut Chance) {
+        match chance.below(8) {
+            0 => self.numbers.truncate(chance.below(9)),
+            1 => self.id = LARGEST_VLONG + chance.below(2) as u64,
+            2 => self.id = chance.number(),
+            _ => odd_one(chance, &mut self.numbers),
+        }
+    }
+
+    fn shown(&self, found: Difference) -> Difference {
+        found
+            .with("call", "fq_write_statistics")
+            .with("id", self.id)
+            .with("numbers", format!("{:?}", self.numbers))
     }
 }
 
@@ -239,6 +283,31 @@ pub fn replies<S: Subject>(trial: &mut Trial<S>) -> Outcome {
         }
     }
     Ok(())
+}
+
+pub fn statistics<S: Subject>(trial: &mut Trial<S>) -> Outcome {
+    let mut draft = StatisticsDraft {
+        id: make::long(&mut trial.chance),
+        numbers: make::statistics(&mut trial.chance).to_vec(),
+    };
+    check_statistics(trial, &draft).map_err(|found| draft.shown(found))?;
+    draft.damage(&mut trial.chance);
+    check_statistics(trial, &draft).map_err(|found| draft.shown(found))
+}
+
+fn check_statistics<S: Subject>(trial: &mut Trial<S>, draft: &StatisticsDraft) -> Outcome {
+    let length = draft.written(&mut [0; 512]).ok();
+    let room = room(&mut trial.chance, length);
+    let mut out = Lent::random(&mut trial.chance, room);
+    let mut expected = out.clone();
+    let answer = draft.written(expected.slice_mut());
+    let code = trial
+        .subject
+        .write_statistics(out.slice_mut(), draft.id, &draft.numbers);
+    trial.counts.message(code);
+    same("the return code", write_code(answer), code)
+        .and_then(|()| out.same("the buffer, with a margin on both sides", &expected))
+        .map_err(|found| found.with("room", room))
 }
 
 fn check_request<S: Subject>(trial: &mut Trial<S>, draft: &RequestDraft) -> Outcome {

@@ -2,7 +2,9 @@
 //! and each fault is found by its part.
 
 use compare::echo::{Echo, Fault};
-use compare::run::{dates_part, keys_part, lines_part, parts, play, stored_part, Part};
+use compare::run::{
+    dates_part, keys_part, lines_part, parts, play, statistics_part, stored_part, Part,
+};
 use compare::subject::GOOD;
 use compare::trial::Counts;
 
@@ -13,6 +15,7 @@ fn all_parts() -> Vec<Part<Echo>> {
     all.push(lines_part());
     all.push(stored_part());
     all.push(dates_part());
+    all.push(statistics_part());
     all.push(keys_part());
     all
 }
@@ -110,6 +113,44 @@ fn deadlines_are_those_worked_out_by_hand() {
 #[test]
 fn keys_are_compared_alike() {
     all_given(&sound_rounds("keys", 1), &[GOOD, 12]);
+}
+
+#[test]
+fn statistics_are_those_counted_from_the_replies() {
+    let counts = sound_rounds("statistics", 60);
+    all_given(&counts, &[GOOD, 0, 4, 5, 8, 9, 10, 12]);
+}
+
+#[test]
+fn faults_of_statistics_are_found() {
+    use Fault::*;
+    let faults = [
+        RefusedPutCounts,
+        RefusedCallIsFirst,
+        GetWithVersionCounts,
+        LastCallIsFirst,
+        ClearClearsCounts,
+    ];
+    are_found("serving", &faults);
+    are_found("statistics", &faults);
+    is_found("serving", CountWraps);
+    is_found("values", ValueSteersCount);
+    is_found("statistics", LoadKeepsCounts);
+    is_found("stored", LoadKeepsCounts);
+    is_found("tables", GreatCount);
+}
+
+#[test]
+fn faults_of_stats_replies_are_found() {
+    use Fault::*;
+    let faults = [
+        SwapsStatistics,
+        TellsStatisticsAlways,
+        ReadsLeadingZero,
+        SevenForName,
+        AnyNumberOfStatistics,
+    ];
+    are_found("messages", &faults);
 }
 
 #[test]

@@ -23,7 +23,7 @@ impl Dice {
     }
 
     fn request(&mut self) -> Request {
-        let operation = SERVED[self.roll(11) as usize];
+        let operation = SERVED[self.roll(SERVED.len() as u64) as usize];
         let key = vec![self.roll(6) as u8; self.roll(3) as usize];
         let value = self.bytes(5);
         let mut given = request(operation, &key, &value);
@@ -158,7 +158,7 @@ fn a_stream_is_the_steps_of_its_requests() {
         );
         assert_eq!(answer.verdict, Verdict::Refused(1));
         assert_eq!(table, expected);
-        assert_eq!(load(&store(&table)), Some(table));
+        assert_eq!(load(&store(&table)), Some(contents(&table)));
     }
 }
 

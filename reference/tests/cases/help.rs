@@ -2,7 +2,7 @@
 
 use reference::hex::{from_digits, to_string};
 use reference::operation::{sends_entry_version, sends_key, sends_value};
-use reference::{step, write_request, Entry, Reply, Request, Table};
+use reference::{step, write_request, Entry, History, Reply, Request, Table};
 
 /// The five request lines of the scope paper.
 pub const FIVE_REQUESTS: &str = "\
@@ -115,6 +115,14 @@ pub fn table_with(value: &[u8], version: u64, last: u64) -> Table {
         .entries
         .insert(b"k".to_vec(), entry(value, version, 0));
     table
+}
+
+/// The table's entries and its last version, with no call remembered.
+pub fn contents(table: &Table) -> Table {
+    Table {
+        history: History::default(),
+        ..table.clone()
+    }
 }
 
 /// Status and value of a step that must not be refused.

@@ -49,7 +49,7 @@ ffffffff a0010c0100020100000164819a9e01000100
     let (out, table) = streamed(file.as_bytes(), 100);
     assert_eq!(out, b"a101020000\na101020000\na101020000\n");
     assert_eq!(store(&table), stored.as_bytes());
-    assert_eq!(load(stored.as_bytes()), Some(table));
+    assert_eq!(load(stored.as_bytes()), Some(contents(&table)));
 }
 
 #[test]

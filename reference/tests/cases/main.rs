@@ -10,6 +10,7 @@ mod program;
 mod reply;
 mod request;
 mod serve;
+mod stats;
 mod stored;
 mod stream;
 mod text;

@@ -19,7 +19,7 @@ fn put_get_and_versions() {
         status_and_value(&request(PUT, b"k", b"six"), &mut table),
         (0, vec![])
     );
-    assert_eq!(table, table_with(b"six", 3, 3));
+    assert_eq!(contents(&table), table_with(b"six", 3, 3));
     assert_eq!(
         status_and_value(&request(GET, b"k", b""), &mut table),
         (0, b"six".to_vec())
@@ -42,7 +42,7 @@ fn put_get_and_versions() {
         status_and_value(&flagged(PING, b"", b""), &mut table),
         (0, vec![])
     );
-    assert_eq!(table, table_with(b"six", 3, 3));
+    assert_eq!(contents(&table), table_with(b"six", 3, 3));
 }
 
 #[test]
@@ -71,16 +71,16 @@ fn conditional_writes() {
         status_and_value(&flagged(REMOVE, b"x", b""), &mut table),
         (2, vec![])
     );
-    assert_eq!(table, before);
+    assert_eq!(contents(&table), contents(&before));
 
     let write = versioned(REPLACE_IF_UNMODIFIED, b"k", b"new", 4);
     assert_eq!(status_and_value(&write, &mut table), (0, b"old".to_vec()));
-    assert_eq!(table, table_with(b"new", 10, 10));
+    assert_eq!(contents(&table), table_with(b"new", 10, 10));
     assert_eq!(
         status_and_value(&flagged(REPLACE, b"k", b"newer"), &mut table),
         (0, b"new".to_vec())
     );
-    assert_eq!(table, table_with(b"newer", 11, 11));
+    assert_eq!(contents(&table), table_with(b"newer", 11, 11));
     let removal = versioned(REMOVE_IF_UNMODIFIED, b"k", b"", 11);
     assert_eq!(
         status_and_value(&removal, &mut table),
@@ -91,7 +91,7 @@ fn conditional_writes() {
         status_and_value(&flagged(PUT_IF_ABSENT, b"k", b"n"), &mut table),
         (0, vec![])
     );
-    assert_eq!(table, table_with(b"n", 12, 12));
+    assert_eq!(contents(&table), table_with(b"n", 12, 12));
     assert_eq!(
         status_and_value(&flagged(REMOVE, b"k", b""), &mut table),
         (0, b"n".to_vec())
@@ -108,7 +108,7 @@ fn clear_keeps_the_last_version() {
     );
     assert_eq!((table.entries.len(), table.last), (0, 5));
     step(&request(PUT, b"k", b"v"), 0, &mut table).unwrap();
-    assert_eq!(table, table_with(b"v", 6, 6));
+    assert_eq!(contents(&table), table_with(b"v", 6, 6));
 }
 
 /// The deadline that a write with these numbers leaves.
@@ -224,7 +224,7 @@ fn the_129th_key_and_an_overwrite_at_128() {
         status_and_value(&request(PUT_IF_ABSENT, b"k", b"x"), &mut table),
         (1, vec![])
     );
-    assert_eq!(table, before);
+    assert_eq!(contents(&table), contents(&before));
     assert_eq!(
         status_and_value(&flagged(PUT, b"k", b"w"), &mut table),
         (0, b"v".to_vec())
@@ -241,7 +241,7 @@ fn the_129th_key_and_an_overwrite_at_128() {
 fn the_last_version() {
     let mut table = table_with(b"v", 1, LARGEST - 1);
     step(&request(PUT, b"k", b"w"), 0, &mut table).unwrap();
-    assert_eq!(table, table_with(b"w", LARGEST, LARGEST));
+    assert_eq!(contents(&table), table_with(b"w", LARGEST, LARGEST));
     assert!(is_table(&table));
     let before = table.clone();
     assert_eq!(step(&request(PUT, b"k", b"x"), 0, &mut table), Err(11));
@@ -263,7 +263,7 @@ fn the_last_version() {
         status_and_value(&request(REPLACE, b"new", b"x"), &mut table),
         (1, vec![])
     );
-    assert_eq!(table, before);
+    assert_eq!(contents(&table), contents(&before));
     let removal = versioned(REMOVE_IF_UNMODIFIED, b"k", b"", LARGEST);
     assert_eq!(status_and_value(&removal, &mut table), (0, b"w".to_vec()));
     step(&request(CLEAR, b"", b""), 0, &mut table).unwrap();
@@ -296,7 +296,7 @@ fn an_empty_key_is_a_key() {
 #[test]
 fn a_request_that_breaks_a_rule_changes_nothing() {
     let mut table = Table::default();
-    for operation in [0x00, 0x02, 0x15, 0xff] {
+    for operation in [0x00, 0x02, 0x14, 0x19, 0xff] {
         assert_eq!(step(&bare(operation), 0, &mut table), Err(16));
     }
     assert_eq!(step(&request(PUT, &[0; 65], b""), 0, &mut table), Err(16));

@@ -1,6 +1,7 @@
 //! Runs of the built program.
 
 use crate::help::*;
+use crate::stats::FRESH;
 use std::fs;
 use std::io::Write;
 use std::path::PathBuf;
@@ -168,7 +169,11 @@ fn message_cases() {
                     whole 15 id=0 operation=80 status=129 version=0 value= text=626164206d61676963\n\
                     more\n";
     assert_eq!(cases(&["reply", "11", "0"], input), expected);
-    assert_eq!(cases(&["reply", "15", "0"], "\n"), "refused 4\n");
+    assert_eq!(cases(&["reply", "19", "0"], "\n"), "refused 4\n");
+    let input = format!("{}\n", FRESH.replace(' ', ""));
+    let expected = "whole 137 id=1 operation=22 status=0 version=0 value= text= \
+                    statistics=[0, 0, 0, 0, 0, 0, 0, 0, 0]\n";
+    assert_eq!(cases(&["reply", "15", "0"], &input), expected);
     assert_eq!(
         cases(&["reply", "01", "1"], "a10102000000\n"),
         "whole 6 id=1 operation=2 status=0 version=0 value= text=\n"

@@ -62,7 +62,7 @@ fn refusals_in_field_order() {
     assert_eq!(read("a0 01 09"), Read::Refused(3));
     assert_eq!(read("a0 01 0d"), Read::Refused(3));
     assert_eq!(read("a0 01 41 99"), Read::Refused(3));
-    assert_eq!(read("a0 01 0a 15"), Read::Refused(4));
+    assert_eq!(read("a0 01 0a 19"), Read::Refused(4));
     assert_eq!(read("a0 01 0a 02"), Read::Refused(4));
     assert_eq!(read("a0 01 0a 50"), Read::Refused(4));
     assert_eq!(read("a0 01 0a 17 8000"), Read::Refused(5));
@@ -222,7 +222,7 @@ fn every_broken_rule_is_16() {
             ..put.clone()
         },
         Request {
-            operation: 0x15,
+            operation: 0x19,
             ..put.clone()
         },
         Request {

@@ -61,6 +61,10 @@ returns-11 : tie.Need-returns-11
 unfolding map.plan
 returns-11 c = rw (c .enum-told11 .given .1) (c .before .before .before .planned2 .ensures)
 
+returns-12 : tie.Need-returns-12
+unfolding map.plan
+returns-12 c = rw (c .enum-told12 .given .1) (c .before .before .before .planned2 .ensures)
+
 pub plan-of-spec : {M : Type 1} → statement M
 plan-of-spec =
     tie.close
@@ -91,6 +95,7 @@ plan-of-spec =
     (λ c. search needs)
     (λ c κs. search needs)
     (λ c. search needs)
+    (λ c. search needs)
     returns
     returns-2
     returns-3
@@ -101,4 +106,5 @@ plan-of-spec =
     returns-8
     returns-9
     returns-10
-    returns-11)
+    returns-11
+    returns-12)

@@ -50,12 +50,18 @@ returns-10 c = rw (c .before .enum-told10 .given .1) (c .row10 .ensures ∙ row-
 
 returns-11 : tie.Need-returns-11
 unfolding bodyAt
-returns-11 c = rw (c .before .enum-told11 .given .1) (c .row11 .ensures ∙ row-0 (c .before .before .before .args .status) (some m.nothing))
+returns-11 c = rw (c .before .enum-told11 .given .1) (c .row11 .ensures ∙ row-0 (c .before .before .before .args .status) (some m.statistics))
+
+returns-12 : tie.Need-returns-12
+unfolding bodyAt
+returns-12 c = rw (c .before .enum-told12 .given .1) (c .row12 .ensures ∙ row-0 (c .before .before .before .args .status) (some m.nothing))
 
 pub in-table-spec : {M : Type 1} → statement M
 in-table-spec =
     tie.close
     (tie.spec
+    (λ c. search needs)
+    (λ c κs. search needs)
     (λ c. search needs)
     (λ c κs. search needs)
     (λ c. search needs)
@@ -88,4 +94,5 @@ in-table-spec =
     returns-8
     returns-9
     returns-10
-    returns-11)
+    returns-11
+    returns-12)

@@ -51,11 +51,16 @@ returns-11 : tie.Need-returns-11
 unfolding shapeOf
 returns-11 c = rw (c .enum-told11 .given .1)
 
+returns-12 : tie.Need-returns-12
+unfolding shapeOf
+returns-12 c = rw (c .enum-told12 .given .1)
+
 pub shape-of-spec : {M : Type 1} → statement M
 shape-of-spec =
     tie.close
     (tie.spec
     enum-told
+    (λ c. search needs)
     (λ c. search needs)
     (λ c. search needs)
     (λ c. search needs)
@@ -76,4 +81,5 @@ shape-of-spec =
     returns-8
     returns-9
     returns-10
-    returns-11)
+    returns-11
+    returns-12)

@@ -1,6 +1,6 @@
 -- `server::serve_stream` meets its contract: between two calls the loop knows what `Between` says. The measure is what is left of the input.
 -- Assumes nothing.
-use Prim.Native.Nat.{_-_, _≤_}
+use Prim.Native.Nat.{_-_, _≤_, _<_}
 use native.Mathlib.Omega.{arith}
 use lib.ListN.{length, drop, length-drop}
 use borrow.Author.Tests.{not-true, not-false}
@@ -22,6 +22,10 @@ abbrev μ-loop : tie.MeasureT-loop
 -- a slice holds bytes
 bytes : (c : tie.At-loop Inv-loop μ-loop) → Bytes (c .before .before .before .before .before .before .before .before .args .input .now)
 bytes c i = omega (arith, c .before .before .before .before .before .before .before .shared-slice-known .given i)
+
+-- a second is one of four bytes
+small : (c : tie.At-loop Inv-loop μ-loop) → c .before .before .before .before .before .before .before .before .args .second < 0x1_0000_0000
+small c = omega (arith, c .before .before .before .before .before .before .before .before .good)
 
 -- the loop's test
 roomy : (c : tie.In-loop Inv-loop μ-loop) → room ≤ length (drop (c .before .loop .size) (c .before .loop .reply))
@@ -50,38 +54,38 @@ add-taken : tie.Need-add-taken Inv-loop μ-loop
 add-taken c = let w = c .before .before .before .before .before in
     let i = w .before .before .before in
     let l = i .before in
-    omega (arith, call-takes _ _ _ _ (bytes l) _ _ _ _ _ (l .loop .inv) _ _ _ (w .call-at .ensures) (roomy i), l .before .before .before .before .before .before .before .before .good)
+    omega (arith, call-takes _ _ _ _ (bytes l) (small l) _ _ _ _ _ (l .loop .inv) _ _ _ (w .call-at .ensures) (roomy i), l .before .before .before .before .before .before .before .before .good)
 
 add-size : tie.Need-add-size Inv-loop μ-loop
 add-size c = let w = c .before .before .before .before .before .before in
     let i = w .before .before .before in
     let l = i .before in
-    omega (arith, call-sends _ _ _ _ (bytes l) _ _ _ _ _ (l .loop .inv) _ _ _ (w .call-at .ensures) (roomy i), l .loop .inv .long, l .before .before .before .before .before .before .before .before .good)
+    omega (arith, call-sends _ _ _ _ (bytes l) (small l) _ _ _ _ _ (l .loop .inv) _ _ _ (w .call-at .ensures) (roomy i), l .loop .inv .long, l .before .before .before .before .before .before .before .before .good)
 
 same-length-2 : tie.Need-same-length-2 Inv-loop μ-loop
 same-length-2 c = let w = c .before .before .before .before .before .before .before .before .before in
     let i = w .before .before .before in
     let l = i .before in
-    call-kept _ _ _ _ (bytes l) _ _ _ _ _ (l .loop .inv) _ _ _ (w .call-at .ensures) (roomy i)
+    call-kept _ _ _ _ (bytes l) (small l) _ _ _ _ _ (l .loop .inv) _ _ _ (w .call-at .ensures) (roomy i)
 
 returns-3 : tie.Need-returns-3 Inv-loop μ-loop
 returns-3 c = let w = c .before .before .before .before .before .before .before .before .before in
     let i = w .before .before .before in
     let l = i .before in
     rw (c .all-calls3 .ensures)
-    (call-ends _ _ _ _ (bytes l) _ _ _ _ _ (l .loop .inv) _ _ _ (w .call-at .ensures) (roomy i) (c .before .if3 .taken))
+    (call-ends _ _ _ _ (bytes l) (small l) _ _ _ _ _ (l .loop .inv) _ _ _ (w .call-at .ensures) (roomy i) (c .before .if3 .taken))
 
 loop-less : tie.Need-loop-less Inv-loop μ-loop
 loop-less c = let w = c .before .before .before .before .before .before .before .before in
     let i = w .before .before .before in
     let l = i .before in
-    omega (arith, c .if3 .left, call-takes _ _ _ _ (bytes l) _ _ _ _ _ (l .loop .inv) _ _ _ (w .call-at .ensures) (roomy i))
+    omega (arith, c .if3 .left, call-takes _ _ _ _ (bytes l) (small l) _ _ _ _ _ (l .loop .inv) _ _ _ (w .call-at .ensures) (roomy i))
 
 loop-again : tie.Need-loop-again Inv-loop μ-loop
 loop-again c = let w = c .before .before .before .before .before .before .before .before in
     let i = w .before .before .before in
     let l = i .before in
-    call-on _ _ _ _ (bytes l) _ _ _ _ _ (l .loop .inv) _ _ _ (w .call-at .ensures) (roomy i) (omega (arith, c .if3 .left))
+    call-on _ _ _ _ (bytes l) (small l) _ _ _ _ _ (l .loop .inv) _ _ _ (w .call-at .ensures) (roomy i) (omega (arith, c .if3 .left))
 
 same-length-4 : tie.Need-same-length-4 Inv-loop μ-loop
 same-length-4 c = c .before .before .loop .inv .kept

@@ -18,7 +18,7 @@ returns-3 c = let n = c .before .before in
     let z = o .before .before .before .before in
     let l = z .before .before .before .before in
     let s = l .before .before in
-    started-yes (s .args .last .0) (s .args .t .now) _ (l .if1 .left) (omega arith) (rw (n .set-header .ensures, o .set-order .ensures, z .clear .ensures))
+    started-yes (s .args .last .0) (s .args .t .now) _ (l .if1 .left) (omega arith) (rw (n .set-header .ensures, o .set-order .ensures, z .set-none .ensures))
 
 pub start-spec : {M : Type 1} → statement M
 start-spec =

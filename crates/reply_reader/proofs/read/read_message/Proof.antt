@@ -6,15 +6,14 @@ use Rattle.wire.specs.Codec.{Read, mapped, readAt}
 use Rattle.wire.specs.Number.{vLong}
 use Rattle.field.proofs.Parts.{number-stops}
 use Rattle.message.specs.Reply.{isAwaited, rowsOf, bodyAt, isAllowed, message}
-use Rattle.message.specs.declared.Reply.{Reply}
-use Rattle.reply_reader.specs.ReplyRead.{replyAt}
+use Rattle.reply_reader.specs.ReplyRead.{Answer, replyAt}
 use Rattle.reply_reader.proofs.ReadLaws.{rest1, rest2, rest3, rest4, rest5, at-message}
 use borrow.Author.Needs.{needs}
 use Rattle.reply_reader.proofs.read.read_message.Statement.{statement}
 use Rattle.reply_reader.proofs.read.read_message.Tie as tie
 
 -- what reading the reply finds, and what decides after each field
-abbrev Of : tie.Start → Read Reply
+abbrev Of : tie.Start → Read Answer
 Of s = mapped replyAt (readAt (message (isAwaited (s .args .o)) (rowsOf (s .args .o)) (s .args .flag)) (s .args .s .now) 0)
 
 at1 : (c : tie.After-r1) → let s = c .before .before .before .before in

@@ -5,7 +5,7 @@ use Rattle.wire.specs.Codec.{empty, as-type}
 use Rattle.message.specs.Reply.{noBody}
 use Rattle.message.specs.Reply.{fieldsOf}
 use Rattle.reply_writer.specs.Frame.{payloadOf}
-use Rattle.reply_writer.proofs.SendLaws.{value-size, versioned-size, text-size}
+use Rattle.reply_writer.proofs.SendLaws.{value-size, versioned-size, text-size, unsent}
 use borrow.Author.Needs.{needs}
 use Rattle.reply_writer.proofs.write.body_end.Statement.{statement}
 use Rattle.reply_writer.proofs.write.body_end.Tie as tie
@@ -32,6 +32,11 @@ returns-4 c = let e = c .before in
     let s = e .before .before .before .before in
     rw (e .enum-told4 .given .1) (omega (arith, c .number-len3 .ensures, text-size (payloadOf (s .args .a) (s .args .value .now) (s .args .text .now)) (rw (e .enum-told4 .given .1) at (s .pre .1))))
 
+returns-5 : tie.Need-returns-5
+unfolding fieldsOf
+returns-5 c = let s = c .before .before .before .before in
+    unsent _ _ _ (rw (c .enum-told5 .given .1) at (s .pre .1))
+
 pub body-end-spec : {M : Type 1} → statement M
 body-end-spec =
     tie.close
@@ -50,7 +55,9 @@ body-end-spec =
     (λ c κs. search needs)
     (λ c. search needs)
     (λ c. search needs)
+    (λ c. search needs)
     returns
     returns-2
     returns-3
-    returns-4)
+    returns-4
+    returns-5)

@@ -6,7 +6,7 @@ use Rattle.wire.specs.Codec.{seq, as-type}
 use Rattle.wire.proofs.FieldLaws.{big-good}
 use Rattle.message.specs.Reply.{valueBody, versionedBody, textBody}
 use Rattle.message.specs.Reply.{fieldsOf}
-use Rattle.reply_writer.proofs.SendLaws.{none-ok}
+use Rattle.reply_writer.proofs.SendLaws.{none-ok, no-statistics}
 use borrow.Author.Needs.{needs}
 use Rattle.reply_writer.proofs.write.keeps_body.Statement.{statement}
 use Rattle.reply_writer.proofs.write.keeps_body.Tie as tie
@@ -52,6 +52,10 @@ unfolding fieldsOf textBody as-type
 returns-8 c = let a = c .before in
     c .if4 .left ∙ rw (a .before .enum-told3 .given .1, sym (a .is-absent3 .ensures) ∙ c .if4 .left)
 
+returns-9 : tie.Need-returns-9
+unfolding fieldsOf
+returns-9 c = rw (c .enum-told4 .given .1) (no-statistics _ _ _)
+
 pub keeps-body-spec : {M : Type 1} → statement M
 keeps-body-spec =
     tie.close
@@ -66,6 +70,7 @@ keeps-body-spec =
     (λ c. search needs)
     (λ c κs. search needs)
     (λ c κs. search needs)
+    (λ c. search needs)
     returns
     returns-2
     returns-3
@@ -73,4 +78,5 @@ keeps-body-spec =
     returns-5
     returns-6
     returns-7
-    returns-8)
+    returns-8
+    returns-9)

@@ -5,7 +5,7 @@ use Rattle.wire.specs.Codec.{empty, as-type}
 use Rattle.message.specs.Reply.{noBody}
 use Rattle.message.specs.Reply.{fieldsOf}
 use Rattle.reply_writer.specs.Frame.{payloadOf}
-use Rattle.reply_writer.proofs.SendLaws.{put-value, put-versioned, put-text}
+use Rattle.reply_writer.proofs.SendLaws.{put-value, put-versioned, put-text, unsent}
 use borrow.Author.Needs.{needs}
 use Rattle.reply_writer.proofs.write.put_body.Statement.{statement}
 use Rattle.reply_writer.proofs.write.put_body.Tie as tie
@@ -39,6 +39,11 @@ returns-4 c = let w = c .before .before in
     let e = f .enum-told3 .given .1 in
     rw e (put-text (payloadOf (s .args .a) (s .args .value .now) (s .args .text .now)) (rw e at (s .pre .0)) (rw e at (s .pre .1)) (w .put-text .ensures))
 
+returns-5 : tie.Need-returns-5
+unfolding fieldsOf
+returns-5 c = let s = c .before .before .before .before .before in
+    unsent _ _ _ (rw (c .enum-told4 .given .1) at (s .pre .0))
+
 pub put-body-spec : {M : Type 1} → statement M
 put-body-spec =
     tie.close
@@ -51,10 +56,12 @@ put-body-spec =
     (λ c κs. search needs)
     (λ c. search needs)
     (λ c κs. search needs)
+    (λ c. search needs)
     returns
     (λ c. search needs)
     returns-2
     (λ c. search needs)
     returns-3
     (λ c. search needs)
-    returns-4)
+    returns-4
+    returns-5)

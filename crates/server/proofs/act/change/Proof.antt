@@ -35,7 +35,7 @@ store-requires c κs =
     let m = k .before .before in
     let g = agreed m in
     rw (k .key-in .ensures, v .value-in .ensures)
-    (storable (at (start m .args .second .0)) (asked (start m)) _ (g .sound) (g .valid) (g .within) (g .step) (g .holds) (version-left _ _ (g .free)))
+    (storable (at (start m .args .second .0)) (asked (start m)) _ (g .sound) (g .valid) (g .left) (g .holds) (version-left _ _ (g .free)))
 
 returns : tie.Need-returns
 returns c = rw (c .enum-told .given .1) (same-table _ (c .before .before .before .before .pre .sound))

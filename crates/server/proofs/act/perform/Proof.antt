@@ -1,19 +1,25 @@
 -- `server::act::perform` meets its contract: a step of the map, by what is planned. Assumes nothing.
 use mathlib.Core.Path.{_≡_, sym, ap, subst, _∙_}
+use mathlib.Core.List.{List}
+use mathlib.Core.Bool.{true}
+use mathlib.Core.Option.{none, some}
 use Prim.Native.Nat.{ℕ, _≤_}
 use native.Mathlib.Omega.{arith}
 use lib.ListN.{length}
 use borrow.Author.Tests.{eq-eqb, ne-eqb}
-use Rattle.message.specs.Request.{Request, requestIn}
+use Rattle.message.specs.Request.{Request, requestIn, isEmpty}
 use Rattle.message.proofs.Sizes.{request-small}
 use Rattle.map.specs.Step as map
 use Rattle.map.specs.State.{State}
+use Rattle.map.specs.Table.{IsTable}
+use Rattle.map.proofs.Keeps.{keeps-table}
 use Rattle.table.specs.Memory.{stateOf}
-use Rattle.plan.specs.Plan.{asPlan, asChange, asJudged, heldVersion, Holds}
+use Rattle.service.specs.Stream.{Becomes}
+use Rattle.plan.specs.Plan.{asPlan, asChange, asJudged, heldVersion, Holds, refusalOf}
 use Rattle.plan.specs.declared.Judged.the-variants as judged
-use Rattle.plan.proofs.PlanLaws.{version-held}
-use Rattle.server.specs.Act.{at, Planned, Agreed}
-use Rattle.server.proofs.StepLaws.{does-refused, does-answered, step-named, step-acts, act-refused, act-made}
+use Rattle.plan.proofs.PlanLaws.{version-held, holds-same}
+use Rattle.server.specs.Act.{at, after, Planned, Agreed}
+use Rattle.server.proofs.StepLaws.{does-refused, does-answered, planned-arrived, refusal-arrived, step-named, step-refused, step-made}
 use borrow.Author.Needs.{needs}
 use Rattle.server.proofs.act.perform.Statement.{statement}
 use Rattle.server.proofs.act.perform.Tie as tie
@@ -63,33 +69,50 @@ module _ (c : tie.After-refusal-of) where
   unfolding map.planned
   planned = sym (c .before .before .plan-of .ensures ∙ rw same)
 
-  given : Planned (start .args .t .now) (asked start) (found .held-in .result) (c .before .before .plan-of .result .status)
-  given = record { sound = start .pre .0 .sound; valid = start .pre .1; holds = holds; status = rw planned }
+  abbrev context : map.Context
+  context = at (start .args .second .0)
 
-  acts : map.step (at (start .args .second .0)) (asked start) (state start)
-      ≡ map.act (at (start .args .second .0)) (asked start) (state start) (map.answer (asked start) (state start)) change
-  acts =
+  unnamed : isEmpty (asked start .name) ≡ true
+  unnamed =
       let i = found .before .before .before in
       let n = i .before .name-in in
-      step-acts _ _ _ (rw (← (n .ensures)) (eq-eqb (length (n .result .now)) 0 (i .if1 .left))) (rw planned)
+      rw (← (n .ensures)) (eq-eqb (length (n .result .now)) 0 (i .if1 .left))
 
-  refused : (k : ℕ) → c .refusal-of .result ≡ judged.Refused k
-      → (map.step (at (start .args .second .0)) (asked start) (state start) ≡ map.refused k) × ((1 ≤ k) × (k ≤ 11))
-  refused k h =
-      let z = act-refused _ _ _ _ same change k (sym (c .refusal-of .ensures) ∙ ap asJudged h) in
-      (acts ∙ z .0, z .1)
+  refused : (k : ℕ) → c .refusal-of .result ≡ judged.Refused k → (map.step context (asked start) (state start) ≡ map.refused k) × ((1 ≤ k) × (k ≤ 11))
+  refused k h = step-refused context _ _ _ same change unnamed (rw planned) k (sym (c .refusal-of .ensures) ∙ ap asJudged h)
 
-  agreed : c .refusal-of .result ≡ judged.Free → Agreed (start .args .t .now) (asked start) (start .args .second .0) (found .held-in .result) change
-  agreed h =
-      let e = sym (c .refusal-of .ensures) ∙ ap asJudged h in
-      record {
-        sound = start .pre .0 .sound;
-        valid = start .pre .1;
-        holds = holds;
-        within = start .pre .0 .second;
-        free = e;
-        step = acts ∙ act-made _ _ _ _ same change e;
-      }
+  -- the call is not refused: the step, and what the code has of it on the table that has counted the call
+  module _ (f : c .refusal-of .result ≡ judged.Free) where
+    abbrev come : State
+    come = map.arrive context (asked start) (state start)
+
+    free : refusalOf (state start) (heldVersion (found .held-in .result)) change ≡ none
+    free = sym (c .refusal-of .ensures) ∙ ap asJudged f
+
+    made : map.step context (asked start) (state start) ≡ map.answered (map.answer context (asked start) come) (after context (asked start) come change)
+    made = step-made context _ _ _ same change unnamed (rw planned) free
+
+    fits : IsTable (after context (asked start) come change)
+    fits = keeps-table context (asked start) (state start) (start .pre .0 .sound .table) _ _ made (start .pre .1) (start .pre .0 .second)
+
+    module _ {u : List ℕ} (w : Becomes (start .args .t .now) (some come) u) where
+      holds-on : Holds u (asked start .args .key) (found .held-in .result)
+      unfolding map.arrive
+      holds-on = holds-same _ u _ (ap (λ (st : State). st .entries) (w .0)) (found .held-in .result) holds
+
+      given : Planned u (asked start) (found .held-in .result) (c .before .before .plan-of .result .status)
+      given = record { sound = w .1; valid = start .pre .1; holds = holds-on; status = rw (w .0, planned-arrived context (asked start) (state start), planned) }
+
+      agreed : Agreed u (asked start) (start .args .second .0) (found .held-in .result) change
+      agreed =
+          record {
+            sound = w .1;
+            valid = start .pre .1;
+            holds = holds-on;
+            within = start .pre .0 .second;
+            free = rw (w .0, refusal-arrived context (asked start) (state start)) free;
+            left = rw (w .0) fits;
+          }
 
 refuse-requires-2 : tie.Need-refuse-requires-2
 refuse-requires-2 c κs =
@@ -97,8 +120,34 @@ refuse-requires-2 c κs =
     let s = start (j .before .before) in
     (s .pre .0 .room, (request-small (asked s) (s .pre .1) .id, refused (j .before .before) _ (j .j .given .1) .1))
 
+-- the call is counted
+module _ (c : tie.After-arrive) where
+  abbrev told : tie.After-enum-told
+  told = c .before .before
+
+  abbrev first : tie.After-refusal-of
+  first = told .before .before
+
+  is-free : first .refusal-of .result ≡ judged.Free
+  is-free = told .enum-told .given .1
+
+  abbrev q : Request
+  q = asked (start first)
+
+arrive-requires : tie.Need-arrive-requires
+arrive-requires c κs = start (c .before .before .before) .pre .0 .second
+
+respond-requires : tie.Need-respond-requires
+respond-requires c κs =
+    let a = c .before .before .before .before in
+    let s = start (first a) in
+    (s .pre .0 .room, s .pre .0 .second)
+
 change-requires : tie.Need-change-requires
-change-requires c κs = let f = c .before .before .before .before .before .before in agreed (f .before .before) (f .enum-told .given .1)
+change-requires c κs =
+    let a = c .before .before .before .before .before .before .before .before in
+    let s = start (first a) in
+    agreed (first a) (is-free a) (a .arrive .ensures (q a .name) (q a .args .key) (q a .args .value) (s .pre .0 .sound) (holds (first a)))
 
 returns-2 : tie.Need-returns-2
 returns-2 c =
@@ -110,11 +159,11 @@ returns-3 : tie.Need-returns-3
 returns-3 c =
     let d = c .before .before in
     let w = d .before .before .before .before in
-    let f = w .before .before .before in
-    let s = start (f .before .before) in
-    let q = asked s in
-    does-answered _ q _ (s .pre .0 .sound) (s .pre .1) (s .pre .0 .second) (agreed (f .before .before) (f .enum-told .given .1) .step)
-    (w .respond .ensures (q .name) (q .args .key) (q .args .value) (given (f .before .before))) (d .change .ensures)
+    let a = w .before .before .before .before .before in
+    let s = start (first a) in
+    let x = a .arrive .ensures (q a .name) (q a .args .key) (q a .args .value) (s .pre .0 .sound) (holds (first a)) in
+    let r = w .respond .ensures (q a .name) (q a .args .key) (q a .args .value) (given (first a) (is-free a) x) in
+    does-answered (q a) (made (first a) (is-free a)) (fits (first a) (is-free a)) (rw (x .0) at r) (rw (x .0) at (d .change .ensures))
 
 pub perform-spec : {M : Type 1} → statement M
 perform-spec =
@@ -131,7 +180,8 @@ perform-spec =
     (λ c. search needs)
     refuse-requires-2
     (λ c. search needs)
-    (λ c κs. search needs)
+    arrive-requires
+    respond-requires
     change-requires
     (λ c. search needs)
     (λ c. search needs)

@@ -1,42 +1,38 @@
 -- `server::act::respond` meets its contract: the reply written is the one that the map gives. Assumes nothing.
-use mathlib.Core.Path.{_≡_, _∙_}
-use native.Mathlib.Omega.{arith}
-use Rattle.message.specs.Request.{requestOf}
-use Rattle.message.proofs.Editions.{code-small}
-use Rattle.server.proofs.SendLaws.{form, reply-sent}
+use Rattle.server.specs.Act.{at}
+use Rattle.server.proofs.SendLaws.{not-stats, stats-sent, reply-sent}
 use borrow.Author.Needs.{needs}
 use Rattle.server.proofs.act.respond.Statement.{statement}
 use Rattle.server.proofs.act.respond.Tie as tie
 
-add-awaited : tie.Need-add-awaited
-add-awaited c = let k = c .before in omega (arith, k .code .ensures, code-small (k .before .before .before .args .h .op))
-
 returns : tie.Need-returns
 returns c name key value g =
     let w = c .before .before .before in
-    let v = w .before .before .before in
-    let e = v .before .before in
-    let b = e .before .before in
-    let k = b .before .before in
-    let a = k .before .before .before .args in
-    let f : e .before .form-of .result ≡ form (requestOf (a .h) name key value) (a .status) = e .before .form-of .ensures ∙ rw (b .body-at .ensures, k .code .ensures) in
-    reply-sent g (k .code .ensures) (rw f at (e .shown-version .ensures (a .t .now) key (g .holds)))
-    (v .value-at .ensures ∙ (rw f at (v .before .shown-row .ensures (a .t .now) key (g .sound) (g .holds)))) (k .before .before .before .pre)
-    (w .write-reply .ensures) (c .ended .ensures)
+    let m = w .before .before in
+    let s = m .before .before .before in
+    reply-sent (at (s .args .second .0)) g _ (s .pre .1) (s .pre .0)
+    (w .write-held .ensures (at (s .args .second .0)) name key value (not-stats (s .args .h .op) (m .match .keys2)) g) (c .ended .ensures)
+
+returns-2 : tie.Need-returns-2
+returns-2 c name key value g =
+    let w = c .before .before .before in
+    let x = w .before in
+    let e = x .before .before in
+    let s = e .before .before .before .before in
+    reply-sent (at (s .args .second .0)) g _ (s .pre .1) (s .pre .0)
+    (stats-sent (at (s .args .second .0)) g _ (e .enum-told .given .1) (x .statistics .ensures) (w .write-statistics .ensures)) (c .ended2 .ensures)
 
 pub respond-spec : {M : Type 1} → statement M
 respond-spec =
     tie.close
     (tie.spec
-    (λ c κs. search needs)
-    add-awaited
-    (λ c κs. search needs)
-    (λ c κs. search needs)
-    (λ c κs. search needs)
-    (λ c κs. search needs)
-    (λ c κs. search needs)
     (λ c. search needs)
     (λ c κs. search needs)
     (λ c κs. search needs)
     (λ c. search needs)
-    returns)
+    returns
+    (λ c κs. search needs)
+    (λ c κs. search needs)
+    (λ c κs. search needs)
+    (λ c. search needs)
+    returns-2)

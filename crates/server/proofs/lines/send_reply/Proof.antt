@@ -14,7 +14,7 @@ returns c =
     let w = c .before .before in
     let u = w .before .before .before .before .before .before in
     let s = u .before .before .before .before .before .before in
-    let x = shows _ _ _ (s .pre .0) (s .pre .1 .1 .1) _ (u .perform .ensures) in
+    let x = shows _ _ _ (s .pre .0) (s .pre .1 .1 .1) (s .pre .1 .1 .0) _ (u .perform .ensures) in
     gives x (line-replied (s .args .out .now) (s .args .at) (s .pre .1 .0) (x .sent) (w .make-line .ensures))
 
 pub send-reply-spec : {M : Type 1} → statement M

@@ -7,7 +7,7 @@ use Rattle.table.proofs.rows.row_at.Statement.{statement}
 use Rattle.table.proofs.rows.row_at.Tie as tie
 
 cast-result : tie.Need-cast-result
-cast-result c = omega (arith, c .shared-slice-known .given (16 + c .before .args .i))
+cast-result c = omega (arith, c .shared-slice-known .given (80 + c .before .args .i))
 
 returns : tie.Need-returns
 unfolding placeOf

@@ -11,7 +11,7 @@ use Rattle.table.proofs.rows.turn.Statement.{statement}
 use Rattle.table.proofs.rows.turn.Tie as tie
 
 abbrev Inv-loop : tie.InvT-loop
-Inv-loop t₀ i j row last k₀ t k = (16 + i ≤ k) × (k ≤ 16 + j) × (length t ≡ length t₀) × (t ≡ put t₀ (16 + i) (part t₀ (16 + i + 1) (k - (16 + i))))
+Inv-loop t₀ i j row last k₀ t k = (80 + i ≤ k) × (k ≤ 80 + j) × (length t ≡ length t₀) × (t ≡ put t₀ (80 + i) (part t₀ (80 + i + 1) (k - (80 + i))))
 
 abbrev μ-loop : tie.MeasureT-loop
 μ-loop t₀ i j row last k₀ t k = last - k
@@ -19,7 +19,7 @@ abbrev μ-loop : tie.MeasureT-loop
 loop-holds : tie.Need-loop-holds Inv-loop μ-loop
 unfolding part
 loop-holds c =
-    let a = 16 + c .before .args .i in
+    let a = 80 + c .before .args .i in
     let z : a - a ≡ 0 = omega arith in
     (omega arith, omega arith, refl, rw z (put-none _ _))
 
@@ -27,7 +27,7 @@ loop-again : tie.Need-loop-again Inv-loop μ-loop
 loop-again c =
     let b = c .before .before in
     let t₀ = b .before .before .args .t .now in
-    let a = 16 + b .before .before .args .i in
+    let a = 80 + b .before .before .args .i in
     let n = b .loop .k - a in
     let e₁ : a + n ≡ b .loop .k = omega arith in
     let e₂ : a + 1 + n ≡ b .loop .k + 1 = omega arith in
@@ -40,11 +40,11 @@ returns c =
     let b = c .before in
     let s = b .before .before in
     let t₀ = s .args .t .now in
-    let a = 16 + s .args .i in
+    let a = 80 + s .args .i in
     let n = s .args .j - s .args .i in
     let l : length (part t₀ (a + 1) n) ≡ n = length-part t₀ (a + 1) n (omega arith) in
     let e : b .loop .k - a ≡ n = omega arith in
-    let f : a + length (part t₀ (a + 1) n) ≡ 16 + s .args .j = omega arith in
+    let f : a + length (part t₀ (a + 1) n) ≡ 80 + s .args .j = omega arith in
     cc (put-more t₀ a (part t₀ (a + 1) n) (omega arith) (getD t₀ a 0) (omega arith))
 
 pub turn-spec : {M : Type 1} → statement M

@@ -1,0 +1,301 @@
+-- Over every run each count is the number of steps that it counts, up to the largest. Assumes nothing.
+use mathlib.Core.Path.{_≡_, refl, sym, ap, _∙_}
+use mathlib.Core.List.{List, [], _∷_, _++_}
+use mathlib.Core.Bool.{Bool, true, false, cond, not, _&&_}
+use mathlib.Core.Option.{Option, none, some}
+use Prim.Native.Nat.{ℕ, zero, suc, _+_, _-_, _≤_, _<_, zero-le}
+use native.Mathlib.Nat.{add-zero, add-suc, suc-add}
+use native.Mathlib.Omega.{arith}
+use native.Mathlib.Decide.{decLt}
+use lib.ListN.{length, getD, replicate}
+use lib.Dec.{eqb, leb, ltb}
+use borrow.Author.Tests.{ltb-true, ltb-false, le-leb, lt-leb}
+use Rattle.wire.proofs.Laws.{and-false}
+use Rattle.message.specs.declared.Operation.{Operation}
+use Rattle.message.specs.declared.Operation.the-variants.{Put, Get, PutIfAbsent, Replace, ReplaceIfUnmodified, Remove, RemoveIfUnmodified, ContainsKey, GetWithVersion, Clear, Stats, Ping}
+use Rattle.message.specs.Request.{Request}
+use Rattle.message.specs.Reply.{bodyAt}
+use Rattle.map.specs.History.{countsHeld, mostCount, onward, is, adds, marked, tally, retrievals, hits, misses, noHistory, startOf}
+use Rattle.map.specs.State.{Entry, State, fresh, find, without, hasKey}
+use Rattle.map.specs.Step.{Context, Change, keep, store, drop, empty, Plan, plans, plan, Answer, Outcome, refused, answered, entry, stored, dropped, emptied, isNone, names, held, versionOf, planned, shows, counted, statistics, answer, arrive, step, stateAfter, Taken, run}
+use Rattle.map.specs.Table.{Counts}
+use Rattle.map.specs.Counted.{says, number, ends, atMost}
+use Rattle.map.proofs.Each.{each-left}
+use Rattle.map.proofs.Answered.{changed, did}
+use Rattle.map.proofs.Counting.{marked-at, arrive-counts}
+use Rattle.wire.proofs.SameLaws.{same-refl}
+use Rattle.map.proofs.Laws.{find-none, find-stored}
+
+-- whether no entry has the key behind a change
+abbrev after : Change → Bool → Bool
+after keep b = b
+after store b = false
+after drop b = true
+after empty b = true
+
+gone-after : (c : Context) (r : Request) (st : State) (d : Change) → isNone (held r (changed c r st d)) ≡ after d (isNone (held r st))
+unfolding changed stored dropped emptied held find entry
+gone-after c r st keep = refl
+gone-after c r st store = rw (find-stored (r .args .key) (st .entries) (entry c r (suc (st .last))), same-refl (r .args .key))
+gone-after c r st drop = ap isNone (find-none (names r) (without (names r) (st .entries)) (each-left (names r) (st .entries)))
+gone-after c r st empty = refl
+
+-- what an answer of a status says
+abbrev saysOf : Operation → ℕ → Bool → Bool → List Bool
+saysOf o s before after =
+    (before && not after)
+    ∷ (is Put o && eqb s 0x00)
+    ∷ (is Get o && true)
+    ∷ (is Get o && eqb s 0x00)
+    ∷ (is Get o && eqb s 0x02)
+    ∷ (is Remove o && eqb s 0x00)
+    ∷ (is Remove o && eqb s 0x02)
+    ∷ []
+
+-- a plan's status and change say what is counted
+plan-says : (o : Operation) (v : ℕ) (h : Option ℕ) → saysOf o (plan o v h .status) (isNone h) (after (plan o v h .change) (isNone h)) ≡ adds o (isNone h)
+unfolding plan plans adds
+plan-says Put v none = refl
+plan-says Put v (some w) = refl
+plan-says Get v none = refl
+plan-says Get v (some w) = refl
+plan-says PutIfAbsent v none = refl
+plan-says PutIfAbsent v (some w) = refl
+plan-says Replace v none = refl
+plan-says Replace v (some w) = refl
+plan-says ReplaceIfUnmodified v none = refl
+plan-says ReplaceIfUnmodified v (some w) = refl
+plan-says Remove v none = refl
+plan-says Remove v (some w) = refl
+plan-says RemoveIfUnmodified v none = refl
+plan-says RemoveIfUnmodified v (some w) = refl
+plan-says ContainsKey v none = refl
+plan-says ContainsKey v (some w) = refl
+plan-says GetWithVersion v none = refl
+plan-says GetWithVersion v (some w) = refl
+plan-says Clear v none = refl
+plan-says Clear v (some w) = refl
+plan-says Stats v none = refl
+plan-says Stats v (some w) = refl
+plan-says Ping v none = refl
+plan-says Ping v (some w) = refl
+
+none-version : (h : Option Entry) → isNone (versionOf h) ≡ isNone h
+none-version none = refl
+none-version (some e) = refl
+
+-- a change keeps the history, so behind a step that is answered it is the one with which the call came
+history-changed : (c : Context) (r : Request) (st : State) (d : Change) → changed c r st d .history ≡ st .history
+unfolding changed stored dropped emptied
+history-changed c r st keep = refl
+history-changed c r st store = refl
+history-changed c r st drop = refl
+history-changed c r st empty = refl
+
+module _ (c : Context) (r : Request) (st : State) (a : Answer) (t : State) (e : step c r st ≡ answered a t) where
+  history-step : t .history ≡ arrive c r st .history
+  history-step = rw (did c r st a t e .state) (history-changed c r (arrive c r st) (planned r (arrive c r st) .change))
+
+  answer-says : says (r .op) (answered a t) (isNone (held r st)) (isNone (held r t)) ≡ adds (r .op) (isNone (held r st))
+  unfolding says arrive answer planned held
+  answer-says =
+      let d = did c r st a t e in
+      let x = planned r st in
+      rw (d .same, d .state, gone-after c r (arrive c r st) (x .change))
+      (rw (none-version (held r st)) at (plan-says (r .op) (r .args .entryVersion) (versionOf (held r st))))
+
+-- what is refused counts nowhere
+abbrev nowhere : List Bool
+nowhere = false ∷ false ∷ false ∷ false ∷ false ∷ false ∷ false ∷ []
+
+both-false : (b : Bool) → (b && not b) ≡ false
+both-false true = refl
+both-false false = refl
+
+refused-says : (o : Operation) (k : ℕ) (b : Bool) → says o (refused k) b b ≡ nowhere
+unfolding says
+refused-says o k b = rw (both-false b, and-false (is Put o), and-false (is Get o), and-false (is Remove o))
+
+nowhere-at : (i : ℕ) → getD nowhere i false ≡ false
+nowhere-at zero = refl
+nowhere-at (suc zero) = refl
+nowhere-at (suc (suc zero)) = refl
+nowhere-at (suc (suc (suc zero))) = refl
+nowhere-at (suc (suc (suc (suc zero)))) = refl
+nowhere-at (suc (suc (suc (suc (suc zero))))) = refl
+nowhere-at (suc (suc (suc (suc (suc (suc zero)))))) = refl
+nowhere-at (suc (suc (suc (suc (suc (suc (suc i))))))) = refl
+
+-- a count and what is still to come
+full-at : (m n : ℕ) → m ≤ n → atMost m n ≡ m
+full-at m n h = go (decLt m n)
+  where
+    go : Dec (m < n) → atMost m n ≡ m
+    go (yes p) = rw (lt-leb n m p)
+    go (no p) = let e : n ≡ m = omega arith in rw (e, le-leb m m (omega arith))
+
+onward-sum : (n k : ℕ) → n ≤ mostCount → atMost mostCount (onward n + k) ≡ atMost mostCount (n + suc k)
+onward-sum n k h = go (ltb n mostCount) refl
+  where
+    go : (b : Bool) → ltb n mostCount ≡ b → atMost mostCount (cond b (suc n) n + k) ≡ atMost mostCount (n + suc k)
+    go true q = let e : suc n + k ≡ n + suc k = omega arith in ap (atMost mostCount) e
+    go false q =
+        let l = ltb-false n mostCount q in
+        full-at mostCount (n + k) (omega arith) ∙ sym (full-at mostCount (n + suc k) (omega arith))
+
+step-sum : (b : Bool) (n k : ℕ) → n ≤ mostCount → atMost mostCount (cond b (onward n) n + k) ≡ atMost mostCount (n + cond b (suc k) k)
+step-sum true n k h = onward-sum n k h
+step-sum false n k h = refl
+
+-- the count at i behind a step, answered or refused, with k more to come
+module _ (i : ℕ) (l : i < countsHeld) (c : Context) (r : Request) (st : State) (s : Counts (st .history)) where
+  at-step : (o : Outcome) → step c r st ≡ o → (k : ℕ)
+      → atMost mostCount (getD (stateAfter st o .history .counts) i 0 + k)
+      ≡ atMost mostCount (getD (st .history .counts) i 0 + cond (getD (says (r .op) o (isNone (held r st)) (isNone (held r (stateAfter st o)))) i false) (suc k) k)
+  unfolding arrive tally
+  at-step (refused j) e k = rw (refused-says (r .op) j (isNone (held r st)), nowhere-at i)
+  at-step (answered a t) e k =
+      rw (
+        answer-says c r st a t e,
+        history-step c r st a t e,
+        marked-at (adds (r .op) (isNone (held r st))) (st .history .counts) i (omega (arith, s .long)),
+      )
+      (step-sum (getD (adds (r .op) (isNone (held r st))) i false) (getD (st .history .counts) i 0) k (s .most i))
+
+counts-after : (c : Context) (r : Request) (st : State) → Counts (st .history) → (o : Outcome) → step c r st ≡ o → Counts (stateAfter st o .history)
+counts-after c r st s (refused k) e = s
+counts-after c r st s (answered a t) e = rw (history-step c r st a t e) (arrive-counts c r st s)
+
+-- Behind every run each count is what it was before and one for each step that counts there, up to the largest.
+pub counts-run : (i : ℕ) → i < countsHeld → (xs : List (Context × Request)) (st : State) → Counts (st .history)
+    → getD (ends st (run xs st) .history .counts) i 0 ≡ atMost mostCount (getD (st .history .counts) i 0 + number i st (run xs st))
+unfolding run ends number
+counts-run i l [] st s = rw (add-zero, le-leb (getD (st .history .counts) i 0) mostCount (s .most i))
+counts-run i l (x ∷ xs) st s =
+    let o = step (x .0) (x .1) st in
+    counts-run i l xs (stateAfter st o) (counts-after (x .0) (x .1) st s o refl)
+    ∙ at-step i l (x .0) (x .1) st s o refl (number i (stateAfter st o) (run xs (stateAfter st o)))
+
+-- each retrieval is a hit or a miss, and nothing else is one
+abbrev Split : List Bool → Type 0
+Split bs = (h m : ℕ) → cond (getD bs hits false) (suc h) h + cond (getD bs misses false) (suc m) m ≡ cond (getD bs retrievals false) (suc (h + m)) (h + m)
+
+adds-split : (o : Operation) (absent : Bool) → Split (adds o absent)
+unfolding adds
+adds-split o absent h m = go (is Get o) absent
+  where
+    go : (g b : Bool) → cond (g && not b) (suc h) h + cond (g && b) (suc m) m ≡ cond g (suc (h + m)) (h + m)
+    go true true = add-suc h m
+    go true false = suc-add h m
+    go false b = refl
+
+says-split : (c : Context) (r : Request) (st : State) (o : Outcome) → step c r st ≡ o
+    → Split (says (r .op) o (isNone (held r st)) (isNone (held r (stateAfter st o))))
+says-split c r st (refused k) e h m = rw (refused-says (r .op) k (isNone (held r st)))
+says-split c r st (answered a t) e h m = rw (answer-says c r st a t e) (adds-split (r .op) (isNone (held r st)) h m)
+
+number-split : (xs : List (Context × Request)) (st : State) → number hits st (run xs st) + number misses st (run xs st) ≡ number retrievals st (run xs st)
+unfolding run number
+number-split [] st = refl
+number-split (x ∷ xs) st =
+    let o = step (x .0) (x .1) st in
+    let t = stateAfter st o in
+    says-split (x .0) (x .1) st o refl (number hits t (run xs t)) (number misses t (run xs t))
+    ∙ ap (λ (n : ℕ). cond (getD (says (x .1 .op) o (isNone (held (x .1) st)) (isNone (held (x .1) t))) retrievals false) (suc n) n) (number-split xs t)
+
+abbrev at : ℕ → State → ℕ
+at i st = getD (st .history .counts) i 0
+
+low-at : (m n : ℕ) → atMost m n < m → atMost m n ≡ n
+low-at m n h = go (decLt m n)
+  where
+    go : Dec (m < n) → atMost m n ≡ n
+    go (yes p) = absurd (omega (arith, full-at m n (omega arith)))
+    go (no p) = rw (le-leb n m (omega arith))
+
+under-at : (m n : ℕ) → n ≤ m → atMost m n ≡ n
+under-at m n h = rw (le-leb n m h)
+
+-- "retrievals .. split into hits and misses": where they were before a run and no count of retrievals stops, they are behind it
+pub hits-misses : (xs : List (Context × Request)) (st : State) → Counts (st .history) → at hits st + at misses st ≡ at retrievals st
+    → at retrievals (ends st (run xs st)) < mostCount → at hits (ends st (run xs st)) + at misses (ends st (run xs st)) ≡ at retrievals (ends st (run xs st))
+hits-misses xs st s e l =
+    let f = run xs st in
+    let r = counts-run retrievals (omega arith) xs st s in
+    let h = counts-run hits (omega arith) xs st s in
+    let m = counts-run misses (omega arith) xs st s in
+    let n = number-split xs st in
+    let q : atMost mostCount (at retrievals st + number retrievals st f) < mostCount = rw r at l in
+    let z = low-at mostCount (at retrievals st + number retrievals st f) q in
+    let x = under-at mostCount (at hits st + number hits st f) (omega (arith, n, z)) in
+    let y = under-at mostCount (at misses st + number misses st f) (omega (arith, n, z)) in
+    omega (arith, r ∙ z, h ∙ x, m ∙ y, n, e)
+
+-- a fresh table counts from 0
+pub fresh-counts : Counts (fresh .history)
+fresh-counts = record { long = refl; most = λ i. zeros i }
+  where
+    zeros : (i : ℕ) → getD (noHistory .counts) i 0 ≤ mostCount
+    zeros zero = zero-le
+    zeros (suc zero) = zero-le
+    zeros (suc (suc zero)) = zero-le
+    zeros (suc (suc (suc zero))) = zero-le
+    zeros (suc (suc (suc (suc zero)))) = zero-le
+    zeros (suc (suc (suc (suc (suc zero))))) = zero-le
+    zeros (suc (suc (suc (suc (suc (suc zero)))))) = zero-le
+    zeros (suc (suc (suc (suc (suc (suc (suc i))))))) = zero-le
+
+-- a clear counts nothing, and neither does stats
+marked-none : (n : ℕ) (ns : List ℕ) → marked (replicate n false) ns ≡ ns
+unfolding marked
+marked-none zero ns = refl
+marked-none (suc n) [] = refl
+marked-none (suc n) (x ∷ ns) = ap (λ (l : List ℕ). x ∷ l) (marked-none n ns)
+
+module _ (c : Context) (r : Request) (st : State) (a : Answer) (t : State) (e : step c r st ≡ answered a t) where
+  same-counts : adds (r .op) (isNone (held r st)) ≡ replicate countsHeld false → t .history .counts ≡ st .history .counts
+  unfolding arrive tally
+  same-counts h = rw (history-step c r st a t e, h) (marked-none countsHeld (st .history .counts))
+
+  pub clear-counts : r .op ≡ Clear → t .history .counts ≡ st .history .counts
+  unfolding adds
+  clear-counts q = same-counts (rw q)
+
+  pub stats-counts : r .op ≡ Stats → t .history .counts ≡ st .history .counts
+  unfolding adds
+  stats-counts q = same-counts (rw q)
+
+  -- a stats reply shows the statistics behind the arrival of its own call
+  pub stats-shown : r .op ≡ Stats → a .shown ≡ counted (statistics c (arrive c r st))
+  unfolding answer planned plan plans shows bodyAt
+  stats-shown q = rw (did c r st a t e .same, q)
+
+  -- "the first call served": the first one that is answered
+  pub first-step : t .history .first ≡ some (startOf (st .history .first) (c .second))
+  unfolding arrive
+  first-step = rw (history-step c r st a t e)
+
+-- "timeSinceStart is the call's second less that of the first call served, 0 if it is that call or the clock went back"
+abbrev timeIn : List ℕ → ℕ
+timeIn ns = getD ns 0 0
+
+module _ (c : Context) (r : Request) (st : State) where
+  pub time-first : st .history .first ≡ none → timeIn (statistics c (arrive c r st)) ≡ 0
+  unfolding statistics arrive
+  time-first e = rw e (omega arith)
+
+  pub time-since : (f : ℕ) → st .history .first ≡ some f → timeIn (statistics c (arrive c r st)) ≡ c .second - f
+  unfolding statistics arrive
+  time-since f e = rw e
+
+first-after : (f : ℕ) (c : Context) (r : Request) (st : State) (o : Outcome) → step c r st ≡ o → st .history .first ≡ some f → stateAfter st o .history .first ≡ some f
+first-after f c r st (refused k) e h = h
+first-after f c r st (answered a t) e h = first-step c r st a t e ∙ rw h
+
+-- it stays the first
+pub first-run : (f : ℕ) (xs : List (Context × Request)) (st : State) → st .history .first ≡ some f → ends st (run xs st) .history .first ≡ some f
+unfolding run ends
+first-run f [] st h = h
+first-run f (x ∷ xs) st h =
+    let o = step (x .0) (x .1) st in
+    first-run f xs (stateAfter st o) (first-after f (x .0) (x .1) st o refl h)

@@ -1,0 +1,68 @@
+-- What a step counts. Assumes nothing.
+use mathlib.Core.Path.{_≡_, refl, ap}
+use mathlib.Core.List.{List, [], _∷_}
+use mathlib.Core.Bool.{Bool, true, false, cond}
+use Prim.Native.Nat.{ℕ, zero, suc, _≤_, _<_}
+use native.Mathlib.Omega.{arith}
+use lib.ListN.{length, getD}
+use lib.Dec.{ltb}
+use borrow.Author.Tests.{ltb-true}
+use Rattle.wire.proofs.Basics.{pick}
+use Rattle.message.specs.declared.Operation.{Operation}
+use Rattle.message.specs.Request.{Request}
+use Rattle.map.specs.History.{History, mostCount, onward, adds, marked, tally}
+use Rattle.map.specs.State.{State}
+use Rattle.map.specs.Step.{Context, isNone, held, arrive}
+use Rattle.map.specs.Table.{Counts, IsTable}
+
+abbrev Within : ℕ → Type 0
+Within n = n ≤ mostCount
+
+onward-most : (n : ℕ) → n ≤ mostCount → onward n ≤ mostCount
+onward-most n h = pick Within (ltb n mostCount) (λ q. ltb-true n mostCount q) h
+
+-- there are as many counts as before, each within its limit
+marked-long : (bs : List Bool) (ns : List ℕ) → length (marked bs ns) ≡ length ns
+unfolding marked
+marked-long [] ns = refl
+marked-long (b ∷ bs) [] = refl
+marked-long (b ∷ bs) (n ∷ ns) = ap suc (marked-long bs ns)
+
+marked-most : (bs : List Bool) (ns : List ℕ) → ((i : ℕ) → getD ns i 0 ≤ mostCount) → (i : ℕ) → getD (marked bs ns) i 0 ≤ mostCount
+unfolding marked
+marked-most [] ns h i = h i
+marked-most (b ∷ bs) [] h i = h i
+marked-most (b ∷ bs) (n ∷ ns) h zero = pick Within b (λ q. onward-most n (h 0)) (h 0)
+marked-most (b ∷ bs) (n ∷ ns) h (suc i) = marked-most bs ns (λ j. h (suc j)) i
+
+-- a count goes on by one where its mark is true
+pub marked-at : (bs : List Bool) (ns : List ℕ) (i : ℕ) → i < length ns
+    → getD (marked bs ns) i 0 ≡ cond (getD bs i false) (onward (getD ns i 0)) (getD ns i 0)
+unfolding marked
+marked-at [] ns i h = refl
+marked-at (b ∷ bs) [] i h = absurd (omega arith)
+marked-at (b ∷ bs) (n ∷ ns) zero h = refl
+marked-at (b ∷ bs) (n ∷ ns) (suc i) h = marked-at bs ns i (omega arith)
+
+-- so a call that comes leaves the counts those of a table, and a table one
+pub arrive-counts : (c : Context) (r : Request) (st : State) → Counts (st .history) → Counts (arrive c r st .history)
+unfolding arrive tally
+arrive-counts c r st s =
+    let bs = adds (r .op) (isNone (held r st)) in
+    record {
+      long = rw (marked-long bs (st .history .counts)) (s .long);
+      most = marked-most bs (st .history .counts) (s .most);
+    }
+
+pub arrive-table : (c : Context) (r : Request) (st : State) → IsTable st → IsTable (arrive c r st)
+unfolding arrive
+arrive-table c r st s =
+    record {
+      few = s .few;
+      keys = s .keys;
+      sizes = s .sizes;
+      versions = s .versions;
+      issued = s .issued;
+      last = s .last;
+      counts = arrive-counts c r st (s .counts);
+    }

@@ -1,0 +1,54 @@
+-- What each count is the number of, over the steps of a run (document 02, C-11). The law `counts-run` holds the map's counts to it.
+use mathlib.Core.List.{List, [], _∷_}
+use mathlib.Core.Bool.{Bool, true, false, cond, not, _&&_}
+use Prim.Native.Nat.{ℕ, suc}
+use lib.ListN.{getD}
+use lib.Dec.{eqb, leb}
+use Rattle.message.specs.declared.Operation.{Operation}
+use Rattle.message.specs.declared.Operation.the-variants.{Put, Get, Remove}
+use Rattle.map.specs.History.{is}
+use Rattle.map.specs.State.{State}
+use Rattle.map.specs.Step.{Outcome, refused, answered, Taken, isNone, held}
+
+-- the outcome is an answer, and one of a status
+abbrev pub isAnswered : Outcome → Bool
+isAnswered (refused k) = false
+isAnswered (answered a st) = true
+
+abbrev pub answers : Outcome → ℕ → Bool
+answers (refused k) s = false
+answers (answered a st) s = eqb (a .status) s
+
+-- Whether a step counts, for each count, by its operation, its outcome, and whether no entry had its key before and none has it after.
+unfoldable pub says : Operation → Outcome → Bool → Bool → List Bool
+says o x before after =
+    -- totalNumberOfEntries: "writes that added a key not held then"
+    (before && not after)
+    -- stores: "put requests answered 00"
+    ∷ (is Put o && answers x 0x00)
+    -- "retrievals get requests served"
+    ∷ (is Get o && isAnswered x)
+    -- "split into hits and misses"
+    ∷ (is Get o && answers x 0x00)
+    ∷ (is Get o && answers x 0x02)
+    -- "as removes into removeHits and removeMisses"
+    ∷ (is Remove o && answers x 0x00)
+    ∷ (is Remove o && answers x 0x02)
+    ∷ []
+
+abbrev pub saysAt : State → Taken → List Bool
+saysAt st x = says (x .request .op) (x .outcome) (isNone (held (x .request) st)) (isNone (held (x .request) (x .state)))
+
+-- how many steps of a run count at a place; the first state is the one before the run
+unfoldable pub number : ℕ → State → List Taken → ℕ
+number i st [] = 0
+number i st (x ∷ xs) = cond (getD (saysAt st x) i false) (suc (number i (x .state) xs)) (number i (x .state) xs)
+
+-- the state behind a run
+unfoldable pub ends : State → List Taken → State
+ends st [] = st
+ends st (x ∷ xs) = ends (x .state) xs
+
+-- the lesser of two: a count stops
+abbrev pub atMost : ℕ → ℕ → ℕ
+atMost m n = cond (leb n m) n m

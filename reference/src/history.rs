@@ -1,0 +1,72 @@
+//! What a map remembers of the calls served since start or the last load.
+
+use crate::number::LARGEST_VLONG;
+use crate::operation::{GET, PUT, REMOVE};
+use crate::statistics::Statistics;
+
+/// The places of the counts.
+pub const TOTAL: usize = 0;
+pub const STORES: usize = 1;
+pub const RETRIEVALS: usize = 2;
+pub const HITS: usize = 3;
+pub const MISSES: usize = 4;
+pub const REMOVE_HITS: usize = 5;
+pub const REMOVE_MISSES: usize = 6;
+
+/// The number of counts.
+pub const COUNTS: usize = 7;
+
+#[derive(Clone, Debug, Default, PartialEq, Eq)]
+pub struct History {
+    /// The second of the first call served, and none before it.
+    pub first: Option<u64>,
+    /// From totalNumberOfEntries on, in the order of the statistics.
+    pub counts: [u64; COUNTS],
+}
+
+impl History {
+    /// Whether no count is above the largest vLong.
+    pub fn is_sound(&self) -> bool {
+        self.counts.iter().all(|count| *count <= LARGEST_VLONG)
+    }
+
+    /// A count stops at the largest vLong.
+    fn count(&mut self, place: usize) {
+        if self.counts[place] < LARGEST_VLONG {
+            self.counts[place] += 1;
+        }
+    }
+
+    /// Remembers a call that was served at this second with this status;
+    /// `added` says whether it wrote a key that was not held.
+    pub fn remember(&mut self, second: u32, operation: u8, status: u8, added: bool) {
+        self.first.get_or_insert(u64::from(second));
+        if added {
+            self.count(TOTAL);
+        }
+        match operation {
+            PUT if status == 0 => self.count(STORES),
+            GET => {
+                self.count(RETRIEVALS);
+                self.count(if status == 0 { HITS } else { MISSES });
+            }
+            REMOVE if status == 0 => self.count(REMOVE_HITS),
+            REMOVE => self.count(REMOVE_MISSES),
+            _ => {}
+        }
+    }
+
+    /// The seconds since the first call served: 0 if there was none before, or
+    /// if the clock went back.
+    fn since_start(&self, second: u32) -> u64 {
+        let first = self.first.unwrap_or(u64::from(second));
+        u64::from(second).saturating_sub(first)
+    }
+
+    /// The statistics told to a call at this second, with so many keys held.
+    pub fn statistics(&self, second: u32, held: usize) -> Statistics {
+        let mut statistics = [self.since_start(second), held as u64, 0, 0, 0, 0, 0, 0, 0];
+        statistics[2..].copy_from_slice(&self.counts);
+        statistics
+    }
+}

@@ -4,9 +4,8 @@ use mathlib.Core.Bool.{true}
 use mathlib.Core.List.{List, [], _∷_, _++_}
 use Prim.Native.Nat.{ℕ, _+_, _-_, _≤_}
 use native.Mathlib.Omega.{arith}
-use lib.ListN.{length, take, drop, length-take, length-drop}
+use lib.ListN.{length, take, drop, length-append, length-take, length-drop}
 use lib.Seq.{length-take-le, take-at}
-use Rattle.table.proofs.Parts.{lent-put, length-put}
 use Rattle.files.specs.declared.Window.{Window}
 use Rattle.files.specs.Window.{greatest, begin, arrived, Arrives}
 use Rattle.files.specs.Serving.{Ready, Runs, Ahead}
@@ -35,7 +34,7 @@ pub read-piece : (buf sub : List ℕ) (s r : Window) (n : ℕ) → s .held ≤ l
 read-piece buf sub s r n h l m g a =
     let k : ℕ = s .held in
     let new : List ℕ = after buf k sub in
-    let long : length new ≡ length buf = ap length (lent-put buf k (length buf - k) sub l) ∙ length-put buf k sub (omega arith) in
+    let long : length new ≡ length buf = simp (length-append, length-take, length-drop, l) (omega arith) in
     let f : k + n ≤ length buf = omega (arith, length-take (length new - k) (drop k new), length-drop k new) in
     let p : length (take n (drop k new)) ≡ n = length-take-le n (drop k new) (omega (arith, length-drop k new)) in
     record {

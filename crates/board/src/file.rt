@@ -2,7 +2,7 @@
 use field::Span;
 use files::Window;
 ghost use mathlib.Core.Path.{_≡_};
-ghost use Rattle.table.specs.Bytes as table;
+ghost use Rattle.wire.specs.Write as wire;
 ghost use Rattle.board.specs.Turn.{ReadsOn};
 
 // What reading on gives: the window after it, or that it failed.
@@ -21,7 +21,7 @@ pub(crate) enum Turned {
 
 // len bytes from start on, as far as they are there.
 pub(crate) fn part(s: &[u8], start: usize, len: usize) -> &[u8]
-    ensures { λ r. ⌜ now r ≡ table.part (now (s .entry)) start len ⌝ }
+    ensures { λ r. ⌜ now r ≡ wire.part (now (s .entry)) start len ⌝ }
 {
     field::part(
         s,

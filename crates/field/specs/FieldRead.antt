@@ -2,11 +2,12 @@
 use mathlib.Core.List.{List}
 use mathlib.Core.Bool.{cond, _&&_}
 use Prim.Native.Nat.{ℕ, _-_}
-use lib.ListN.{length, take, drop}
+use lib.ListN.{length}
 use lib.Dec.{eqb, leb}
 use Rattle.wire.specs.Codec.{Read, whole, more, refused, after, Codec, byte, guard}
 use Rattle.wire.specs.Number.{number}
 use Rattle.wire.specs.Field.{limited}
+use Rattle.wire.specs.Write.{part}
 use Rattle.text.specs.Text.{isText}
 use Rattle.field.specs.declared.Span.{Span}
 use Rattle.field.specs.declared.Kind.{Kind}
@@ -53,7 +54,7 @@ between low high refusal = guard (λ b. leb low b && leb b high) refusal byte
 
 -- the bytes of a part: as many of them as there are
 abbrev pub partOf : List ℕ → Span → List ℕ
-partOf s p = take (p .len) (drop (p .start) s)
+partOf s p = part s (p .start) (p .len)
 
 -- Where bytes that end at a place stand: "shown as the part of the caller's own bytes, not copied". No bytes, sent or not, stand nowhere.
 abbrev pub nowhere : Span

@@ -33,8 +33,7 @@ use Rattle.service.specs.Turns.{lineRoom, both, Turns, full, done, then}
 use Rattle.service.proofs.Pieces.{left-later}
 use Rattle.service.proofs.Bounds.{Late, late, answer-longest, error-size}
 use Rattle.table.proofs.Lists.{lt-or-ge}
-use Rattle.table.specs.Bytes.{part}
-use Rattle.table.specs.Write.{put}
+use Rattle.wire.specs.Write.{part}
 use Rattle.table.specs.Memory.{stateOf, Sound}
 use Rattle.table.specs.Form.{form}
 use Rattle.table.proofs.HasForm.{FirstHeld, has-form}
@@ -204,7 +203,7 @@ module _ (buf t out : List ℕ) (s : Window) where
   quiet {out′ = out′} {t′} r true e u z = record { answer = next.Done; buffer = buf; table = t′; output = out′; does = ends r u z e }
   quiet {f} {out′} {t′} r false e u z =
       let n : ℕ = s .held - (s .from + f .taken) in
-      record { answer = next.Read (at 0 n (f .passing) false); buffer = put buf 0 (part buf (s .from + f .taken) n); table = t′; output = out′; does = reads r u z e refl refl }
+      record { answer = next.Read (at 0 n (f .passing) false); buffer = sets buf 0 (part buf (s .from + f .taken) n); table = t′; output = out′; does = reads r u z e refl refl }
 
   serve : Ready buf t out s → Answers buf t out s
   serve r =

@@ -15,7 +15,7 @@ use Rattle.map.specs.Table.{Each}
 use Rattle.service.specs.Feed.{joined}
 use Rattle.hex.specs.Hex.{toHex, line}
 use Rattle.hex.proofs.HexLaws.{hex-length}
-use Rattle.table.specs.Bytes.{part}
+use Rattle.wire.specs.Write.{part}
 use Rattle.table.specs.Memory.{size, stateOf, Sound}
 use Rattle.table.proofs.Restores.{each-mid}
 use Rattle.stored.specs.File.{form1, entryLine, headLine, entryLines, file, Stores}
@@ -164,5 +164,4 @@ not-stored x h st q = go (x .stuck)
 -- A whole file, however reading cuts it: loading ends with 'done' exactly where the file stores a table; then the memory is sound and has that state.
 pub whole-loaded : {buf t t′ : List ℕ} {ps : List (List ℕ)} {r : Bool} → Loadings buf t begin ps r t′
     → (r ≡ true → Sound t′ × Stores form1 (joined ps) (stateOf t′)) × (length t ≡ size → r ≡ false → (st : State) → Stores form1 (joined ps) st → ⊥)
-unfolding part
 whole-loaded l = (λ e. loads-stores (all-lines l e) refl, λ h e. not-stored (stops l e) h)

@@ -5,10 +5,10 @@ use mathlib.Core.List.{List}
 use Prim.Native.Nat.{ℕ, _+_, _-_, _≤_, _<_}
 use native.Mathlib.Omega.{arith}
 use lib.ListN.{length, drop, length-drop}
+use lib.Seq.{sets}
 use Rattle.wire.proofs.Laws.{never}
-use Rattle.table.specs.Bytes.{part}
+use Rattle.wire.specs.Write.{part}
 use Rattle.table.specs.Memory.{stateOf}
-use Rattle.table.specs.Write.{put}
 use Rattle.stored.specs.declared.Loading.{Loading}
 use Rattle.files.specs.declared.Window.{Window}
 use Rattle.files.specs.Window.{at, inside}
@@ -45,7 +45,7 @@ module _ {buf t t′ : List ℕ} {s : Window} {p : Loading} (l : Loads buf t s p
     all e b a = record { piece = p; loads = l; ended = e; begun = b; all = omega (arith, inside-long (l .lies)); buffer = refl }
 
     pub on : {buf′ : List ℕ} {n : ℕ} → s .ended ≡ false → s .held - (s .from + p .taken) ≤ longestStored
-        → buf′ ≡ put buf 0 (part buf (s .from + p .taken) (s .held - (s .from + p .taken))) → n ≡ s .held - (s .from + p .taken)
+        → buf′ ≡ sets buf 0 (part buf (s .from + p .taken) (s .held - (s .from + p .taken))) → n ≡ s .held - (s .from + p .taken)
         → LoadsOn buf t s (at 0 n (p .begun) false) buf′ t′
     on {n = n} e h b m =
         let z : n ≡ length (drop (p .taken) (inside buf s)) = omega (arith, left-is) in

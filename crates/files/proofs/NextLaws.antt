@@ -6,6 +6,7 @@ use mathlib.Core.List.{List, []}
 use Prim.Native.Nat.{ℕ, _+_, _-_, _≤_, _<_}
 use native.Mathlib.Omega.{arith}
 use lib.ListN.{length, drop, length-drop}
+use lib.Seq.{sets}
 use lib.Dec.{ltb}
 use borrow.Author.Tests.{ltb-true, ltb-false}
 use Rattle.wire.proofs.Laws.{never}
@@ -16,11 +17,10 @@ use Rattle.server.specs.Lines.{Checked, Unserved, fedOf, TurnsDone, ServesLines
 use Rattle.server.specs.declared.Fed.{Fed}
 use Rattle.server.specs.declared.Served.{Served}
 use Rattle.server.specs.declared.Served.the-variants as served
-use Rattle.table.specs.Bytes.{part}
+use Rattle.wire.specs.Write.{part}
 use Rattle.table.specs.Memory.{stateOf, Sound}
 use Rattle.table.specs.Found.{Tells}
 use Rattle.table.proofs.Lists.{refuted}
-use Rattle.table.specs.Write.{put}
 use Rattle.files.specs.declared.Window.{Window}
 use Rattle.files.specs.Window.{at, inside, Lies}
 use Rattle.files.specs.Serving.{Ready, Serves, Writes, Reads, Ends, Refuses}
@@ -97,7 +97,7 @@ module _ {buf t out out′ t′ : List ℕ} {s : Window} {f : Fed} (r : Ready bu
     pub ends : s .ended ≡ true → Ends buf t out s buf t′ out′
     ends h = record { turn = u .turn; serves = serves; ended = h; quiet = quiet; buffer = refl; list = same-list }
 
-    pub reads : {buf′ : List ℕ} {n : ℕ} → s .ended ≡ false → buf′ ≡ put buf 0 (part buf (s .from + f .taken) (s .held - (s .from + f .taken)))
+    pub reads : {buf′ : List ℕ} {n : ℕ} → s .ended ≡ false → buf′ ≡ sets buf 0 (part buf (s .from + f .taken) (s .held - (s .from + f .taken)))
         → n ≡ s .held - (s .from + f .taken) → Reads buf t out s (at 0 n (f .passing) false) buf′ t′ out′
     reads {n = n} h b m =
         let left : List ℕ = drop (u .turn .taken) (inside buf s) in

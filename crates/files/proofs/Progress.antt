@@ -6,15 +6,13 @@ use mathlib.Core.List.{List, [], _∷_, _++_}
 use Prim.Native.Nat.{ℕ, zero, suc, _+_, _-_, _≤_, _<_}
 use native.Mathlib.Omega.{arith}
 use lib.ListN.{length, take, drop, length-drop, length-append, take-append-drop}
-use lib.Seq.{length-sets, length-take-le, take-at}
+use lib.Seq.{length-sets, length-take-le, take-at, sets, sets-eq}
 use lib.Dec.{eqb}
 use borrow.Author.Tests.{eqb-true, ne-eqb}
 use Rattle.wire.proofs.Laws.{never}
 use Rattle.hex.proofs.HexLaws.{length-none}
 use Rattle.service.specs.Line.{longest}
 use Rattle.service.specs.Turns.{lineRoom}
-use Rattle.table.specs.Write.{put}
-use Rattle.table.proofs.Parts.{length-put}
 use Rattle.table.specs.Memory.{Sound}
 use Rattle.server.proofs.LeftLaws.{left-sound}
 use Rattle.service.proofs.Pieces.{joined-more}
@@ -32,11 +30,10 @@ abbrev pub togo : List ℕ → List ℕ → Window → ℕ
 togo file buf s = length (inside buf s) + (length file + length file) + cond (s .ended) 0 1
 
 -- what a read brings stands behind the bytes held
-brings-put : (buf p : List ℕ) (k : ℕ) → k + length p ≤ length buf → Brings buf k p (put buf k p)
-unfolding put
-brings-put buf p k h =
+brings-sets : (buf p : List ℕ) (k : ℕ) → k + length p ≤ length buf → Brings buf k p (sets buf k p)
+brings-sets buf p k h =
     let n : length (take k buf ++ p) ≡ k + length p = length-append (take k buf) p ∙ ap (λ (m : ℕ). m + length p) (length-take-le k buf (omega arith)) in
-    record { fits = h; bytes = take-at (take k buf ++ p) _ (k + length p) n; long = length-put buf k p h }
+    record { fits = h; bytes = rw (sets-eq p buf k h) (take-at (take k buf ++ p) _ (k + length p) n); long = length-sets buf k p }
 
 counts : (k : ℕ) → cond (eqb k 0) 0 1 ≤ k
 counts zero = omega arith
@@ -69,14 +66,14 @@ cut c file {buf} {buf′} {s} {s′} {n} x =
     let p : List ℕ = take k file in
     let m : length p ≡ k = length-take-le k file (c .there room (length file)) in
     let long : length buf′ ≡ length buf = ap length (x .buffer) ∙ front-long buf left (omega (arith, x .room)) in
-    let b = brings-put buf′ p (s′ .held) (omega (arith, c .fits room (length file), x .room)) in
+    let b = brings-sets buf′ p (s′ .held) (omega (arith, c .fits room (length file), x .room)) in
     let i : inside buf′ s′ ≡ left = rw (x .next, x .buffer) (inside-front buf left (omega (arith, x .room))) in
-    let q : length (inside (put buf′ (s′ .held) p) (arrived s′ (length p))) ≡ length (inside buf′ s′) + length p = ap length (inside-read s′ z b) ∙ length-append (inside buf′ s′) p in
+    let q : length (inside (sets buf′ (s′ .held) p) (arrived s′ (length p))) ≡ length (inside buf′ s′) + length p = ap length (inside-read s′ z b) ∙ length-append (inside buf′ s′) p in
     let o : k ≡ 0 → length (drop k file) ≡ 0 = λ e. omega (arith, length-drop k file, none-left c room (length file) (omega (arith, x .room)) e) in
     record {
       piece = p;
       rest = drop k file;
-      new = put buf′ (s′ .held) p;
+      new = sets buf′ (s′ .held) p;
       all = take-append-drop k file;
       brings = b;
       lies = lies-read s′ z b;

@@ -12,7 +12,7 @@ use Rattle.wire.proofs.Laws.{never}
 use Rattle.service.specs.Line.{Given, given, later, linesStep}
 use Rattle.service.specs.Feed.{linesOf, joined, Feeds, read as feeds-read, end as feeds-end}
 use Rattle.service.proofs.Pieces.{restStep, pieces}
-use Rattle.table.specs.Bytes.{part}
+use Rattle.wire.specs.Write.{part}
 use Rattle.table.specs.Memory.{stateOf, Sound}
 use Rattle.service.specs.Stream.{Becomes}
 use Rattle.map.specs.State.{State}
@@ -89,7 +89,7 @@ ends-sound {t = t} {t′ = t′} (done x) = left-sound t t′ (x .turn .next) (x
 -- A whole file, however reading cuts it: what is written is what its lines give, and the table at the end is the one that they leave, and sound. Where
 -- none of the lines takes effect, it keeps its bytes.
 pub whole-served : {buf t w t′ : List ℕ} {ps : List (List ℕ)} → Runs buf t begin ps w t′ → FileGives (joined ps) t w t′ × Sound t′
-unfolding restStep part
+unfolding restStep
 whole-served {t = t} {w} {t′} {ps} r =
     let f = fed r in
     let e : given w (f .next) ≡ linesStep (linesOf (joined ps)) (stateOf t) = pieces (f .feeds) in

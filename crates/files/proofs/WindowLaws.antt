@@ -5,16 +5,15 @@ use mathlib.Core.List.{List, _++_}
 use Prim.Native.Nat.{ℕ, _+_, _-_, _≤_}
 use native.Mathlib.Omega.{arith}
 use lib.ListN.{length, take, drop, length-drop}
-use lib.Seq.{drop-drop, take-add, drop-at, length-take-le}
-use Rattle.table.specs.Bytes.{part}
-use Rattle.table.specs.Write.{put}
-use Rattle.table.proofs.Parts.{length-part, length-put, part-put}
+use lib.Seq.{drop-drop, take-add, drop-at, length-take-le, sets, length-sets}
+use Rattle.wire.specs.Write.{part}
+use Rattle.wire.proofs.WriteLaws.{sets-part}
+use Rattle.table.proofs.Parts.{length-part}
 use Rattle.files.specs.declared.Window.{Window}
 use Rattle.files.specs.Window.{inside, Lies, behind, Moves, arrived, Brings}
 
 -- a part behind the first n of its elements
 part-drop : (l : List ℕ) (a m n : ℕ) → a + m ≤ length l → n ≤ m → part l (a + n) (m - n) ≡ drop n (part l a m)
-unfolding part
 part-drop l a m n h g =
     let e : m ≡ n + (m - n) = omega arith in
     let q : drop n (take (n + (m - n)) (drop a l)) ≡ take (m - n) (drop n (drop a l)) =
@@ -36,7 +35,6 @@ module _ {buf : List ℕ} {s : Window} (i : Lies buf s) where
 -- a read
 module _ {buf p buf′ : List ℕ} (s : Window) (f : s .from ≡ 0) (b : Brings buf (s .held) p buf′) where
   pub inside-read : inside buf′ (arrived s (length p)) ≡ inside buf s ++ p
-  unfolding part
   inside-read =
       let x : s .held + length p - 0 ≡ s .held + length p = omega arith in
       let y : s .held - 0 ≡ s .held = omega arith in
@@ -47,11 +45,11 @@ module _ {buf p buf′ : List ℕ} (s : Window) (f : s .from ≡ 0) (b : Brings 
 
 -- what is left, moved to the front
 module _ (buf left : List ℕ) (h : length left ≤ length buf) where
-  pub inside-front : part (put buf 0 left) 0 (length left - 0) ≡ left
-  inside-front = let x : length left - 0 ≡ length left = omega arith in rw x (part-put buf 0 left (omega arith))
+  pub inside-front : part (sets buf 0 left) 0 (length left - 0) ≡ left
+  inside-front = let x : length left - 0 ≡ length left = omega arith in rw x (sets-part left buf 0 (omega arith))
 
-  pub front-long : length (put buf 0 left) ≡ length buf
-  front-long = length-put buf 0 left (omega arith)
+  pub front-long : length (sets buf 0 left) ≡ length buf
+  front-long = length-sets buf 0 left
 
 -- what is left, and what a read brings behind it
 module _ {buf buf′ p buf″ : List ℕ} {s s′ : Window} {n : ℕ} {c : Bool} (m : Moves buf s n c s′ buf′) (b : Brings buf′ (s′ .held) p buf″) where

@@ -4,9 +4,9 @@ use mathlib.Core.Bool.{Bool, false}
 use mathlib.Core.List.{List, _++_}
 use Prim.Native.Nat.{ℕ, _+_, _-_, _≤_, _<_}
 use lib.ListN.{length, take, drop}
+use lib.Seq.{sets}
 use lib.Dec.{eqb}
-use Rattle.table.specs.Bytes.{part}
-use Rattle.table.specs.Write.{put}
+use Rattle.wire.specs.Write.{part}
 use Rattle.files.specs.declared.Window.{Window}
 
 -- the greatest number of the machine
@@ -36,7 +36,7 @@ behind s n c = at (s .from + n) (s .held) c (s .ended)
 pub record Moves (buf : List ℕ) (s : Window) (taken : ℕ) (c : Bool) (s′ : Window) (buf′ : List ℕ) : Type 0 where
   pub on : s .ended ≡ false
   pub next : s′ ≡ at 0 (length (drop taken (inside buf s))) c false
-  pub buffer : buf′ ≡ put buf 0 (drop taken (inside buf s))
+  pub buffer : buf′ ≡ sets buf 0 (drop taken (inside buf s))
   pub room : s′ .held < length buf
 
 -- the window after a read that brought so many bytes; one that brings none is the file's end

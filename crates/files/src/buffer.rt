@@ -2,15 +2,15 @@
 ghost use Prim.Native.Nat.{_-_, _≤_};
 ghost use mathlib.Core.Path.{_≡_};
 ghost use lib.ListN.{length};
-ghost use Rattle.table.specs.Bytes.{part};
-ghost use Rattle.table.specs.Write.{put};
+ghost use lib.Seq.{sets};
+ghost use Rattle.wire.specs.Write.{part};
 
 // Moves the bytes from `from` up to `held` to the front, and answers how many they are.
 pub(crate) fn move_down(buf: &mut [u8], from: usize, held: usize) -> usize
     requires { ⌜ from ≤ held ⌝ }
     requires { ⌜ held ≤ length (now buf) ⌝ }
     ensures { λ r. ⌜ r ≡ held - from ⌝ }
-    ensures { λ r. ⌜ now (buf .exit) ≡ put (now (buf .entry)) 0 (part (now (buf .entry)) from (held - from)) ⌝ }
+    ensures { λ r. ⌜ now (buf .exit) ≡ sets (now (buf .entry)) 0 (part (now (buf .entry)) from (held - from)) ⌝ }
 {
     let n = held - from;
     let mut i = 0;

@@ -10,7 +10,7 @@ use lib.Seq.{sets, length-sets, length-take-le, drop-drop, drop-set-add, take-se
 use Rattle.wire.specs.Write.{laid}
 use Rattle.wire.proofs.WriteLaws.{sets-append, sets-after, sets-over, sets-part, laid-short, laid-done, laid-none}
 use Rattle.hex.specs.Hex.{digitOf, toHex, line}
-use Rattle.hex.specs.Coding.{part}
+use Rattle.wire.specs.Write.{part}
 use Rattle.hex.proofs.HexLaws.{length-none, hex-length, line-length}
 
 -- writes at other places: the order does not matter, and bytes before them stand

@@ -3,7 +3,7 @@ use mathlib.Core.List.{List, _++_}
 use mathlib.Core.Bool.{cond}
 use mathlib.Core.Option.{Option, none, some}
 use Prim.Native.Nat.{ℕ}
-use lib.ListN.{length, take, drop}
+use lib.ListN.{length, drop}
 use lib.Dec.{leb}
 use Rattle.hex.specs.Hex.{fromHex}
 use Rattle.hex.specs.declared.Decoded.{Decoded}
@@ -16,7 +16,3 @@ decodedTo old (some bs) = cond (leb (length bs) (length old)) (Bytes (length bs)
 
 unfoldable pub decoded : List ℕ → List ℕ → Decoded × List ℕ
 decoded s old = decodedTo old (fromHex s)
-
--- n bytes from a place on; as many of them as there are
-abbrev pub part : List ℕ → ℕ → ℕ → List ℕ
-part s at n = take n (drop at s)

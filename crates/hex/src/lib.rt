@@ -6,7 +6,8 @@ ghost use lib.ListN.{length, getD};
 ghost use lib.Seq.{sets};
 ghost use Rattle.wire.specs.Write.{laid};
 ghost use Rattle.hex.specs.Hex.{digitOf, isDigit, digitValue, toHex, line};
-ghost use Rattle.hex.specs.Coding.{decoded, part};
+ghost use Rattle.wire.specs.Write.{part};
+ghost use Rattle.hex.specs.Coding.{decoded};
 ghost use Rattle.hex.specs.Number.{valueOf, areDigits, asNumber, second};
 
 // What decoding finds: so many bytes, digits that are none or odd in number, or too little room.

@@ -20,10 +20,10 @@ use Rattle.message.specs.Request.{keyLimit, valueLimit}
 use Rattle.message.proofs.Most.{Most}
 use Rattle.map.specs.State.{Entry, State, fresh}
 use Rattle.hex.specs.Hex.{line}
-use Rattle.hex.specs.Coding as hex
 use Rattle.hex.proofs.HexLaws.{line-length}
 use Rattle.hex.proofs.InPlace.{line-over}
-use Rattle.table.specs.Bytes.{be8, part}
+use Rattle.wire.specs.Write.{part}
+use Rattle.table.specs.Bytes.{be8}
 use Rattle.table.specs.Memory.{lastIndex, numberAt, size, numberOf, rowAt, entry, entryOf, entriesOf, historyOf, stateOf}
 use Rattle.table.specs.Found.{entryAt}
 use Rattle.table.proofs.Lists.{lt-or-ge}
@@ -36,7 +36,7 @@ use Rattle.stored.proofs.LineLaws.{fields, entry-good, entry-most}
 
 -- a line written at its place: the bytes, and then their digits
 pub line-put : (s old : List ℕ) (at : ℕ) {mid new : List ℕ} {r₁ r : ℕ} → Bytes s → at + (2 * length s + 1) ≤ length old → (r₁, mid) ≡ putAt (raw (length s)) s at old
-    → (r, new) ≡ laid (line (hex.part mid at (length s))) at mid → (r, new) ≡ laid (line s) at old
+    → (r, new) ≡ laid (line (part mid at (length s))) at mid → (r, new) ≡ laid (line s) at old
 unfolding raw
 line-put s old at b h e f = let w = put-wrote (raw (length s)) s at old (raw-good s b) (omega arith) _ _ e in f ∙ line-over s old at (w .list) refl h
 
@@ -51,7 +51,7 @@ be8-small t a h =
     omega (arith, x)
 
 row-good : (f : Form) (t : List ℕ) (a : ℕ) → Bytes t → Valid (entryLine f) (entryOf t a)
-unfolding entryOf entry part
+unfolding entryOf entry
 row-good f t a b =
     entry-good f (entryOf t a) (be8-small t a b) (be8-small t (a + 8) b) (simp length-take (omega arith)) (bytes-part t (a + 32) (min (be8 t (a + 16)) keyLimit) b)
     (simp length-take (omega arith)) (bytes-part t (a + 96) (min (be8 t (a + 24)) valueLimit) b)

@@ -6,7 +6,8 @@ use native.Mathlib.Omega.{arith}
 use lib.ListN.{length, take, getD}
 use lib.Seq.{getD-take}
 use Rattle.map.specs.Step.{mostKeys}
-use Rattle.table.specs.Bytes.{part, upto}
+use Rattle.wire.specs.Write.{part}
+use Rattle.table.specs.Bytes.{upto}
 use Rattle.table.specs.Memory.{headCount, countIndex, lastIndex, numberAt, placesAt, rowWidth, size, numberOf, placeOf, rowAt, entryOf, countOf, entriesOf, stateOf}
 use Rattle.table.proofs.Lists.{upto-ext}
 use Rattle.table.proofs.Parts.{getD-part}

@@ -8,7 +8,7 @@ use mathlib.Core.Bool.{true}
 use Prim.Native.Nat.{ℕ, suc, _+_, _%_, _≤_, _<_, _^_}
 use native.Mathlib.Omega.{arith}
 use lib.ListN.{length, length-append, List·getD-eq-default}
-use lib.Seq.{append-snoc, ext-getD}
+use lib.Seq.{append-snoc, ext-getD, sets, length-sets}
 use lib.Dec.{ltb}
 use borrow.Author.Tests.{lt-ltb}
 use Rattle.wire.specs.Codec.{Bytes, isBytes}
@@ -20,12 +20,12 @@ use Rattle.map.specs.Table.{Each, Sizes, IsTable, Ascending}
 use Rattle.table.specs.Bytes.{upto, zeros}
 use Rattle.table.specs.Memory.{headCount, countIndex, lastIndex, firstIndex, countsIndex, numberAt, placesAt, deadlineStart, keyLengthStart, valueLengthStart, keyStart, valueStart, size, numberOf, firstOf, rowAt, entry, countOf, entriesOf, historyOf, stateOf, Sound}
 use Rattle.table.specs.Change.{Left, made, started}
-use Rattle.table.specs.Write.{put, digits, withNumber, withNumbers, inOrder, withKey, withValue, withEntry}
+use Rattle.table.specs.Write.{digits, withNumber, withNumbers, inOrder, withKey, withValue, withEntry}
 use Rattle.table.specs.Form.{withAll, firstNumber, form}
 use Rattle.map.proofs.Each.{each-both}
 use Rattle.map.proofs.CountLaws.{fresh-counts}
 use Rattle.table.proofs.Lists.{length-upto, getD-upto, lt-or-ge}
-use Rattle.table.proofs.Parts.{length-put, bytes-put}
+use Rattle.table.proofs.Parts.{bytes-sets}
 use Rattle.table.proofs.RowLaws.{length-digits}
 use Rattle.table.proofs.Regions.{Kept, kept-both, kept-wide, number-kept}
 use Rattle.table.proofs.Writes.{Contains, number-written, number-is, numbers, issue}
@@ -45,13 +45,13 @@ bytes-digits : (x : ℕ) → Bytes (digits x)
 unfolding digits isBytes
 bytes-digits x = bytes-are (digits x) (simp mod-byte)
 
-held-put : {n : ℕ} {t : List ℕ} (a : ℕ) (vs : List ℕ) → Held n t → Bytes vs → a + length vs ≤ n → Held n (put t a vs)
-held-put {n} {t} a vs h b l =
+held-sets : {n : ℕ} {t : List ℕ} (a : ℕ) (vs : List ℕ) → Held n t → Bytes vs → a + length vs ≤ n → Held n (sets t a vs)
+held-sets {n} {t} a vs h b l =
     let m : a + length vs ≤ length t = omega (arith, h .long) in
-    record { long = length-put t a vs m ∙ h .long; bytes = bytes-put t a vs m (h .bytes) b }
+    record { long = length-sets t a vs ∙ h .long; bytes = bytes-sets t a vs m (h .bytes) b }
 
-held-put8 : {n : ℕ} {t : List ℕ} (a x : ℕ) → Held n t → a + 8 ≤ n → Held n (put t a (digits x))
-held-put8 a x h l = held-put a (digits x) h (bytes-digits x) (omega (arith, length-digits x))
+held-sets8 : {n : ℕ} {t : List ℕ} (a x : ℕ) → Held n t → a + 8 ≤ n → Held n (sets t a (digits x))
+held-sets8 a x h l = held-sets a (digits x) h (bytes-digits x) (omega (arith, length-digits x))
 
 held-zeros : (n : ℕ) → Held n (zeros n)
 held-zeros n = record { long = length-zeros n; bytes = λ i. omega (arith, zero-at n i) }
@@ -71,10 +71,10 @@ unfolding withEntry withNumber withValue withKey
 entry-bytes t e h b s =
     let a = rowAt t (countOf t) in
     let t₀ : Held size t = record { long = h; bytes = b } in
-    let t₁ = held-put (a + keyStart) (e .key) (held-put8 (a + keyLengthStart) (length (e .key)) t₀ (omega arith)) (bytes-are _ (s .keyBytes)) (omega (arith, s .key)) in
-    let t₂ = held-put8 (a + valueLengthStart) (length (e .value)) (held-put8 (a + deadlineStart) (e .deadline) (held-put8 a (e .version) t₁ (omega arith)) (omega arith)) (omega arith) in
-    let t₃ = held-put (a + valueStart) (e .value) t₂ (bytes-are _ (s .valueBytes)) (omega (arith, s .value)) in
-    held-put8 (numberAt countIndex) (countOf t + 1) t₃ (omega arith) .bytes
+    let t₁ = held-sets (a + keyStart) (e .key) (held-sets8 (a + keyLengthStart) (length (e .key)) t₀ (omega arith)) (bytes-are _ (s .keyBytes)) (omega (arith, s .key)) in
+    let t₂ = held-sets8 (a + valueLengthStart) (length (e .value)) (held-sets8 (a + deadlineStart) (e .deadline) (held-sets8 a (e .version) t₁ (omega arith)) (omega arith)) (omega arith) in
+    let t₃ = held-sets (a + valueStart) (e .value) t₂ (bytes-are _ (s .valueBytes)) (omega (arith, s .value)) in
+    held-sets8 (numberAt countIndex) (countOf t + 1) t₃ (omega arith) .bytes
 
 order-bytes : Bytes (upto (λ (i : ℕ). i) mostKeys)
 order-bytes k =
@@ -102,7 +102,7 @@ start =
     let h = z .long in
     let m = length-upto (λ (i : ℕ). i) mostKeys in
     record {
-      bytes = held-put placesAt (upto (λ (i : ℕ). i) mostKeys) z order-bytes (omega arith) .bytes;
+      bytes = held-sets placesAt (upto (λ (i : ℕ). i) mostKeys) z order-bytes (omega arith) .bytes;
       contains =
           subst (λ (x : ℕ). Contains (inOrder (zeros size)) [] x noHistory) (zero-number lastIndex)
           (subst (Contains (inOrder (zeros size)) [] (numberOf (zeros size) lastIndex)) (no-history (zeros size) (λ i _. zero-number i))
@@ -141,7 +141,7 @@ pub record Formed (st : State) (t : List ℕ) : Type 0 where
 bytes-numbers : (ns : List ℕ) (i : ℕ) (t : List ℕ) → Held size t → i + length ns ≤ headCount → Held size (withNumbers i ns t)
 unfolding withNumbers withNumber
 bytes-numbers [] i t h l = h
-bytes-numbers (n ∷ ns) i t h l = bytes-numbers ns (suc i) _ (held-put8 (numberAt i) n h (omega arith)) (omega arith)
+bytes-numbers (n ∷ ns) i t h l = bytes-numbers ns (suc i) _ (held-sets8 (numberAt i) n h (omega arith)) (omega arith)
 
 -- memory can hold the first second
 abbrev pub FirstHeld : State → Type 0
@@ -206,7 +206,7 @@ module _ (st : State) (h : IsTable st) (a : Ascending (st .entries)) (q : FirstH
   unfolding withNumber
   bytes-all =
       let w₀ : Held size (withAll (inOrder (zeros size)) (st .entries)) = record { long = r .contains .shape .long; bytes = r .bytes } in
-      bytes-numbers ns countsIndex w₂ (held-put8 (numberAt firstIndex) _ (held-put8 (numberAt lastIndex) (st .last) w₀ (omega arith)) (omega arith)) (omega (arith, h .counts .long)) .bytes
+      bytes-numbers ns countsIndex w₂ (held-sets8 (numberAt firstIndex) _ (held-sets8 (numberAt lastIndex) (st .last) w₀ (omega arith)) (omega arith)) (omega (arith, h .counts .long)) .bytes
 
   pub has-form : Formed st (form st)
   unfolding form

@@ -8,6 +8,7 @@ use Prim.Native.Nat.{ℕ, zero, suc, _+_, _-_, _≤_, _<_, _^_}
 use native.Mathlib.Omega.{arith}
 use native.Mathlib.Numerals.{add-one}
 use lib.ListN.{set, length, getD, List·getD-eq-default}
+use lib.Seq.{sets}
 use lib.Dec.{eqb, ltb}
 use borrow.Author.Tests.{eq-eqb, ne-eqb, lt-ltb, le-ltb}
 use Rattle.wire.proofs.Basics.{pick}
@@ -16,12 +17,13 @@ use Rattle.map.specs.History.{noHistory, mostCount, onward, adds, marked, tally
 use Rattle.map.specs.Table.{Counts}
 use Rattle.table.specs.Bytes.{be8, upto, zeros}
 use Rattle.table.specs.Memory.{firstIndex, countsIndex, headCount, numberAt, placesAt, size, numberOf, firstOf, historyOf}
-use Rattle.table.specs.Write.{put, withNumber, withNumbers, withNone, begun, goneOn, counted}
+use Rattle.table.specs.Write.{withNumber, withNumbers, withNone, begun, goneOn, counted}
 use Rattle.table.specs.Change.{lastSecond}
 use Rattle.table.proofs.Lists.{lt-or-ge, length-upto, getD-upto, upto-ext}
-use Rattle.table.proofs.Parts.{put-in, put-more}
+use Rattle.wire.proofs.WriteLaws.{sets-append}
+use Rattle.table.proofs.Parts.{sets-in}
 use Rattle.table.proofs.RowLaws.{be8-same}
-use Rattle.table.proofs.Regions.{Kept, kept-put, kept-both, kept-wide, number-kept}
+use Rattle.table.proofs.Regions.{Kept, kept-sets, kept-both, kept-wide, number-kept}
 use Rattle.table.proofs.Writes.{number-written, number-is}
 
 -- a list of zeros
@@ -49,16 +51,16 @@ no-number t i h = be8-same t [] (numberAt i) 0 h ∙ no-bytes
 module _ (t : List ℕ) (h : length t ≡ size) where
   pub none-kept : Kept 0 placesAt t (withNone t)
   unfolding withNone
-  none-kept = kept-put _ _ t 0 (zeros placesAt) (omega arith) (omega (arith, length-zeros placesAt)) (omega arith)
+  none-kept = kept-sets _ _ t 0 (zeros placesAt) (omega arith) (omega (arith, length-zeros placesAt)) (omega arith)
 
   pub none-number : (i : ℕ) → i < headCount → numberOf (withNone t) i ≡ 0
   unfolding withNone
   none-number i l =
-      no-number (put t 0 (zeros placesAt)) i
+      no-number (sets t 0 (zeros placesAt)) i
       (λ k q.
       let e : 0 + (numberAt i + k) ≡ numberAt i + k = omega arith in
-      ap (λ (n : ℕ). getD (put t 0 (zeros placesAt)) n 0) (sym e)
-      ∙ put-in t 0 (zeros placesAt) (omega (arith, length-zeros placesAt)) (numberAt i + k) (omega (arith, length-zeros placesAt))
+      ap (λ (n : ℕ). getD (sets t 0 (zeros placesAt)) n 0) (sym e)
+      ∙ sets-in t 0 (zeros placesAt) (omega (arith, length-zeros placesAt)) (numberAt i + k) (omega (arith, length-zeros placesAt))
       ∙ zero-at placesAt (numberAt i + k))
 
 pub no-history : (t : List ℕ) → ((i : ℕ) → i < headCount → numberOf t i ≡ 0) → historyOf t ≡ noHistory
@@ -67,13 +69,13 @@ no-history t h =
     rw (h firstIndex (omega arith), upto-ext (λ (i : ℕ). 0) (λ (i : ℕ). numberOf t (countsIndex + i)) 7 (λ i l. h (countsIndex + i) (omega arith)))
 
 -- one number byte more is 0
-pub none-more : (t : List ℕ) (i : ℕ) → i < length t → set (put t 0 (zeros i)) i 0 ≡ put t 0 (zeros (i + 1))
+pub none-more : (t : List ℕ) (i : ℕ) → i < length t → set (sets t 0 (zeros i)) i 0 ≡ sets t 0 (zeros (i + 1))
 unfolding zeros upto
 none-more t i h =
     let l = length-zeros i in
-    ap (λ (n : ℕ). set (put t 0 (zeros i)) n 0) (omega arith)
-    ∙ put-more t 0 (zeros i) (omega arith) 0 (omega arith)
-    ∙ ap (λ (n : ℕ). put t 0 (zeros n)) (sym (add-one i))
+    ap (λ (n : ℕ). set (sets t 0 (zeros i)) n 0) (omega arith)
+    ∙ sym (sets-append t 0 (zeros i) (0 ∷ []))
+    ∙ ap (λ (n : ℕ). sets t 0 (zeros n)) (sym (add-one i))
 
 -- memory that is not written
 kept-all : (lo hi : ℕ) (t : List ℕ) → Kept lo hi t t

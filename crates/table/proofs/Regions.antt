@@ -5,12 +5,13 @@ use mathlib.Core.Logic.{⊎-elim, _⊎_, inl, inr}
 use Prim.Native.Nat.{ℕ, _+_, _*_, _%_, _≤_, _<_}
 use native.Mathlib.Omega.{arith}
 use lib.ListN.{length, getD}
+use lib.Seq.{sets, length-sets}
 use Rattle.map.specs.Step.{mostKeys}
-use Rattle.table.specs.Bytes.{be8, part}
+use Rattle.wire.specs.Write.{part}
+use Rattle.table.specs.Bytes.{be8}
 use Rattle.table.specs.Memory.{numberAt, placesAt, rowsAt, rowWidth, size, numberOf, placeOf, rowAt, Permutation}
-use Rattle.table.specs.Write.{put}
 use Rattle.table.proofs.Lists.{lt-or-ge}
-use Rattle.table.proofs.Parts.{part-ext, length-put, put-before, put-after}
+use Rattle.table.proofs.Parts.{part-ext, sets-before, sets-behind}
 use Rattle.table.proofs.RowLaws.{be8-same, SameRow, row-same}
 
 -- u is t but for its bytes from lo up to hi
@@ -19,12 +20,12 @@ pub record Kept (lo hi : ℕ) (t u : List ℕ) : Type 0 where
   pub low : (k : ℕ) → k < lo → getD u k 0 ≡ getD t k 0
   pub high : (k : ℕ) → hi ≤ k → getD u k 0 ≡ getD t k 0
 
-pub kept-put : (lo hi : ℕ) (t : List ℕ) (a : ℕ) (vs : List ℕ) → lo ≤ a → a + length vs ≤ hi → hi ≤ length t → Kept lo hi t (put t a vs)
-kept-put lo hi t a vs l h f =
+pub kept-sets : (lo hi : ℕ) (t : List ℕ) (a : ℕ) (vs : List ℕ) → lo ≤ a → a + length vs ≤ hi → hi ≤ length t → Kept lo hi t (sets t a vs)
+kept-sets lo hi t a vs l h f =
     record {
-      long = length-put t a vs (omega arith);
-      low = λ k q. put-before t a vs (omega arith) k (omega arith);
-      high = λ k q. put-after t a vs (omega arith) k (omega arith);
+      long = length-sets t a vs;
+      low = λ k q. sets-before t a vs (omega arith) k (omega arith);
+      high = λ k q. sets-behind t a vs (omega arith) k (omega arith);
     }
 
 pub kept-both : {lo hi : ℕ} {t u v : List ℕ} → Kept lo hi t u → Kept lo hi u v → Kept lo hi t v

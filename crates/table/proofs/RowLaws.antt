@@ -4,15 +4,16 @@ use mathlib.Core.List.{List, []}
 use Prim.Native.Nat.{ℕ, _+_, _*_, _/_, _%_, _≤_, _<_, _^_, min}
 use native.Mathlib.Omega.{arith}
 use lib.ListN.{length, getD}
+use lib.Seq.{sets}
 use borrow.Author.Tests.{eq-eqb}
 use Rattle.map.specs.State.{Entry, State}
 use Rattle.map.specs.Step.{mostKeys}
 use Rattle.table.specs.Bytes.{be8}
 use Rattle.table.specs.Memory.{lastIndex, firstIndex, countsIndex, headCount, size, numberOf, rowAt, entry, entryOf, countOf, entriesOf, historyOf, stateOf}
 use Rattle.table.specs.Found.{entryAt}
-use Rattle.table.specs.Write.{put, digits}
+use Rattle.table.specs.Write.{digits}
 use Rattle.table.proofs.Lists.{length-upto, getD-upto, upto-ext}
-use Rattle.table.proofs.Parts.{part-ext, length-put, put-before, put-in}
+use Rattle.table.proofs.Parts.{part-ext, sets-before, sets-in}
 
 -- eight-byte numbers
 pub be8-same : (t u : List ℕ) (a b : ℕ) → ((k : ℕ) → k < 8 → getD t (a + k) 0 ≡ getD u (b + k) 0) → be8 t a ≡ be8 u b
@@ -40,18 +41,15 @@ unfolding digits
 length-digits x = refl
 
 module _ (t : List ℕ) (a x : ℕ) (fits : a + 8 ≤ length t) where
-  pub length-put8 : length (put t a (digits x)) ≡ length t
-  length-put8 = length-put t a (digits x) (omega (arith, length-digits x))
-
-  pub be8-put : x < 2 ^ 64 → be8 (put t a (digits x)) a ≡ x
-  be8-put h =
-      be8-same (put t a (digits x)) (digits x) a 0
+  pub be8-sets : x < 2 ^ 64 → be8 (sets t a (digits x)) a ≡ x
+  be8-sets h =
+      be8-same (sets t a (digits x)) (digits x) a 0
       (λ k l. let e : 0 + k ≡ k = omega arith in
-      cc (put-in t a (digits x) (omega (arith, length-digits x)) k (omega (arith, length-digits x))))
+      cc (sets-in t a (digits x) (omega (arith, length-digits x)) k (omega (arith, length-digits x))))
       ∙ spelt x h
 
-pub be8-before : (t : List ℕ) (a : ℕ) (vs : List ℕ) (b : ℕ) → a + length vs ≤ length t → b + 8 ≤ a → be8 (put t a vs) b ≡ be8 t b
-be8-before t a vs b h g = be8-same (put t a vs) t b b (λ k l. put-before t a vs h (b + k) (omega arith))
+pub be8-before : (t : List ℕ) (a : ℕ) (vs : List ℕ) (b : ℕ) → a + length vs ≤ length t → b + 8 ≤ a → be8 (sets t a vs) b ≡ be8 t b
+be8-before t a vs b h g = be8-same (sets t a vs) t b b (λ k l. sets-before t a vs h (b + k) (omega arith))
 
 -- two rows with the same bytes
 pub record SameRow (t : List ℕ) (a : ℕ) (u : List ℕ) (b : ℕ) : Type 0 where

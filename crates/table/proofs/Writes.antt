@@ -5,17 +5,19 @@ use mathlib.Core.Logic.{inl, inr}
 use Prim.Native.Nat.{ℕ, _+_, _-_, _≤_, _<_, _^_, min}
 use native.Mathlib.Omega.{arith}
 use lib.ListN.{length}
+use lib.Seq.{sets, length-sets}
 use Rattle.message.specs.Request.{keyLimit, valueLimit}
 use Rattle.map.specs.History.{History}
 use Rattle.map.specs.State.{Entry}
 use Rattle.map.specs.Step.{mostKeys}
-use Rattle.table.specs.Bytes.{be8, part, upto}
+use Rattle.wire.specs.Write.{part}
+use Rattle.table.specs.Bytes.{be8, upto}
 use Rattle.table.specs.Memory.{headCount, countIndex, lastIndex, firstIndex, numberAt, placesAt, rowWidth, deadlineStart, keyLengthStart, valueLengthStart, keyStart, valueStart, size, numberOf, placeOf, rowAt, entry, entryOf, countOf, entriesOf, historyOf, Permutation}
-use Rattle.table.specs.Write.{put, digits, withNumber, withKey, withValue, withEntry}
+use Rattle.table.specs.Write.{digits, withNumber, withKey, withValue, withEntry}
 use Rattle.table.proofs.Lists.{upto-ext}
-use Rattle.table.proofs.Parts.{part-put}
-use Rattle.table.proofs.RowLaws.{length-digits, length-put8, be8-put, be8-before, SameRow, SameHistory, history-same}
-use Rattle.table.proofs.Regions.{Kept, kept-put, kept-both, kept-wide, be8-kept, part-kept, number-kept, place-kept, row-in, row-from, permutation-same}
+use Rattle.wire.proofs.WriteLaws.{sets-part}
+use Rattle.table.proofs.RowLaws.{length-digits, be8-sets, be8-before, SameRow, SameHistory, history-same}
+use Rattle.table.proofs.Regions.{Kept, kept-sets, kept-both, kept-wide, be8-kept, part-kept, number-kept, place-kept, row-in, row-from, permutation-same}
 
 abbrev pub Fit : List ℕ → ℕ → Type 0
 Fit t a = (be8 t (a + keyLengthStart) ≤ keyLimit) × (be8 t (a + valueLengthStart) ≤ valueLimit)
@@ -30,63 +32,63 @@ fit s f = (omega (arith, s .key), omega (arith, s .value))
 module _ (i x : ℕ) (t : List ℕ) (h : length t ≡ size) (l : i < headCount) where
   pub number-written : Kept (numberAt i) (numberAt i + 8) t (withNumber i x t)
   unfolding withNumber
-  number-written = kept-put _ _ t (numberAt i) (digits x) (omega arith) (omega (arith, length-digits x)) (omega arith)
+  number-written = kept-sets _ _ t (numberAt i) (digits x) (omega arith) (omega (arith, length-digits x)) (omega arith)
 
   pub number-is : x < 2 ^ 64 → numberOf (withNumber i x t) i ≡ x
   unfolding withNumber numberOf
-  number-is q = be8-put t (numberAt i) x (omega arith) q
+  number-is q = be8-sets t (numberAt i) x (omega arith) q
 
 -- the row at a
 module _ (a : ℕ) (t : List ℕ) (fits : a + rowWidth ≤ length t) where
   pub key-written : (k : List ℕ) → length k ≤ keyLimit → Kept a (a + rowWidth) t (withKey a k t)
   unfolding withKey
   key-written k hk =
-      let t₁ = put t (a + keyLengthStart) (digits (length k)) in
-      let l₁ : length t₁ ≡ length t = length-put8 t (a + keyLengthStart) (length k) (omega arith) in
+      let t₁ = sets t (a + keyLengthStart) (digits (length k)) in
+      let l₁ : length t₁ ≡ length t = length-sets t (a + keyLengthStart) (digits (length k)) in
       kept-both
-      (kept-put _ _ t (a + keyLengthStart) (digits (length k)) (omega arith) (omega (arith, length-digits (length k))) fits)
-      (kept-put _ _ t₁ (a + keyStart) k (omega arith) (omega arith) (omega arith))
+      (kept-sets _ _ t (a + keyLengthStart) (digits (length k)) (omega arith) (omega (arith, length-digits (length k))) fits)
+      (kept-sets _ _ t₁ (a + keyStart) k (omega arith) (omega arith) (omega arith))
 
   pub key-is : (k : List ℕ) → length k ≤ keyLimit → (be8 (withKey a k t) (a + keyLengthStart) ≡ length k) × (part (withKey a k t) (a + keyStart) (length k) ≡ k)
   unfolding withKey
   key-is k hk =
-      let t₁ = put t (a + keyLengthStart) (digits (length k)) in
-      let l₁ : length t₁ ≡ length t = length-put8 t (a + keyLengthStart) (length k) (omega arith) in (
-        be8-before t₁ (a + keyStart) k (a + keyLengthStart) (omega arith) (omega arith) ∙ be8-put t (a + keyLengthStart) (length k) (omega arith) (omega arith),
-        part-put t₁ (a + keyStart) k (omega arith),
+      let t₁ = sets t (a + keyLengthStart) (digits (length k)) in
+      let l₁ : length t₁ ≡ length t = length-sets t (a + keyLengthStart) (digits (length k)) in (
+        be8-before t₁ (a + keyStart) k (a + keyLengthStart) (omega arith) (omega arith) ∙ be8-sets t (a + keyLengthStart) (length k) (omega arith) (omega arith),
+        sets-part k t₁ (a + keyStart) (omega arith),
       )
 
   module _ (v : List ℕ) (n d : ℕ) (hv : length v ≤ valueLimit) where
     abbrev v₁ : List ℕ
-    v₁ = put t a (digits n)
+    v₁ = sets t a (digits n)
 
     abbrev v₂ : List ℕ
-    v₂ = put v₁ (a + deadlineStart) (digits d)
+    v₂ = sets v₁ (a + deadlineStart) (digits d)
 
     abbrev v₃ : List ℕ
-    v₃ = put v₂ (a + valueLengthStart) (digits (length v))
+    v₃ = sets v₂ (a + valueLengthStart) (digits (length v))
 
     l₁ : length v₁ ≡ length t
-    l₁ = length-put8 t a n (omega arith)
+    l₁ = length-sets t a (digits n)
 
     l₂ : length v₂ ≡ length t
-    l₂ = length-put8 v₁ (a + deadlineStart) d (omega (arith, l₁)) ∙ l₁
+    l₂ = length-sets v₁ (a + deadlineStart) (digits d) ∙ l₁
 
     l₃ : length v₃ ≡ length t
-    l₃ = length-put8 v₂ (a + valueLengthStart) (length v) (omega (arith, l₂)) ∙ l₂
+    l₃ = length-sets v₂ (a + valueLengthStart) (digits (length v)) ∙ l₂
 
     numbers-kept : Kept a (a + keyLengthStart) t v₂
     numbers-kept =
         kept-both
-        (kept-put _ _ t a (digits n) (omega arith) (omega (arith, length-digits n)) (omega arith))
-        (kept-put _ _ v₁ (a + deadlineStart) (digits d) (omega arith) (omega (arith, length-digits d)) (omega (arith, l₁)))
+        (kept-sets _ _ t a (digits n) (omega arith) (omega (arith, length-digits n)) (omega arith))
+        (kept-sets _ _ v₁ (a + deadlineStart) (digits d) (omega arith) (omega (arith, length-digits d)) (omega (arith, l₁)))
 
     length-kept : Kept (a + valueLengthStart) (a + keyStart) v₂ v₃
-    length-kept = kept-put _ _ v₂ (a + valueLengthStart) (digits (length v)) (omega arith) (omega (arith, length-digits (length v))) (omega (arith, l₂))
+    length-kept = kept-sets _ _ v₂ (a + valueLengthStart) (digits (length v)) (omega arith) (omega (arith, length-digits (length v))) (omega (arith, l₂))
 
     bytes-kept : Kept (a + valueStart) (a + rowWidth) v₃ (withValue a v n d t)
     unfolding withValue
-    bytes-kept = kept-put _ _ v₃ (a + valueStart) v (omega arith) (omega arith) (omega (arith, l₃))
+    bytes-kept = kept-sets _ _ v₃ (a + valueStart) v (omega arith) (omega arith) (omega (arith, l₃))
 
     pub value-written : Kept a (a + rowWidth) t (withValue a v n d t)
     value-written =
@@ -108,22 +110,22 @@ module _ (a : ℕ) (t : List ℕ) (fits : a + rowWidth ≤ length t) where
 
     pub value-length : be8 (withValue a v n d t) (a + valueLengthStart) ≡ length v
     value-length =
-        be8-kept bytes-kept (a + valueLengthStart) (inl (omega arith)) ∙ be8-put v₂ (a + valueLengthStart) (length v) (omega (arith, l₂)) (omega arith)
+        be8-kept bytes-kept (a + valueLengthStart) (inl (omega arith)) ∙ be8-sets v₂ (a + valueLengthStart) (length v) (omega (arith, l₂)) (omega arith)
 
     value-bytes : part (withValue a v n d t) (a + valueStart) (length v) ≡ v
     unfolding withValue
-    value-bytes = part-put v₃ (a + valueStart) v (omega (arith, l₃))
+    value-bytes = sets-part v v₃ (a + valueStart) (omega (arith, l₃))
 
     version-is : n < 2 ^ 64 → be8 (withValue a v n d t) a ≡ n
     version-is q =
         be8-kept bytes-kept a (inl (omega arith))
         ∙ be8-kept length-kept a (inl (omega arith))
-        ∙ be8-before v₁ (a + deadlineStart) (digits d) a (omega (arith, l₁, length-digits d)) (omega arith) ∙ be8-put t a n (omega arith) q
+        ∙ be8-before v₁ (a + deadlineStart) (digits d) a (omega (arith, l₁, length-digits d)) (omega arith) ∙ be8-sets t a n (omega arith) q
 
     deadline-is : d < 2 ^ 64 → be8 (withValue a v n d t) (a + deadlineStart) ≡ d
     deadline-is q =
         be8-kept bytes-kept (a + deadlineStart) (inl (omega arith))
-        ∙ be8-kept length-kept (a + deadlineStart) (inl (omega arith)) ∙ be8-put v₁ (a + deadlineStart) d (omega (arith, l₁)) q
+        ∙ be8-kept length-kept (a + deadlineStart) (inl (omega arith)) ∙ be8-sets v₁ (a + deadlineStart) d (omega (arith, l₁)) q
 
     key-of : entryOf t a .key ≡ part t (a + keyStart) (min (be8 t (a + keyLengthStart)) keyLimit)
     unfolding entryOf entry

@@ -14,7 +14,8 @@ use Rattle.map.specs.History.{History, countsHeld}
 use Rattle.map.specs.State.{Entry, State, fresh}
 use Rattle.map.specs.Step.{mostKeys}
 use Rattle.map.specs.Table.{IsTable, Ascending}
-use Rattle.table.specs.Bytes.{be8, part, upto}
+use Rattle.wire.specs.Write.{part}
+use Rattle.table.specs.Bytes.{be8, upto}
 
 -- which numbers of the header are the count of entries, the last version issued, the first second and the first of the counts; how many numbers
 -- it has, and where number i stands

@@ -1,17 +1,15 @@
--- What is written to the memory: a list with a part overwritten, the eight bytes of a number, the numbers of the header, the places, and a row.
+-- What is written to the memory: the eight bytes of a number, the numbers of the header, the places, and a row.
 use mathlib.Core.List.{List, [], _∷_, _++_}
 use mathlib.Core.Bool.{Bool, cond}
 use Prim.Native.Nat.{ℕ, suc, _+_, _-_, _/_, _%_}
-use lib.ListN.{length, take, drop}
+use lib.ListN.{length}
+use lib.Seq.{sets}
 use lib.Dec.{eqb}
 use Rattle.map.specs.History.{onward}
 use Rattle.map.specs.Step.{mostKeys}
-use Rattle.table.specs.Bytes.{part, upto, zeros}
+use Rattle.wire.specs.Write.{part}
+use Rattle.table.specs.Bytes.{upto, zeros}
 use Rattle.table.specs.Memory.{countIndex, firstIndex, numberAt, placesAt, deadlineStart, keyLengthStart, valueLengthStart, keyStart, valueStart, numberOf, placeOf, rowAt, countOf}
-
--- xs with vs laid over it from index a on
-unfoldable pub put : List ℕ → ℕ → List ℕ → List ℕ
-put xs a vs = take a xs ++ vs ++ drop (a + length vs) xs
 
 -- the eight bytes of a number, the highest first
 unfoldable pub digits : ℕ → List ℕ
@@ -20,7 +18,7 @@ digits x =
 
 -- number i of the header is x
 unfoldable pub withNumber : ℕ → ℕ → List ℕ → List ℕ
-withNumber i x t = put t (numberAt i) (digits x)
+withNumber i x t = sets t (numberAt i) (digits x)
 
 -- the numbers from i on are ns
 unfoldable pub withNumbers : ℕ → List ℕ → List ℕ → List ℕ
@@ -29,7 +27,7 @@ withNumbers i (n ∷ ns) t = withNumbers (suc i) ns (withNumber i n t)
 
 -- every number is 0
 unfoldable pub withNone : List ℕ → List ℕ
-withNone t = put t 0 (zeros placesAt)
+withNone t = sets t 0 (zeros placesAt)
 
 -- the first second is this one where none is held
 unfoldable pub begun : ℕ → List ℕ → List ℕ
@@ -45,19 +43,19 @@ counted i (b ∷ bs) t = counted (suc i) bs (goneOn i b t)
 
 -- the row number at place i goes to place j, and those between move down by one
 unfoldable pub turned : ℕ → ℕ → List ℕ → List ℕ
-turned i j t = put t (placesAt + i) (part t (placesAt + i + 1) (j - i) ++ (placeOf t i ∷ []))
+turned i j t = sets t (placesAt + i) (part t (placesAt + i + 1) (j - i) ++ (placeOf t i ∷ []))
 
 -- place i names row i
 unfoldable pub inOrder : List ℕ → List ℕ
-inOrder t = put t placesAt (upto (λ i. i) mostKeys)
+inOrder t = sets t placesAt (upto (λ i. i) mostKeys)
 
 -- the row at a has another key; and another version, deadline and value
 unfoldable pub withKey : ℕ → List ℕ → List ℕ → List ℕ
-withKey a k t = put (put t (a + keyLengthStart) (digits (length k))) (a + keyStart) k
+withKey a k t = sets (sets t (a + keyLengthStart) (digits (length k))) (a + keyStart) k
 
 unfoldable pub withValue : ℕ → List ℕ → ℕ → ℕ → List ℕ → List ℕ
 withValue a v n d t =
-    put (put (put (put t a (digits n)) (a + deadlineStart) (digits d)) (a + valueLengthStart) (digits (length v))) (a + valueStart) v
+    sets (sets (sets (sets t a (digits n)) (a + deadlineStart) (digits d)) (a + valueLengthStart) (digits (length v))) (a + valueStart) v
 
 -- an entry more, in the first row that is free
 unfoldable pub withEntry : List ℕ → List ℕ → ℕ → ℕ → List ℕ → List ℕ

@@ -10,11 +10,13 @@ ghost use mathlib.Core.Path.{_≡_};
 ghost use mathlib.Core.Bool.{true};
 ghost use Prim.Native.Nat.{suc, _+_, _≤_, _<_, _-_, min};
 ghost use lib.ListN.{length};
+ghost use lib.Seq.{sets};
 ghost use Rattle.message.specs.Request.{keyLimit, valueLimit};
 ghost use Rattle.map.specs.Step.{mostKeys, lastVersion};
-ghost use Rattle.table.specs.Bytes.{be8, part};
+ghost use Rattle.wire.specs.Write.{part};
+ghost use Rattle.table.specs.Bytes.{be8};
 ghost use Rattle.table.specs.Memory.{headCount, countIndex, lastIndex, rowWidth, size, numberOf, rowAt, entryOf, countOf};
-ghost use Rattle.table.specs.Write.{put, withNumber, withNone, turned, inOrder, withKey, withValue, withEntry};
+ghost use Rattle.table.specs.Write.{withNumber, withNone, turned, inOrder, withKey, withValue, withEntry};
 ghost use Rattle.table.specs.Found.{Tells};
 ghost use Rattle.table.specs.Check.{Has, FoundFrom};
 
@@ -122,7 +124,7 @@ pub(crate) fn find_from(t: &[u8], k: &[u8], from: usize) -> Found
 // Copies src to index a on.
 fn copy_at(t: &mut [u8], a: usize, src: &[u8])
     requires { ⌜ a + length (now src) ≤ length (now t) ⌝ }
-    ensures { λ _. ⌜ now (t .exit) ≡ put (now (t .entry)) a (now (src .entry)) ⌝ }
+    ensures { λ _. ⌜ now (t .exit) ≡ sets (now (t .entry)) a (now (src .entry)) ⌝ }
 {
     bytes::copy(src, &mut t[a..]);
 }

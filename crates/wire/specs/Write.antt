@@ -3,10 +3,14 @@ use mathlib.Core.List.{List, _++_}
 use mathlib.Core.Path.{_≡_}
 use mathlib.Core.Bool.{cond}
 use Prim.Native.Nat.{ℕ, _+_, _≤_}
-use lib.ListN.{length, drop}
+use lib.ListN.{length, take, drop}
 use lib.Seq.{sets}
 use lib.Dec.{leb}
 use Rattle.wire.specs.Codec.{Codec}
+
+-- n bytes from a place on; as many of them as there are
+abbrev pub part : List ℕ → ℕ → ℕ → List ℕ
+part s at n = take n (drop at s)
 
 -- there is room for a's bytes at `at`
 abbrev pub Room : {A : Type 0} → Codec A → A → ℕ → List ℕ → Type 0

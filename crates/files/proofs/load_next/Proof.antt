@@ -3,7 +3,7 @@ use mathlib.Core.Path.{_≡_}
 use mathlib.Core.Bool.{true}
 use native.Mathlib.Omega.{arith}
 use borrow.Author.Tests.{not-true, not-false}
-use Rattle.table.specs.Bytes.{part}
+use Rattle.wire.specs.Write.{part}
 use Rattle.files.specs.Loading.{Loads}
 use Rattle.files.proofs.LoadNextLaws.{is-bad, no-head, no-end, no-line, all, on}
 use borrow.Author.Needs.{needs}
@@ -14,7 +14,6 @@ abbrev start : tie.After-load-lines → tie.Start
 start v = v .before .before .before .before .before .before .before .before .before
 
 loads : (v : tie.After-load-lines) → let a = start v .args in Loads (a .buf .now) (a .table .now) (a .s) (v .load-lines .result) (v .load-lines .last .1 .0)
-unfolding part
 loads v = record { lies = record { order = omega arith; within = omega arith }; long = omega arith; lines = v .load-lines .ensures }
 
 -- the call, and that its lines were good

@@ -2,7 +2,7 @@
 use mathlib.Core.Path.{refl}
 use mathlib.Core.Logic.{inl}
 use native.Mathlib.Omega.{arith}
-use Rattle.table.specs.Bytes.{part}
+use Rattle.wire.specs.Write.{part}
 use Rattle.files.proofs.NextLaws.{Called, refuses, serving, taken-within}
 use borrow.Author.Needs.{needs}
 use Rattle.files.proofs.serve_next.Statement.{statement}
@@ -21,7 +21,6 @@ returns-3 c =
 
 called : (v : tie.After-serve-lines) → let a = start (v .before .before .before .before .before) .args in
     Called (a .buf .now) (a .table .now) (a .out .now) (a .s) (v .serve-lines .result) (v .serve-lines .last .1 .1 .0) (v .serve-lines .last .1 .0)
-unfolding part
 called v = record { lies = record { order = omega arith; within = omega arith }; long = omega arith; lines = v .serve-lines .ensures }
 
 -- the call before an arm of the match

@@ -2,7 +2,7 @@
 use mathlib.Core.Path.{_≡_}
 use native.Mathlib.Omega.{arith}
 use lib.ListN.{length, take}
-use Rattle.hex.specs.Coding.{part}
+use Rattle.wire.specs.Write.{part}
 use Rattle.hex.proofs.InPlace.{copied}
 use borrow.Author.Needs.{needs}
 use Rattle.hex.proofs.encode_part.Statement.{statement}

@@ -5,7 +5,7 @@ use native.Mathlib.Omega.{arith}
 use lib.ListN.{length, set}
 use Rattle.wire.specs.Write.{laid}
 use Rattle.hex.specs.Hex.{line}
-use Rattle.hex.specs.Coding.{part}
+use Rattle.wire.specs.Write.{part}
 use Rattle.hex.proofs.InPlace.{line-short, line-made}
 use borrow.Author.Needs.{needs}
 use Rattle.hex.proofs.make_line.Statement.{statement}

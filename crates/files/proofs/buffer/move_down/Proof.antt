@@ -3,22 +3,21 @@ use mathlib.Core.Path.{_≡_, refl}
 use Prim.Native.Nat.{_+_, _-_, _≤_}
 use native.Mathlib.Omega.{arith}
 use lib.ListN.{length, length-set}
-use Rattle.table.specs.Bytes.{part}
-use Rattle.table.specs.Write.{put}
-use Rattle.table.proofs.Parts.{put-none, shift-more}
+use lib.Seq.{sets}
+use Rattle.wire.specs.Write.{part}
+use Rattle.table.proofs.Parts.{shift-more}
 use borrow.Author.Needs.{needs}
 use Rattle.files.proofs.buffer.move_down.Statement.{statement}
 use Rattle.files.proofs.buffer.move_down.Tie as tie
 
 abbrev Inv-loop : tie.InvT-loop
-Inv-loop buf₀ from held n i₀ buf i = (i ≤ n) × (length buf ≡ length buf₀) × (buf ≡ put buf₀ 0 (part buf₀ from i))
+Inv-loop buf₀ from held n i₀ buf i = (i ≤ n) × (length buf ≡ length buf₀) × (buf ≡ sets buf₀ 0 (part buf₀ from i))
 
 abbrev μ-loop : tie.MeasureT-loop
 μ-loop buf₀ from held n i₀ buf i = n - i
 
 loop-holds : tie.Need-loop-holds Inv-loop μ-loop
-unfolding part
-loop-holds c = (omega arith, refl, put-none _ _)
+loop-holds c = (omega arith, refl, refl)
 
 loop-again : tie.Need-loop-again Inv-loop μ-loop
 loop-again c =

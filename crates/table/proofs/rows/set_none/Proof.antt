@@ -3,22 +3,22 @@ use mathlib.Core.Path.{_≡_, refl, _∙_}
 use Prim.Native.Nat.{_-_, _≤_}
 use native.Mathlib.Omega.{arith}
 use lib.ListN.{length, length-set}
+use lib.Seq.{sets}
 use Rattle.table.specs.Bytes.{upto, zeros}
-use Rattle.table.specs.Write.{put, withNone}
-use Rattle.table.proofs.Parts.{put-none}
+use Rattle.table.specs.Write.{withNone}
 use Rattle.table.proofs.Numbers.{none-more}
 use Rattle.table.proofs.rows.set_none.Statement.{statement}
 use Rattle.table.proofs.rows.set_none.Tie as tie
 
 abbrev Inv-loop : tie.InvT-loop
-Inv-loop t₀ i₀ t i = (i ≤ 80) × (length t ≡ length t₀) × (t ≡ put t₀ 0 (zeros i))
+Inv-loop t₀ i₀ t i = (i ≤ 80) × (length t ≡ length t₀) × (t ≡ sets t₀ 0 (zeros i))
 
 abbrev μ-loop : tie.MeasureT-loop
 μ-loop t₀ i₀ t i = 80 - i
 
 loop-holds : tie.Need-loop-holds Inv-loop μ-loop
 unfolding zeros upto
-loop-holds c = (omega arith, refl, put-none _ _)
+loop-holds c = (omega arith, refl, refl)
 
 loop-again : tie.Need-loop-again Inv-loop μ-loop
 loop-again c =

@@ -1,27 +1,29 @@
 -- `table::rows::turn` meets its contract. The loop's invariant: the places up to k are moved. Assumes nothing.
 use mathlib.Core.Path.{_≡_, refl}
+use mathlib.Core.List.{_∷_, []}
 use Prim.Native.Nat.{_+_, _-_, _≤_}
 use native.Mathlib.Omega.{arith}
 use lib.ListN.{length, getD, length-set}
-use Rattle.table.specs.Bytes.{part}
+use lib.Seq.{sets}
+use Rattle.wire.specs.Write.{part}
 use Rattle.table.specs.Memory.{placeOf}
-use Rattle.table.specs.Write.{put, turned}
-use Rattle.table.proofs.Parts.{length-part, put-none, put-more, shift-more}
+use Rattle.table.specs.Write.{turned}
+use Rattle.wire.proofs.WriteLaws.{sets-append}
+use Rattle.table.proofs.Parts.{length-part, shift-more}
 use Rattle.table.proofs.rows.turn.Statement.{statement}
 use Rattle.table.proofs.rows.turn.Tie as tie
 
 abbrev Inv-loop : tie.InvT-loop
-Inv-loop t₀ i j row last k₀ t k = (80 + i ≤ k) × (k ≤ 80 + j) × (length t ≡ length t₀) × (t ≡ put t₀ (80 + i) (part t₀ (80 + i + 1) (k - (80 + i))))
+Inv-loop t₀ i j row last k₀ t k = (80 + i ≤ k) × (k ≤ 80 + j) × (length t ≡ length t₀) × (t ≡ sets t₀ (80 + i) (part t₀ (80 + i + 1) (k - (80 + i))))
 
 abbrev μ-loop : tie.MeasureT-loop
 μ-loop t₀ i j row last k₀ t k = last - k
 
 loop-holds : tie.Need-loop-holds Inv-loop μ-loop
-unfolding part
 loop-holds c =
     let a = 80 + c .before .args .i in
     let z : a - a ≡ 0 = omega arith in
-    (omega arith, omega arith, refl, rw z (put-none _ _))
+    (omega arith, omega arith, refl, rw z)
 
 loop-again : tie.Need-loop-again Inv-loop μ-loop
 loop-again c =
@@ -45,7 +47,7 @@ returns c =
     let l : length (part t₀ (a + 1) n) ≡ n = length-part t₀ (a + 1) n (omega arith) in
     let e : b .loop .k - a ≡ n = omega arith in
     let f : a + length (part t₀ (a + 1) n) ≡ 80 + s .args .j = omega arith in
-    cc (put-more t₀ a (part t₀ (a + 1) n) (omega arith) (getD t₀ a 0) (omega arith))
+    cc (sets-append t₀ a (part t₀ (a + 1) n) (getD t₀ a 0 ∷ []))
 
 pub turn-spec : {M : Type 1} → statement M
 turn-spec =

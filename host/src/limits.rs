@@ -10,7 +10,7 @@ pub const VALUE_LIMIT: usize = 256;
 /// Bytes of a request at most.
 pub const LONGEST_REQUEST: usize = 394;
 /// Bytes of a reply at most.
-pub const LONGEST_REPLY: usize = 279;
+pub const LONGEST_REPLY: usize = 307;
 /// The least room for the reply of a call.
 pub const REPLY_ROOM: usize = 512;
 /// Characters of a line of requests at most.
@@ -21,7 +21,7 @@ pub const LONGEST_FILE: usize = 86931;
 /// Numbers that reading a request tells.
 pub const REQUEST_TOLD: usize = 16;
 /// Numbers that reading a reply tells.
-pub const REPLY_TOLD: usize = 9;
+pub const REPLY_TOLD: usize = 18;
 /// Numbers that serving a stream tells.
 pub const STREAM_TOLD: usize = 3;
 /// Numbers that writing a request is given.

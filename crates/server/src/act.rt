@@ -154,8 +154,8 @@ fn respond(
     ended(w, taken, Verdict::Served)
 }
 
-// The call is counted, by its operation and by what is held, and its second is the first one where none was served before.
-fn arrive(t: &mut [u8], h: Head, held: Held, second: Second)
+// Notes a call in the history: it is counted, by its operation and by what is held, and its second is the first one where none was served before.
+fn note_call(t: &mut [u8], h: Head, held: Held, second: Second)
     requires { ⌜ second .0 < 0x1_0000_0000 ⌝ }
     ensures { λ _. ⌜ ((name key value : List ℕ) → Sound (now (t .entry)) → Holds (now (t .entry)) key held → Becomes (now (t .entry)) (some (map.arrive (at (second .0)) (requestOf h name key value) (stateOf (now (t .entry))))) (now (t .exit))) ⌝ }
 {
@@ -257,7 +257,7 @@ pub(crate) fn perform(
     match j {
         Judged::Refused(k) => refuse(out, h.id, k, n),
         Judged::Free => {
-            arrive(t, h, held, second);
+            note_call(t, h, held, second);
             let a = respond(out, t, h, p.status, held, second, n);
             change(input, r, t, second, c, held);
             a

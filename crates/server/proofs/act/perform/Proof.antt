@@ -120,8 +120,8 @@ refuse-requires-2 c κs =
     let s = start (j .before .before) in
     (s .pre .0 .room, (request-small (asked s) (s .pre .1) .id, refused (j .before .before) _ (j .j .given .1) .1))
 
--- the call is counted
-module _ (c : tie.After-arrive) where
+-- the call is noted
+module _ (c : tie.After-note-call) where
   abbrev told : tie.After-enum-told
   told = c .before .before
 
@@ -134,8 +134,8 @@ module _ (c : tie.After-arrive) where
   abbrev q : Request
   q = asked (start first)
 
-arrive-requires : tie.Need-arrive-requires
-arrive-requires c κs = start (c .before .before .before) .pre .0 .second
+note-call-requires : tie.Need-note-call-requires
+note-call-requires c κs = omega (arith, start (c .before .before .before) .pre .0 .second)
 
 respond-requires : tie.Need-respond-requires
 respond-requires c κs =
@@ -147,7 +147,7 @@ change-requires : tie.Need-change-requires
 change-requires c κs =
     let a = c .before .before .before .before .before .before .before .before in
     let s = start (first a) in
-    agreed (first a) (is-free a) (a .arrive .ensures (q a .name) (q a .args .key) (q a .args .value) (s .pre .0 .sound) (holds (first a)))
+    agreed (first a) (is-free a) (a .note-call .ensures (q a .name) (q a .args .key) (q a .args .value) (s .pre .0 .sound) (holds (first a)))
 
 returns-2 : tie.Need-returns-2
 returns-2 c =
@@ -161,7 +161,7 @@ returns-3 c =
     let w = d .before .before .before .before in
     let a = w .before .before .before .before .before in
     let s = start (first a) in
-    let x = a .arrive .ensures (q a .name) (q a .args .key) (q a .args .value) (s .pre .0 .sound) (holds (first a)) in
+    let x = a .note-call .ensures (q a .name) (q a .args .key) (q a .args .value) (s .pre .0 .sound) (holds (first a)) in
     let r = w .respond .ensures (q a .name) (q a .args .key) (q a .args .value) (given (first a) (is-free a) x) in
     does-answered (q a) (made (first a) (is-free a)) (fits (first a) (is-free a)) (rw (x .0) at r) (rw (x .0) at (d .change .ensures))
 
@@ -180,7 +180,7 @@ perform-spec =
     (λ c. search needs)
     refuse-requires-2
     (λ c. search needs)
-    arrive-requires
+    note-call-requires
     respond-requires
     change-requires
     (λ c. search needs)

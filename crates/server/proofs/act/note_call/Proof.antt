@@ -1,4 +1,4 @@
--- `server::act::arrive` meets its contract: the call is counted as the map counts it. Assumes nothing.
+-- `server::act::note_call` meets its contract: the call is counted as the map counts it. Assumes nothing.
 use mathlib.Core.Path.{ap}
 use Rattle.message.specs.Request.{requestOf}
 use Rattle.map.specs.Step.{isNone, held}
@@ -6,8 +6,8 @@ use Rattle.plan.proofs.PlanLaws.{row-held, none-held}
 use Rattle.server.specs.Act.{at}
 use Rattle.server.proofs.StepLaws.{arrives}
 use borrow.Author.Needs.{needs}
-use Rattle.server.proofs.act.arrive.Statement.{statement}
-use Rattle.server.proofs.act.arrive.Tie as tie
+use Rattle.server.proofs.act.note_call.Statement.{statement}
+use Rattle.server.proofs.act.note_call.Tie as tie
 
 returns : tie.Need-returns
 unfolding held
@@ -25,8 +25,8 @@ returns-2 c name key value s h =
     let b = e .before .before .before in
     arrives (at (b .args .second .0)) (requestOf (b .args .h) name key value) s (b .pre) (ap isNone (row-held _ key (e .enum-told .given .1) h)) (a .arrive2 .ensures .1)
 
-pub arrive-spec : {M : Type 1} → statement M
-arrive-spec =
+pub note-call-spec : {M : Type 1} → statement M
+note-call-spec =
     tie.close
     (tie.spec
     (λ c. search needs)

@@ -19,8 +19,8 @@ pub struct Keeper {
     path: PathBuf,
     /// The folder, open and locked.
     folder: File,
-    /// The table as the file has it; none before there is a file.
-    stored: Option<Table>,
+    /// What the file has; none before there is a file.
+    stored: Option<Vec<u8>>,
     /// How many files were made beside the table.
     made: u32,
     /// Whether it was told that the group can't be kept.
@@ -58,7 +58,7 @@ impl Keeper {
             .and_then(|file| file.take(LONGEST_FILE as u64 + 1).read_to_end(&mut bytes))
             .map_err(|error| because(format!("can't read and write the table {shown}"), error))?;
         let table = Table::load(&bytes).ok_or_else(|| broken(&self.path, &bytes))?;
-        self.stored = Some(table.clone());
+        self.stored = Some(bytes);
         // A folder in which no file can be made is found out before anything is served.
         let (beside, _) = self.make_beside(None)?;
         fs::remove_file(&beside)
@@ -76,19 +76,20 @@ impl Keeper {
         Ok(table)
     }
 
-    /// Whether the file has this table. The memory is compared, so that nothing
-    /// has to be known about requests; equal memory is stored as equal files.
+    /// Whether the file has this table. The files are compared, so that nothing
+    /// has to be known about requests: calls that only count leave it as it is.
     pub fn has(&self, table: &Table) -> bool {
-        self.stored.as_ref() == Some(table)
+        self.stored.as_ref() == Some(&table.store())
     }
 
     /// Stores the table. Where it fails, the file is what it was, or the table
     /// whole.
     pub fn store(&mut self, table: &Table) -> Result<(), Failure> {
         let rights = self.rights()?;
+        let bytes = table.store();
         let (beside, file) = self.make_beside(rights.as_ref())?;
         let result = self
-            .write(&file, rights.as_ref(), table)
+            .write(&file, rights.as_ref(), &bytes)
             .and_then(|()| fs::rename(&beside, &self.path))
             .and_then(|()| self.folder.sync_all());
         if let Err(error) = result {
@@ -96,7 +97,7 @@ impl Keeper {
             let what = format!("can't store the table {}", self.path.display());
             return Err(because(what, error));
         }
-        self.stored = Some(table.clone());
+        self.stored = Some(bytes);
         Ok(())
     }
 
@@ -105,7 +106,7 @@ impl Keeper {
         &mut self,
         mut file: &File,
         rights: Option<&Metadata>,
-        table: &Table,
+        bytes: &[u8],
     ) -> std::io::Result<()> {
         if let Some(rights) = rights {
             let given = give_rights(file, rights);
@@ -114,7 +115,7 @@ impl Keeper {
                 say("the table's group can't be kept: the file belongs to you alone");
             }
         }
-        file.write_all(&table.store())?;
+        file.write_all(bytes)?;
         file.sync_all()
     }
 

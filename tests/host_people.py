@@ -6,7 +6,7 @@ import socket
 import subprocess
 import threading
 
-from board_frames import CLEAR, CONTAINS_KEY, GET, GET_WITH_VERSION, PING, PUT, PUT_IF_ABSENT, REMOVE, REMOVE_IF_UNMODIFIED, REPLACE, REPLACE_IF_UNMODIFIED, frame
+from board_frames import CLEAR, CONTAINS_KEY, GET, GET_WITH_VERSION, PING, PUT, PUT_IF_ABSENT, REMOVE, REMOVE_IF_UNMODIFIED, REPLACE, REPLACE_IF_UNMODIFIED, STATS, frame
 from host_run import BOARD, Bench, HOST, Host, SECONDS, TOP, demand, read_file, run_part, write_file
 
 CONTROL, BYTES = b'a\nb', b'\xff\x00'.replace(b'\x00', b'\x80')
@@ -57,6 +57,30 @@ def talk(bench):
     return len(TALK) + len(WRONG) + 7
 
 
+COUNTED = '''entries: 2
+keys added: 3
+puts: 2
+gets: 3
+gets that found the key: 2
+gets that did not: 1
+removes that found the key: 1
+removes that did not: 2
+'''
+
+
+def statistics(bench):
+    """The nine statistics of a few calls, a line each."""
+    with Host(bench.table('statistics')) as host:
+        to = ['--to', f'127.0.0.1:{host.port}']
+        words = 'put b1 a, put b1 b, putifabsent b2 c, putifabsent b3 d, get b1, get b1, get b4, getwithversion b1, remove b4, remove b2, remove b2'.split(', ')
+        for one in words:
+            run(one.split() + to)
+        done = run(['stats'] + to)
+        first, rest = done.stdout.decode().split('\n', 1)
+        demand(re.fullmatch(r'seconds since the first call: [0-9]{1,2}', first) and (rest, done.returncode) == (COUNTED, 0), 'stats', f'{done}, wanted {COUNTED!r}')
+    return len(words) + 1
+
+
 def strange_servers():
     """Servers that answer with something else: each is told in words."""
     answers = [(b'', 'was closed before the reply'), (b'\xa1\x01', 'was closed before the reply'), (b'HTTP/1.1 400', 'is not a reply'),
@@ -82,7 +106,7 @@ ENCODED = [('put b1 Ida --lifespan 100 --max-idle 7', frame(PUT, key=b'b1', valu
            ('replaceifunmodified b1 x --version 300', frame(REPLACE_IF_UNMODIFIED, key=b'b1', value=b'x', entry_version=300, version=12)),
            ('removeifunmodified b1 --version 18446744073709551615', frame(REMOVE_IF_UNMODIFIED, key=b'b1', entry_version=2 ** 64 - 1, version=12)),
            ('contains b1', frame(CONTAINS_KEY, key=b'b1', version=12)), ('getwithversion b1', frame(GET_WITH_VERSION, key=b'b1', version=12)),
-           ('clear', frame(CLEAR, version=12)), ('ping', frame(PING, version=12))]
+           ('clear', frame(CLEAR, version=12)), ('stats', frame(STATS, version=12)), ('ping', frame(PING, version=12))]
 DECODED = '''ping: the server answers
 put b1: stored
 getwithversion b1: version 1: Ida
@@ -105,7 +129,8 @@ def lines(bench):
     done = run(['decode', requests], input=replies)
     said = done.stdout.decode().splitlines()
     demand(said[1] == 'get b1: Ida' and said[2] == 'putifabsent b1: not stored: the key is there; before: Ida', 'decode', f'{done}')
-    demand(said[-2:] == ['?: refused 14: not a request line', '?: refused 15: not exactly one request'] and len(said) == 13, 'decode', f'{done}')
+    demand(said[-2:] == ['?: refused 14: not a request line', '?: refused 15: not exactly one request'] and len(said) == 14, 'decode', f'{done}')
+    demand(said[10].startswith('stats: seconds since the first call: 0; entries: 0; keys added: 1; puts: 1; gets: 1; '), 'decode', f'{done}')
     for change in (replies[:replies.rindex(b'\n', 0, -1) + 1], replies + b'a101180000\n'):
         done = run(['decode', requests], input=change)
         demand(done.returncode == 1 and b'replies than requests' in done.stderr, 'decode', f'{done}')
@@ -151,7 +176,7 @@ def documents():
     shown = {'put b1 Ida --lifespan 100': 'stored', 'getwithversion b1': 'version 1: Ida'}
     for words, said in shown.items():
         demand((words, said, 0) in TALK and f'./feyqoolad {words}\n' in readme and f'`{said}`' in readme, 'README', f'it does not show {words}')
-    for word in ('./feyqoolad serve table.txt', '127.0.0.1:11222', 'tested and not proved', *{f'`{one.split()[0]}`' for one, _, _ in TALK}):
+    for word in ('./feyqoolad serve table.txt', '127.0.0.1:11222', 'tested and not proved', *{f'`{one.split()[0]}`' for one, _, _ in TALK}, '`stats`'):
         demand(word in readme, 'README', f'it does not tell {word}')
     return len(shown)
 
@@ -163,7 +188,7 @@ def outputs():
             done = subprocess.run([HOST, *words], stdout=taken, stderr=subprocess.PIPE, check=False)
         demand(done.returncode == 1 and b"can't write" in done.stderr, f'{words} > /dev/full', f'{done}')
     text = run(['help']).stdout.decode()
-    words = [one.split()[0] for one, _, _ in TALK] + ['serve', 'encode', 'decode', '--sync', '--idle', '--connections', '--to', 'exit status']
+    words = [one.split()[0] for one, _, _ in TALK] + ['stats', 'serve', 'encode', 'decode', '--sync', '--idle', '--connections', '--to', 'exit status']
     demand(all(re.search(rf'(?<![a-z]){word}(?![a-z])', text) for word in words), 'help', f'a word is missing in {text}')
     demand(run([]).stdout.decode() == text and run(['-h']).stdout.decode() == text, 'help', 'other words')
     return 5
@@ -171,7 +196,7 @@ def outputs():
 
 def part():
     with Bench() as bench:
-        return f'{talk(bench)} commands, {strange_servers()} strange servers, {lines(bench)} lines, {outputs()} outputs, {script(bench)} of the script, {documents()} commands of README'
+        return f'{talk(bench) + statistics(bench)} commands, {strange_servers()} strange servers, {lines(bench)} lines, {outputs()} outputs, {script(bench)} of the script, {documents()} commands of README'
 
 
 if __name__ == '__main__':

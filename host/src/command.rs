@@ -19,6 +19,7 @@ pub const REMOVE_IF_UNMODIFIED: u8 = 0x0d;
 pub const CONTAINS_KEY: u8 = 0x0f;
 pub const GET_WITH_VERSION: u8 = 0x11;
 pub const CLEAR: u8 = 0x13;
+pub const STATS: u8 = 0x15;
 pub const PING: u8 = 0x17;
 
 /// What a command has to be told.
@@ -42,7 +43,7 @@ const fn operation(word: &'static str, code: u8, told: Told) -> Operation {
     Operation { word, code, told }
 }
 
-pub const OPERATIONS: [Operation; 11] = [
+pub const OPERATIONS: [Operation; 12] = [
     operation("put", PUT, Told::KeyAndValue),
     operation("get", GET, Told::Key),
     operation("putifabsent", PUT_IF_ABSENT, Told::KeyAndValue),
@@ -61,6 +62,7 @@ pub const OPERATIONS: [Operation; 11] = [
     operation("contains", CONTAINS_KEY, Told::Key),
     operation("getwithversion", GET_WITH_VERSION, Told::Key),
     operation("clear", CLEAR, Told::Nothing),
+    operation("stats", STATS, Told::Nothing),
     operation("ping", PING, Told::Nothing),
 ];
 

@@ -29,6 +29,9 @@ pub const REQUEST_GIVEN: usize = 9;
 /// Numbers that writing a reply is given.
 pub const REPLY_GIVEN: usize = 4;
 
+/// Numbers that a stats reply has.
+pub const STATISTICS: usize = 9;
+
 /// The code for done; a count of bytes is added to it.
 pub const DONE: u64 = 256;
 /// The code for replies that have to be taken out first.
@@ -63,6 +66,7 @@ mod tests {
             ("FQ_STREAM_TOLD", STREAM_TOLD as u64),
             ("FQ_REQUEST_GIVEN", REQUEST_GIVEN as u64),
             ("FQ_REPLY_GIVEN", REPLY_GIVEN as u64),
+            ("FQ_STATISTICS_GIVEN", STATISTICS as u64),
             ("FQ_DONE", DONE),
             ("FQ_REPLY_FULL", REPLY_FULL),
         ];

@@ -74,7 +74,9 @@ fn reply_in_words(digits: &[u8], asked: Asked) -> String {
         return "not a reply line".to_string();
     };
     match read_reply(&bytes, asked.operation, asked.previous) {
-        Found::Whole(reply) if reply.size == bytes.len() => of_reply(asked, &reply, &bytes).1,
+        Found::Whole(reply) if reply.size == bytes.len() => {
+            of_reply(asked, &reply, &bytes).1.replace('\n', "; ")
+        }
         _ => "not a reply to this request".to_string(),
     }
 }

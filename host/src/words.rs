@@ -3,9 +3,10 @@
 use crate::border::library::Reply;
 use crate::command::{
     CLEAR, CONTAINS_KEY, GET, GET_WITH_VERSION, PING, PUT_IF_ABSENT, REMOVE, REMOVE_IF_UNMODIFIED,
-    REPLACE,
+    REPLACE, STATS,
 };
 use crate::hex::to_digits;
+use crate::limits::STATISTICS;
 
 /// The operation code of an error reply.
 const ERROR: u8 = 0x50;
@@ -53,6 +54,7 @@ pub fn of_reply(asked: Asked, reply: &Reply, bytes: &[u8]) -> (Went, String) {
     };
     let mut words = match (asked.operation, reply.status) {
         (GET, 0) => shown(value),
+        (STATS, _) => of_statistics(&reply.statistics),
         (GET_WITH_VERSION, 0) => format!("version {}: {}", reply.entry_version, shown(value)),
         (operation, status) => outcome(operation, status).to_string(),
     };
@@ -61,6 +63,26 @@ pub fn of_reply(asked: Asked, reply: &Reply, bytes: &[u8]) -> (Went, String) {
         words.push_str(&format!("; before: {}", shown(value)));
     }
     (went, words)
+}
+
+/// What each statistic counts, in the order of the protocol.
+const COUNTED: [&str; STATISTICS] = [
+    "seconds since the first call",
+    "entries",
+    "keys added",
+    "puts",
+    "gets",
+    "gets that found the key",
+    "gets that did not",
+    "removes that found the key",
+    "removes that did not",
+];
+
+/// The statistics, one a line.
+fn of_statistics(statistics: &[u64; STATISTICS]) -> String {
+    let line = |(name, number): (&&str, &u64)| format!("{name}: {number}");
+    let lines: Vec<String> = COUNTED.iter().zip(statistics).map(line).collect();
+    lines.join("\n")
 }
 
 /// The words for a status, by the reply table of docs/PROTOCOL.md.

@@ -6,7 +6,7 @@ use std::ops::Range;
 
 use crate::limits::{
     DONE, LONGEST_FILE, REPLY_FULL, REPLY_GIVEN, REPLY_TOLD, REQUEST_GIVEN, REQUEST_TOLD,
-    STREAM_TOLD, TABLE_SIZE,
+    STATISTICS, STREAM_TOLD, TABLE_SIZE,
 };
 
 extern "C" {
@@ -83,6 +83,8 @@ pub struct Reply {
     pub entry_version: u64,
     pub value: Range<usize>,
     pub text: Range<usize>,
+    /// Those of a stats reply, in the order of the protocol; 0 in any other.
+    pub statistics: [u64; STATISTICS],
 }
 
 /// The range that a start and a length tell.
@@ -126,15 +128,23 @@ pub fn read_reply(input: &[u8], operation: u8, flag: bool) -> Found<Reply> {
     match code {
         0 => Found::More,
         1..DONE => Found::Refused(code),
-        _ => Found::Whole(Reply {
-            size: told[0] as usize,
-            id: told[1],
-            operation: told[2] as u8,
-            status: told[3] as u8,
-            entry_version: told[4],
-            value: range(&told[5..7]),
-            text: range(&told[7..9]),
-        }),
+        _ => Found::Whole(reply_of(&told)),
+    }
+}
+
+/// The reply that these numbers tell.
+fn reply_of(told: &[u64; REPLY_TOLD]) -> Reply {
+    let mut statistics = [0; STATISTICS];
+    statistics.copy_from_slice(&told[9..9 + STATISTICS]);
+    Reply {
+        size: told[0] as usize,
+        id: told[1],
+        operation: told[2] as u8,
+        status: told[3] as u8,
+        entry_version: told[4],
+        value: range(&told[5..7]),
+        text: range(&told[7..9]),
+        statistics,
     }
 }
 

@@ -39,21 +39,25 @@ extern "C" {
 #define FQ_VALUE_LIMIT 256      /* bytes of a value */
 #define FQ_TEXT_LIMIT 64        /* bytes of an error text */
 #define FQ_LONGEST_REQUEST 394  /* bytes of a request */
-#define FQ_LONGEST_REPLY 307    /* bytes of a reply: those of a stats reply; every other has at most 279 */
+#define FQ_LONGEST_REPLY 307    /* bytes of a reply: those of a stats reply; every other but a bulk reply has at most 279 */
+#define FQ_LONGEST_BULK 41486   /* bytes of a reply to bulkGet */
 #define FQ_REPLY_ROOM 512       /* least room for the reply of a call */
-#define FQ_LINES_ROOM 615       /* least room for the lines that fq_serve_lines gives */
+#define FQ_BULK_ROOM 41600      /* least room for the reply to bulkGet and bulkGetKeys */
+#define FQ_LINES_ROOM 83201     /* least room for the lines that fq_serve_lines gives */
 #define FQ_LONGEST_LINE 1024    /* characters of a line of requests */
 #define FQ_LONGEST_FILE 86931   /* bytes of a stored table */
 
-#define FQ_REQUEST_TOLD 16      /* numbers that fq_read_request tells */
-#define FQ_REPLY_TOLD 18        /* fq_read_reply */
+#define FQ_REQUEST_TOLD 17      /* numbers that fq_read_request tells */
+#define FQ_REPLY_TOLD 21        /* fq_read_reply */
+#define FQ_ENTRY_TOLD 6         /* fq_next_entry */
 #define FQ_SAME_KEY_TOLD 2      /* fq_same_key */
 #define FQ_SERVE_TOLD 2         /* fq_serve */
 #define FQ_STREAM_TOLD 3        /* fq_serve_stream */
 #define FQ_LINES_TOLD 3         /* fq_serve_lines */
-#define FQ_REQUEST_GIVEN 9      /* numbers that fq_write_request is given */
+#define FQ_REQUEST_GIVEN 10     /* numbers that fq_write_request is given */
 #define FQ_REPLY_GIVEN 4        /* fq_write_reply */
 #define FQ_STATISTICS_GIVEN 9   /* fq_write_statistics */
+#define FQ_ENTRY_GIVEN 4        /* fq_write_entries, for each entry */
 
 enum fq_refusal {
     FQ_BAD_MAGIC = 1,           /* the first byte is not the magic */
@@ -61,9 +65,9 @@ enum fq_refusal {
     FQ_BAD_VERSION = 3,         /* the version is not served */
     FQ_BAD_COMMAND = 4,         /* the operation is not served; in a reply, it is not the awaited one nor the error reply's */
     FQ_BAD_NUMBER = 5,          /* a vInt is too large or not shortest */
-    FQ_TOO_LONG = 6,            /* a length is above its limit */
+    FQ_TOO_LONG = 6,            /* a length is above its limit; a bulk reply has more than FQ_TABLE_KEYS entries */
     FQ_BAD_TEXT = 7,            /* a text is not UTF-8 */
-    FQ_BAD_FIELD = 8,           /* flags, intelligence, transaction type, status or marker are not allowed */
+    FQ_BAD_FIELD = 8,           /* flags, intelligence, transaction type, scope, status, marker or more byte are not allowed */
     FQ_NO_SUCH_CACHE = 9,       /* the cache name is not empty */
     FQ_FULL = 10,               /* the write would add a key, and FQ_TABLE_KEYS are held */
     FQ_NO_VERSIONS_LEFT = 11,   /* the write would take effect, and no version is left */
@@ -78,16 +82,17 @@ enum fq_refusal {
 /* Messages. */
 
 /* Reads the request at the front of the input. Told: bytes read, id, version, operation, flags, intelligence, topology, lifespan, max idle, entry
-   version, and start and length of name, key and value. */
+   version, the entry count of bulkGet or the scope of bulkGetKeys, and start and length of name, key and value. */
 uint64_t fq_read_request(const uint8_t *input, size_t input_len, uint64_t *answer, size_t answer_len);
 
 /* Reads the reply at the front of the input, to a request with operation `op`, and with flag 0x0001 where `flag`. Told: bytes read, id, operation,
    status, entry version, start and length of value and error text, and the nine statistics, which are 0 where it is no stats reply: time since start,
-   current and total number of entries, stores, retrievals, hits, misses, remove hits, remove misses. */
+   current and total number of entries, stores, retrievals, hits, misses, remove hits, remove misses; then how many entries a bulk reply has, and start and
+   length of their bytes, from the first byte 1 or 0 on, which fq_next_entry walks through. */
 uint64_t fq_read_reply(const uint8_t *input, size_t input_len, uint8_t op, bool flag, uint64_t *answer, size_t answer_len);
 
-/* Writes a request at the front of `out`: 16, then 12. Given: id, version, operation, flags, intelligence, topology, lifespan, max idle, entry version. A
-   field that the operation does not send is 0 or empty. */
+/* Writes a request at the front of `out`: 16, then 12. Given: id, version, operation, flags, intelligence, topology, lifespan, max idle, entry version,
+   and the entry count of bulkGet or the scope of bulkGetKeys. A field that the operation does not send is 0 or empty. */
 uint64_t fq_write_request(uint8_t *out, size_t out_len, const uint64_t *numbers, size_t numbers_len, const uint8_t *name, size_t name_len,
                           const uint8_t *key, size_t key_len, const uint8_t *value, size_t value_len);
 
@@ -99,6 +104,17 @@ uint64_t fq_write_reply(uint8_t *out, size_t out_len, uint8_t op, bool flag, con
 /* Writes the reply to stats (operation 0x15) at the front of `out`: 16, then 12. Given: the nine statistics, in the order in which fq_read_reply tells
    them. A list of another length, and one with a number above the largest vLong, is 16; so is a stats reply that fq_write_reply is given. */
 uint64_t fq_write_statistics(uint8_t *out, size_t out_len, uint64_t id, const uint64_t *numbers, size_t numbers_len);
+
+/* Reads an entry of a bulk reply, or the end of its entries, at the place `at` of the input, which is the start that fq_read_reply told or the place behind
+   the entry before: with its value where `values`, as in the reply to bulkGet, or its key alone. Told: bytes read, 1 for an entry or 0 at the end, and
+   start and length of key and value. */
+uint64_t fq_next_entry(const uint8_t *input, size_t input_len, uint64_t at, bool values, uint64_t *answer, size_t answer_len);
+
+/* Writes the reply to bulkGet where `values`, or to bulkGetKeys, at the front of `out`: 16, then 12. Given for each entry: start and length of its key, start
+   and length of its value in `bytes`. Of a part that does not lie within the bytes, as many are sent as there are. More than FQ_TABLE_KEYS entries are 16,
+   and so is a value that is not sent and not empty. */
+uint64_t fq_write_entries(uint8_t *out, size_t out_len, uint64_t id, bool values, const uint8_t *bytes, size_t bytes_len, const uint64_t *numbers,
+                          size_t numbers_len);
 
 /* Compares two keys as the table does: their lengths first, then their bytes from the end: FQ_DONE. Told: 1 where they are equal or 0, and how many pairs
    of bytes were compared: 0 for unlike lengths, else those through the first unlike one, or all. */
@@ -114,14 +130,15 @@ uint64_t fq_make(uint8_t *table, size_t table_len);
 
 /* Serves the request at the front of the input, at this second (UNIX time), and writes the reply at the front of `reply`, which has FQ_REPLY_ROOM bytes
    or more. FQ_DONE is served. Told: bytes taken of the input, and bytes of the reply. Nothing is taken where more is needed and at 1 to 8, 12 and 13; a
-   stream from a client ends after 1 to 8. At 9 to 11 the request is taken. At 1 to 11 the reply is the error reply. */
+   stream from a client ends after 1 to 8. At 9 to 11 the request is taken. At 1 to 11 the reply is the error reply. A bulkGet or bulkGetKeys that is read
+   and has less than FQ_BULK_ROOM bytes is 12 too, and then it is taken, nothing is sent, and the stream goes on. */
 uint64_t fq_serve(const uint8_t *input, size_t input_len, uint8_t *table, size_t table_len, uint32_t second, uint8_t *reply, size_t reply_len,
                   uint64_t *answer, size_t answer_len);
 
 /* Serves the requests of the input one after the other, and answers as the last call does: 0 where what is left is no whole request, or nothing, 1 to 8
-   where the stream ends, 12 where `reply` has less than FQ_REPLY_ROOM bytes, or 13. FQ_REPLY_FULL where less than that are left behind the replies: no
-   further call was made; take the replies out and call again with the input behind the bytes taken. The table is checked once. Told: bytes taken,
-   bytes of the replies, and how many calls there were. */
+   where the stream ends, 12 where `reply` has less than FQ_REPLY_ROOM bytes, or 13. FQ_REPLY_FULL where less than that are left behind the replies, or
+   less than FQ_BULK_ROOM before a bulkGet or bulkGetKeys: no further call was made; take the replies out and call again with the input behind the bytes
+   taken. The table is checked once. Told: bytes taken, bytes of the replies, and how many calls there were. */
 uint64_t fq_serve_stream(const uint8_t *input, size_t input_len, uint8_t *table, size_t table_len, uint32_t second, uint8_t *reply, size_t reply_len,
                          uint64_t *answer, size_t answer_len);
 

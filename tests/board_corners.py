@@ -1,7 +1,7 @@
 """Part 2: corners of request files, each compared with the second program, with and without a TABLE."""
-from board_frames import (CLEAR, CONTAINS_KEY, GET, GET_WITH_VERSION, LARGEST_SECOND, LARGEST_VERSION, MOST_KEYS, OPERATIONS, PING, PUT,
-                          PUT_IF_ABSENT, REMOVE, REMOVE_IF_UNMODIFIED, REPLACE, REPLACE_IF_UNMODIFIED, STATS, THIRTY_DAYS, entry_line,
-                          frame, head_line, header, key_name, line, number, request, sized)
+from board_frames import (BULK_GET, BULK_GET_KEYS, CLEAR, CONTAINS_KEY, GET, GET_WITH_VERSION, LARGEST_SECOND, LARGEST_VERSION, MOST_KEYS,
+                          OPERATIONS, PING, PUT, PUT_IF_ABSENT, REMOVE, REMOVE_IF_UNMODIFIED, REPLACE, REPLACE_IF_UNMODIFIED, STATS,
+                          THIRTY_DAYS, entry_line, frame, head_line, header, key_name, line, number, request, sized)
 from board_run import ABSENT, Bench, demand, run_part
 
 GOOD = request(PUT, key=b'good', value=b'line')
@@ -76,12 +76,15 @@ def refusals():
     yield 2, b'\xa0' + b'\xff' * 8 + b'\x80' + header(PING)[2:]
     for version in (0, 9, 13, 20, 0x41, 255):
         yield 3, header(PING, version=version)
-    for operation in (0, 2, 4, 0x14, 0x16, 0x18, 0x19, 0x1d, 0x50, 255):
+    for operation in (0, 2, 4, 0x14, 0x16, 0x18, 0x1a, 0x1b, 0x1d, 0x1e, 0x50, 255):
         yield 4, header(operation)
+    yield 4, frame(BULK_GET_KEYS, version=11)
     yield 5, header(PING)[:4] + b'\x80\x00' + header(PING)[5:]
     yield 5, header(PING)[:4] + many + b'\x10'
     yield 5, header(GET) + b'\x81\x00' + b'k'
     yield 5, header(PUT) + b'\x01k' + many + b'\x1f'
+    yield 5, header(BULK_GET) + b'\x80\x00'
+    yield 5, header(BULK_GET_KEYS, version=12) + many + b'\x10'
     yield 6, header(PING, name=b'n' * 33)
     yield 6, header(GET) + number(65) + b'k' * 65
     yield 6, header(GET) + many + b'\x0f'
@@ -93,9 +96,13 @@ def refusals():
     for intelligence in (0, 4, 255):
         yield 8, header(PING, intelligence=intelligence)
     yield 8, header(PING, transaction=1)
+    for scope in (3, 127, 128, LARGEST_SECOND):
+        yield 8, frame(BULK_GET_KEYS, bulk=scope)
     for name in (b'n', b'n' * 32, 'é'.encode(), '\U0010ffff'.encode(), b'\0'):
         yield 9, header(PING, name=name)
     yield 9, header(CLEAR, name=b'x')
+    yield 9, frame(BULK_GET, name=b'x')
+    yield 9, frame(BULK_GET_KEYS, name=b'x')
 
 
 STATUS = {1: '81', 2: '81', 3: '83', 4: '82', 5: '84', 6: '84', 7: '84', 8: '84', 9: '85', 10: '85', 11: '85'}
@@ -244,6 +251,56 @@ def statistics(bench):
         bench.same('statistics behind a load', request(STATS, 4), got.table)
 
 
+def bulk_line(operation, entries):
+    """The reply to a bulk request with these keys and values."""
+    data = b'\xa1\x01' + bytes([operation + 1]) + b'\0\0'
+    for key, value in entries:
+        data += b'\1' + sized(key) + (sized(value) if operation == BULK_GET else b'')
+    return (data + b'\0').hex().encode() + b'\n'
+
+
+def bulk_table(held, long=False):
+    """A stored table with so many entries, and their keys and values, in the order of versions."""
+    if long:
+        entries = [(bytes([255 - at]) * 64, b'%3d' % at + b'v' * 253) for at in range(held)]
+    else:
+        entries = [(key_name(3 * at % 256), b'v' * (at % 7)) for at in range(held)]
+    lines = (entry_line(2 * at + 1, key, value, at % 3) for at, (key, value) in enumerate(entries))
+    return head_line(2 * held + 5) + b''.join(lines), entries
+
+
+def bulk(bench):
+    """What bulk replies list, for tables of several sizes: all of it, the lowest versions of it, and the keys alone."""
+    for held, long in ((0, False), (1, False), (96, False), (128, False), (128, True)):
+        table, entries = bulk_table(held, long)
+        calls, wanted = b'', b''
+        for count in (0, 1, 2, 95, 96, 127, 128, 129, LARGEST_SECOND):
+            for version in (10, 11, 12):
+                calls += request(BULK_GET, bulk=count, version=version)
+                wanted += bulk_line(BULK_GET, entries[:count or held])
+        for scope in (0, 1, 2):
+            calls += request(BULK_GET_KEYS, bulk=scope)
+            wanted += bulk_line(BULK_GET_KEYS, entries)
+        case = f'bulk requests with {held} entries'
+        got = bench.same(case, calls, table)
+        demand(got.out == wanted, case, 'the second program does not list what the paper says')
+    bench.same('bulk requests between writes', moved(), ABSENT)
+    case = 'statistics behind bulk requests'
+    got = bench.same(case, request(BULK_GET, 7) + request(BULK_GET_KEYS, 9) + request(STATS, 10), bulk_table(3)[0])
+    demand(got.out.endswith(stats_line(3, 3, 0, 0, 0, 0, 0, 0, 0)), case, f'the second program tells {got.out!r}')
+
+
+def moved():
+    """Writes and removals, with a look at all entries after each."""
+    look = request(BULK_GET) + request(BULK_GET, bulk=2) + request(BULK_GET_KEYS, bulk=1)
+    out = look
+    for at in (5, 3, 9, 1, 7, 3, 5):
+        out += request(PUT, key=key_name(at), value=b'%d' % at) + look
+    for at in (9, 3, 3):
+        out += request(REMOVE, key=key_name(at)) + look
+    return out + request(CLEAR) + look
+
+
 def many_keys():
     """The 129th key, and writes to a full table."""
     fill = b''.join(request(PUT, key=key_name(at), value=b'%d' % at) for at in range(MOST_KEYS))
@@ -296,6 +353,7 @@ def part():
         last_versions(bench)
         deadline_edges(bench)
         statistics(bench)
+        bulk(bench)
         return f'{bench.count} files of corners, same replies and same tables'
 
 

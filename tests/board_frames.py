@@ -2,9 +2,10 @@
 
 PUT, GET, PUT_IF_ABSENT, REPLACE, REPLACE_IF_UNMODIFIED = 0x01, 0x03, 0x05, 0x07, 0x09
 REMOVE, REMOVE_IF_UNMODIFIED, CONTAINS_KEY, GET_WITH_VERSION = 0x0b, 0x0d, 0x0f, 0x11
-CLEAR, STATS, PING = 0x13, 0x15, 0x17
+CLEAR, STATS, PING, BULK_GET, BULK_GET_KEYS = 0x13, 0x15, 0x17, 0x19, 0x1d
 OPERATIONS = (PUT, GET, PUT_IF_ABSENT, REPLACE, REPLACE_IF_UNMODIFIED, REMOVE, REMOVE_IF_UNMODIFIED, CONTAINS_KEY,
-              GET_WITH_VERSION, CLEAR, STATS, PING)
+              GET_WITH_VERSION, CLEAR, STATS, PING, BULK_GET, BULK_GET_KEYS)
+BULK = (BULK_GET, BULK_GET_KEYS)
 WITH_VALUE = (PUT, PUT_IF_ABSENT, REPLACE, REPLACE_IF_UNMODIFIED)
 WITH_VERSION = (REPLACE_IF_UNMODIFIED, REMOVE_IF_UNMODIFIED)
 MOST_KEYS = 128
@@ -34,10 +35,11 @@ def header(operation, message=1, version=10, name=b'', flags=0, intelligence=1, 
             + bytes([intelligence]) + number(topology) + bytes([transaction]))
 
 
-def frame(operation, key=b'k', value=b'v', lifespan=0, idle=0, entry_version=1, **head):
-    """A request with the fields that its operation sends."""
+def frame(operation, key=b'k', value=b'v', lifespan=0, idle=0, entry_version=1, bulk=0, **head):
+    """A request with the fields that its operation sends, in the first version that has it if none is given."""
+    head.setdefault('version', 12 if operation == BULK_GET_KEYS else 10)
     out = header(operation, **head)
-    if operation not in (CLEAR, STATS, PING):
+    if operation not in (CLEAR, STATS, PING, *BULK):
         out += sized(key)
     if operation in WITH_VALUE:
         out += number(lifespan) + number(idle)
@@ -45,6 +47,8 @@ def frame(operation, key=b'k', value=b'v', lifespan=0, idle=0, entry_version=1, 
         out += entry_version.to_bytes(8, 'big')
     if operation in WITH_VALUE:
         out += sized(value)
+    if operation in BULK:
+        out += number(bulk)
     return out
 
 

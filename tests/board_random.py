@@ -7,13 +7,14 @@ import random
 import sys
 import threading
 
-from board_frames import (CLEAR, CONTAINS_KEY, GET, GET_WITH_VERSION, LARGEST_SECOND, LARGEST_VERSION, MOST_KEYS, PING, PUT,
-                          PUT_IF_ABSENT, REMOVE, REMOVE_IF_UNMODIFIED, REPLACE, REPLACE_IF_UNMODIFIED, STATS, THIRTY_DAYS, entry_line,
-                          frame, head_line, line)
+from board_frames import (BULK, BULK_GET, BULK_GET_KEYS, CLEAR, CONTAINS_KEY, GET, GET_WITH_VERSION, LARGEST_SECOND, LARGEST_VERSION,
+                          MOST_KEYS, PING, PUT, PUT_IF_ABSENT, REMOVE, REMOVE_IF_UNMODIFIED, REPLACE, REPLACE_IF_UNMODIFIED, STATS,
+                          THIRTY_DAYS, entry_line, frame, head_line, line)
 
 COMMON = (PUT, PUT, PUT, PUT_IF_ABSENT, PUT_IF_ABSENT, REPLACE, REPLACE, REPLACE_IF_UNMODIFIED, REPLACE_IF_UNMODIFIED, REMOVE,
           REMOVE_IF_UNMODIFIED, GET, GET, GET_WITH_VERSION, GET_WITH_VERSION, CONTAINS_KEY, STATS, PING)
 NUMBERS = (0, 1, 100, 127, 128, 16383, 16384, 2 ** 21, 2 ** 28, 2 ** 31, LARGEST_SECOND)
+BULK_NUMBERS = (0, 0, 1, 2, 3, 100, 127, 128, 129, LARGEST_SECOND)  # entry counts and scopes
 LIFESPANS = (*NUMBERS, *4 * (THIRTY_DAYS, THIRTY_DAYS + 1), THIRTY_DAYS - 1, THIRTY_DAYS + 2)
 
 
@@ -48,10 +49,13 @@ class Maker:
     def good_line(self):
         chance = self.chance
         operation = CLEAR if chance.random() < 0.001 else chance.choice(COMMON)
+        if chance.random() < 0.005:  # a reply may have 83,000 characters
+            operation = chance.choice(BULK)
         key = chance.choice(self.keys)
         version = chance.choice((10, 11, 12))
         data = frame(operation, key=key, value=self.value(), lifespan=chance.choice(LIFESPANS), idle=chance.choice(NUMBERS),
-                     entry_version=self.entry_version(key), message=chance.choice((*NUMBERS, LARGEST_VERSION)), version=version,
+                     entry_version=self.entry_version(key), bulk=chance.choice(BULK_NUMBERS),
+                     message=chance.choice((*NUMBERS, LARGEST_VERSION)), version=version,
                      flags=chance.randint(0, 7 if version == 12 else 1), intelligence=chance.randint(1, 3), topology=chance.choice(NUMBERS),
                      name=b'other' if chance.random() < 0.01 else b'')
         self.follow(operation, key)
@@ -150,8 +154,8 @@ def kinds(replies):
 
 # The reply table of the paper, and the statuses of its error replies.
 ALL_KINDS = {(operation + 1, status) for statuses, operations in (
-    ((0,), (PUT, CLEAR, STATS, PING)), ((0, 1), (PUT_IF_ABSENT, REPLACE)), ((0, 1, 2), (REPLACE_IF_UNMODIFIED, REMOVE_IF_UNMODIFIED)),
-    ((0, 2), (REMOVE, GET, GET_WITH_VERSION, CONTAINS_KEY))) for status in statuses for operation in operations} | {
+    ((0,), (PUT, CLEAR, STATS, PING, BULK_GET, BULK_GET_KEYS)), ((0, 1), (PUT_IF_ABSENT, REPLACE)),
+    ((0, 1, 2), (REPLACE_IF_UNMODIFIED, REMOVE_IF_UNMODIFIED)), ((0, 2), (REMOVE, GET, GET_WITH_VERSION, CONTAINS_KEY))) for status in statuses for operation in operations} | {
         (0x50, status) for status in range(0x81, 0x86)} | {'refused 14', 'refused 15'}
 
 

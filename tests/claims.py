@@ -47,7 +47,7 @@ def rows():
 
 
 def stale_edits():
-    """The wrong programs whose line to be changed stands nowhere in its file."""
+    """The wrong programs whose text to be changed does not stand in its file, or stands there more than once."""
     for path in sorted(glob.glob('tests/wrong/*.txt') + glob.glob('crates/*/must-fail/*.edit')):
         crate = path.split('/')[1] if path.startswith('crates/') else os.path.basename(path)[:-4]
         with open(path, encoding='utf-8') as lines:
@@ -56,8 +56,8 @@ def stale_edits():
                 if word == 'file':
                     with open(f'crates/{crate}/{rest}', encoding='utf-8') as file:
                         text = file.read()
-                elif word == 'old' and rest not in text:
-                    yield f'{path}: no line has {rest!r}'
+                elif word == 'old' and text.count(rest) != 1:
+                    yield f'{path}: {rest!r} stands {text.count(rest)} times'
 
 
 def names_in(text):

@@ -5,7 +5,7 @@ import struct
 import threading
 import time
 
-from board_frames import GET, PING, PUT, frame
+from board_frames import BULK_GET, GET, PING, PUT, frame, key_name
 from host_run import Bench, Host, SECONDS, demand, run_part, short, until
 
 ROW = 10_000  # connections one after another
@@ -58,6 +58,26 @@ def never_reads(bench):
         came = wanted[:50] + bad.rest('a slow client')
         demand(came == wanted * count, 'a slow client', f'{len(came)} bytes came to {count} requests, {short(came[-300:])} at the end')
         until(lambda: host.files() == files_of(1), 'a client that left', f'{host.files()} files are open')
+    return count
+
+
+def never_reads_bulk(bench):
+    """The same with replies of many kilobytes."""
+    with Host(bench.table('bulk')) as host, host.connect() as good, host.connect() as bad:
+        for at in range(128):
+            good.call(PUT, key=key_name(at), value=VALUE)
+        before, count = host.memory(), 2000
+        bad.send(frame(BULK_GET) * count)
+        time.sleep(0.3)
+        grown = host.memory() - before
+        demand(grown < 1000, 'bulk replies never read', f'the server grew by {grown} kB')
+        demand_rest(host, 'bulk replies never read')
+        wanted = [(key_name(at), VALUE) for at in range(128)]
+        for _ in range(20):
+            demand(good.call(BULK_GET).entries == wanted, 'beside one that never reads', 'other entries')
+        bad.end()
+        reply = b'\xa1\x01\x1a\0\0' + b''.join(b'\1\3' + key + b'\x80\2' + value for key, value in wanted) + b'\0'
+        demand(bad.rest('bulk replies read late') == reply * count, 'bulk replies read late', 'other replies')
     return count
 
 
@@ -206,7 +226,7 @@ def in_a_row(bench):
 
 def part():
     with Bench() as bench:
-        return (f'{never_reads(bench)} requests of a client that does not read, {greedy(bench)} beside a greedy one, {gone(bench)} gone in the middle, {too_many(bench)} too many, '
+        return (f'{never_reads(bench) + never_reads_bulk(bench)} requests of clients that do not read, {greedy(bench)} beside a greedy one, {gone(bench)} gone in the middle, {too_many(bench)} too many, '
                 f'{no_files(bench)} without a file, {idle(bench)} idle, {in_a_row(bench)} in a row')
 
 

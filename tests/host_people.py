@@ -6,7 +6,8 @@ import socket
 import subprocess
 import threading
 
-from board_frames import CLEAR, CONTAINS_KEY, GET, GET_WITH_VERSION, PING, PUT, PUT_IF_ABSENT, REMOVE, REMOVE_IF_UNMODIFIED, REPLACE, REPLACE_IF_UNMODIFIED, STATS, frame
+from board_frames import (BULK_GET, BULK_GET_KEYS, CLEAR, CONTAINS_KEY, GET, GET_WITH_VERSION, PING, PUT, PUT_IF_ABSENT, REMOVE, REMOVE_IF_UNMODIFIED, REPLACE, REPLACE_IF_UNMODIFIED, STATS,
+                          entry_line, frame, head_line)
 from host_run import BOARD, Bench, HOST, Host, SECONDS, TOP, demand, read_file, run_part, write_file
 
 CONTROL, BYTES = b'a\nb', b'\xff\x00'.replace(b'\x00', b'\x80')
@@ -20,12 +21,14 @@ TALK = [('ping', 'the server answers', 0), ('put b1 Ida --lifespan 100', 'stored
         ('replaceifunmodified b3 z --version 5 --previous', 'stored; before: y', 0), ('replaceifunmodified b9 z --version 5', 'not stored: there is no such key', 2),
         ('removeifunmodified b3 --version 1', 'not removed: the entry has another version', 2), ('removeifunmodified b3 --version 6 --previous', 'removed; before: z', 0),
         ('removeifunmodified b3 --version 6', 'there is no such key', 2), ('remove b2', 'removed', 0), ('remove b2 --previous', 'there is no such key', 2),
-        ('put -- --key --value', 'stored', 0), ('get -- --key', '--value', 0), ('clear', 'cleared', 0), ('get b1', 'there is no such key', 2)]
+        ('put -- --key --value', 'stored', 0), ('get -- --key', '--value', 0), ('list', 'b1: Bo\n--key: --value', 0), ('list --count 1', 'b1: Bo', 0),
+        ('keys', 'b1\n--key', 0), ('clear', 'cleared', 0), ('list', 'there are no entries', 0), ('keys', 'there are no entries', 0), ('get b1', 'there is no such key', 2)]
 WRONG = [('nothing b1', 'there is no command'), ('get', 'is followed by KEY'), ('get a b', 'is followed by KEY'), ('put a', 'is followed by KEY VALUE'),
          ('ping x', 'is followed by no words'), ('get a --lifespan 5', 'no option --lifespan'), ('put a b --lifespan', 'needs a value'),
          ('put a b --lifespan 4294967296', 'has to be a number from 0 to 4294967295'), ('put a b --lifespan -1', 'has to be a number'),
          ('removeifunmodified a', 'needs --version N'), ('put ' + 'k' * 65 + ' v', 'refused 16'), ('put k ' + 'v' * 257, 'refused 16'),
-         ('encode get', 'is followed by KEY'), ('decode', 'is followed by REQUESTS'), ('decode /nowhere', "can't open /nowhere")]
+         ('list x', 'is followed by no words'), ('keys --count 1', 'no option --count'), ('list --count 4294967296', 'has to be a number'),
+         ('show', 'is followed by TABLE'), ('show /nowhere', 'there is no table /nowhere'), ('show /dev/null', 'is not a file'), ('encode get', 'is followed by KEY'), ('decode', 'is followed by REQUESTS'), ('decode /nowhere', "can't open /nowhere")]
 
 
 def run(words, **more):
@@ -106,6 +109,7 @@ ENCODED = [('put b1 Ida --lifespan 100 --max-idle 7', frame(PUT, key=b'b1', valu
            ('replaceifunmodified b1 x --version 300', frame(REPLACE_IF_UNMODIFIED, key=b'b1', value=b'x', entry_version=300, version=12)),
            ('removeifunmodified b1 --version 18446744073709551615', frame(REMOVE_IF_UNMODIFIED, key=b'b1', entry_version=2 ** 64 - 1, version=12)),
            ('contains b1', frame(CONTAINS_KEY, key=b'b1', version=12)), ('getwithversion b1', frame(GET_WITH_VERSION, key=b'b1', version=12)),
+           ('list', frame(BULK_GET, version=12)), ('list --count 300', frame(BULK_GET, bulk=300, version=12)), ('keys', frame(BULK_GET_KEYS, version=12)),
            ('clear', frame(CLEAR, version=12)), ('stats', frame(STATS, version=12)), ('ping', frame(PING, version=12))]
 DECODED = '''ping: the server answers
 put b1: stored
@@ -129,12 +133,31 @@ def lines(bench):
     done = run(['decode', requests], input=replies)
     said = done.stdout.decode().splitlines()
     demand(said[1] == 'get b1: Ida' and said[2] == 'putifabsent b1: not stored: the key is there; before: Ida', 'decode', f'{done}')
-    demand(said[-2:] == ['?: refused 14: not a request line', '?: refused 15: not exactly one request'] and len(said) == 14, 'decode', f'{done}')
-    demand(said[10].startswith('stats: seconds since the first call: 0; entries: 0; keys added: 1; puts: 1; gets: 1; '), 'decode', f'{done}')
+    demand(said[-2:] == ['?: refused 14: not a request line', '?: refused 15: not exactly one request'] and len(said) == 17, 'decode', f'{done}')
+    demand(said[9:12] == ['list: there are no entries', 'list 300: there are no entries', 'keys: there are no entries'], 'decode', f'{done}')
+    demand(said[13].startswith('stats: seconds since the first call: 0; entries: 0; keys added: 1; puts: 1; gets: 1; '), 'decode', f'{done}')
     for change in (replies[:replies.rindex(b'\n', 0, -1) + 1], replies + b'a101180000\n'):
         done = run(['decode', requests], input=change)
         demand(done.returncode == 1 and b'replies than requests' in done.stderr, 'decode', f'{done}')
     return len(ENCODED) + 4
+
+
+def show(bench):
+    """A stored table in words, also while it is served; what stores no table is told and left as it is."""
+    tables = [(head_line(0), 'there are no entries\n'), (head_line(300) + entry_line(7, b'b1', b'Ida', 104) + entry_line(260, b'\xff', b''), 'version 7: b1: Ida\nversion 260: 0xff: (empty)\n'),
+              (head_line(128) + b''.join(entry_line(at + 1, b'%d' % at, b'v' * 256) for at in range(128)),
+               ''.join(f'version {at + 1}: {at}: {"v" * 256}\n' for at in range(128)))]
+    for at, (data, wanted) in enumerate(tables):
+        with Host(bench.table(f'show{at}', data)) as host:
+            done = run(['show', host.table])
+            demand((done.stdout.decode(), done.returncode, done.stderr) == (wanted, 0, b''), 'show', f'{done}, wanted {wanted!r}')
+    for data, number in ((b'', 1), (b'no table\n', 1), (tables[2][0] + entry_line(129, b'more'), 130), (tables[1][0][:-1], 3)):
+        path = bench.table('shown', data)
+        done = run(['show', path])
+        demand(done.returncode == 1 and not done.stdout and b'refused 17: not a stored table' in done.stderr and b'has the number %d;' % number in done.stderr,
+               f'show {data}', f'{done}')
+        demand(read_file(path) == data and os.listdir(os.path.dirname(path)) == ['table'], f'show {data}', 'something was touched')
+    return len(tables) + 4
 
 
 TOOLS = ('bash', 'cat', 'find', 'flock', 'mkdir', 'readlink', 'touch')
@@ -176,7 +199,7 @@ def documents():
     shown = {'put b1 Ida --lifespan 100': 'stored', 'getwithversion b1': 'version 1: Ida'}
     for words, said in shown.items():
         demand((words, said, 0) in TALK and f'./feyqoolad {words}\n' in readme and f'`{said}`' in readme, 'README', f'it does not show {words}')
-    for word in ('./feyqoolad serve table.txt', '127.0.0.1:11222', 'tested and not proved', *{f'`{one.split()[0]}`' for one, _, _ in TALK}, '`stats`'):
+    for word in ('./feyqoolad serve table.txt', '127.0.0.1:11222', 'tested and not proved', *{f'`{one.split()[0]}`' for one, _, _ in TALK}, '`stats`', './feyqoolad show TABLE'):
         demand(word in readme, 'README', f'it does not tell {word}')
     return len(shown)
 
@@ -188,7 +211,7 @@ def outputs():
             done = subprocess.run([HOST, *words], stdout=taken, stderr=subprocess.PIPE, check=False)
         demand(done.returncode == 1 and b"can't write" in done.stderr, f'{words} > /dev/full', f'{done}')
     text = run(['help']).stdout.decode()
-    words = [one.split()[0] for one, _, _ in TALK] + ['stats', 'serve', 'encode', 'decode', '--sync', '--idle', '--connections', '--to', 'exit status']
+    words = [one.split()[0] for one, _, _ in TALK] + ['stats', 'show', 'serve', 'encode', 'decode', '--sync', '--idle', '--connections', '--to', 'exit status']
     demand(all(re.search(rf'(?<![a-z]){word}(?![a-z])', text) for word in words), 'help', f'a word is missing in {text}')
     demand(run([]).stdout.decode() == text and run(['-h']).stdout.decode() == text, 'help', 'other words')
     return 5
@@ -196,7 +219,7 @@ def outputs():
 
 def part():
     with Bench() as bench:
-        return f'{talk(bench) + statistics(bench)} commands, {strange_servers()} strange servers, {lines(bench)} lines, {outputs()} outputs, {script(bench)} of the script, {documents()} commands of README'
+        return f'{talk(bench) + statistics(bench)} commands, {strange_servers()} strange servers, {lines(bench)} lines, {show(bench)} tables shown, {outputs()} outputs, {script(bench)} of the script, {documents()} commands of README'
 
 
 if __name__ == '__main__':

@@ -13,14 +13,15 @@ import tempfile
 import threading
 import time
 
-from board_frames import (GET, GET_WITH_VERSION, PUT, PUT_IF_ABSENT, REMOVE, REMOVE_IF_UNMODIFIED, REPLACE, REPLACE_IF_UNMODIFIED, frame, line)
+from board_frames import (BULK_GET, BULK_GET_KEYS, GET, GET_WITH_VERSION, PUT, PUT_IF_ABSENT, REMOVE, REMOVE_IF_UNMODIFIED, REPLACE, REPLACE_IF_UNMODIFIED,
+                          frame, line)
 
 TOP = os.path.dirname(os.path.dirname(os.path.abspath(__file__)))
 HOST = os.path.abspath(os.environ.get('HOST', os.path.join(TOP, 'feyqoolad')))
 # The program below the script, whose system calls are listed.
 PROGRAM = os.path.realpath(os.path.join(TOP, 'host/target/release/feyqoolad') if HOST == os.path.join(TOP, 'feyqoolad') else HOST)
 REFERENCE = os.path.join(TOP, 'reference/target/release/reference')
-BOARD = os.path.join(TOP, 'board')
+BOARD = os.path.abspath(os.environ.get('BOARD', os.path.join(TOP, 'board')))
 LONG = sys.argv[1:2] == ['long']
 SECONDS = 20  # an answer that takes longer does not come
 
@@ -201,6 +202,7 @@ class Reply:
     def __init__(self):
         self.size = self.message = self.operation = self.status = self.version = 0
         self.value = self.text = b''
+        self.entries = []
 
 
 def read_number(data, at):
@@ -222,6 +224,20 @@ def read_sized(data, at):
     return data[found[1]:found[1] + found[0]], found[1] + found[0]
 
 
+def read_entries(data, at, values):
+    """Pairs of key and value behind a byte 1 each, up to a byte 0, and the place behind it, or nothing."""
+    entries = []
+    while data[at:at + 1] == b'\1':
+        key = read_sized(data, at + 1)
+        value = read_sized(data, key[1]) if key and values else key and (b'', key[1])
+        if value is None:
+            return None
+        entries.append((key[0], value[0]))
+        at = value[1]
+    demand(data[at:at + 1] in (b'', b'\0'), 'a bulk reply', f'{short(data[at:])} behind {len(entries)} entries')
+    return (entries, at + 1) if at < len(data) else None
+
+
 WITH_OLD = (PUT, PUT_IF_ABSENT, REPLACE, REPLACE_IF_UNMODIFIED, REMOVE, REMOVE_IF_UNMODIFIED)
 
 
@@ -238,6 +254,9 @@ def read_reply(data, operation, flag):
     has_value = operation in (GET, GET_WITH_VERSION) and reply.status == 0 or operation in WITH_OLD and flag
     if reply.operation == 0x50:
         found = read_sized(data, at)
+    elif operation in (BULK_GET, BULK_GET_KEYS):
+        listed = read_entries(data, at, operation == BULK_GET)
+        reply.entries, found = listed[0] if listed else [], listed and (b'', listed[1])
     elif operation == GET_WITH_VERSION and reply.status == 0:
         found = read_sized(data, at + 8)
     elif has_value:

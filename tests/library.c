@@ -52,7 +52,7 @@ static const uint8_t *line_behind(const uint8_t *text) {
 }
 
 static Bytes requests, replies, stored, out;
-static uint8_t table[FQ_TABLE_SIZE], other[FQ_TABLE_SIZE], reply[4 * FQ_REPLY_ROOM];
+static uint8_t table[FQ_TABLE_SIZE], other[FQ_TABLE_SIZE], reply[FQ_LINES_ROOM];
 static uint64_t answer[FQ_REPLY_TOLD];
 
 /* Each request by fq_serve, with its own second; the replies read as the paper has them. */
@@ -112,7 +112,7 @@ static void by_file(void) {
 /* The longest request and the longest reply, written and read back. */
 static void messages(void) {
     static uint8_t name[FQ_NAME_LIMIT], key[FQ_KEY_LIMIT], value[FQ_VALUE_LIMIT], frame[FQ_LONGEST_REQUEST + 1];
-    const uint64_t most = UINT64_MAX / 2, number = UINT32_MAX, given[FQ_REQUEST_GIVEN] = {most, 12, 9, 7, 3, number, number, number, UINT64_MAX};
+    const uint64_t most = UINT64_MAX / 2, number = UINT32_MAX, given[FQ_REQUEST_GIVEN] = {most, 12, 9, 7, 3, number, number, number, UINT64_MAX, 0};
     const uint64_t told[FQ_REPLY_GIVEN] = {most, 0x12, 0, UINT64_MAX};
     const size_t name_at = 13, key_at = name_at + FQ_NAME_LIMIT + 9, value_at = FQ_LONGEST_REQUEST - FQ_VALUE_LIMIT;
     memset(name, 'n', sizeof name);
@@ -125,12 +125,12 @@ static void messages(void) {
     SAME(fq_read_request(frame, sizeof frame, answer, FQ_REQUEST_TOLD), FQ_DONE + FQ_LONGEST_REQUEST);
     SAME(answer[0], FQ_LONGEST_REQUEST);
     same_bytes(__LINE__, answer + 1, sizeof given, given, sizeof given);
-    SAME(answer[10], name_at);
-    SAME(answer[12], key_at);
-    SAME(answer[14], value_at);
-    same_bytes(__LINE__, frame + answer[10], answer[11], name, sizeof name);
-    same_bytes(__LINE__, frame + answer[12], answer[13], key, sizeof key);
-    same_bytes(__LINE__, frame + answer[14], answer[15], value, sizeof value);
+    SAME(answer[11], name_at);
+    SAME(answer[13], key_at);
+    SAME(answer[15], value_at);
+    same_bytes(__LINE__, frame + answer[11], answer[12], name, sizeof name);
+    same_bytes(__LINE__, frame + answer[13], answer[14], key, sizeof key);
+    same_bytes(__LINE__, frame + answer[15], answer[16], value, sizeof value);
     SAME(fq_write_reply(frame, sizeof frame, 0x11, false, told, FQ_REPLY_GIVEN, value, sizeof value, name, 0), FQ_DONE + 279);
     SAME(fq_read_reply(frame, sizeof frame, 0x11, false, answer, FQ_REPLY_TOLD), FQ_DONE + 279);
     same_bytes(__LINE__, answer + 1, sizeof told, told, sizeof told);
@@ -164,6 +164,76 @@ static void statistics(void) {
     SAME(fq_write_statistics(frame, sizeof frame, 1, nine, FQ_STATISTICS_GIVEN), FQ_BAD_MESSAGE);
 }
 
+/* A bulk reply: its entries named in bytes of the caller's, read back, and walked through. */
+static void entries(void) {
+    static const uint8_t bytes[] = "b1Idab2", none[1];
+    static const uint8_t wanted[] = {0xa1, 0x01, 0x1a, 0, 0, 1, 2, 'b', '1', 3, 'I', 'd', 'a', 1, 2, 'b', '2', 0, 1, 0, 2, 'b', '2', 0};
+    static const uint8_t keys[] = {0xa1, 0x01, 0x1e, 0, 0, 1, 2, 'b', '1', 1, 2, 'b', '2', 0};
+    const uint64_t empty[FQ_REPLY_GIVEN] = {1, 0x1a, 0, 0};
+    /* b1 with Ida; b2 with no value; no key, with as much of five bytes as there is. */
+    const uint64_t numbers[] = {0, 2, 2, 3, 5, 2, 7, 0, UINT64_MAX, 1, 5, 5}, named[] = {0, 2, 0, 0, 5, 2, 0, 0};
+    static uint64_t many[FQ_ENTRY_GIVEN * (FQ_TABLE_KEYS + 1)];
+    static uint8_t frame[FQ_BULK_ROOM];
+    const size_t n = sizeof wanted, start = 5;
+    SAME(fq_write_entries(frame, n - 1, 1, true, bytes, 7, numbers, 12), FQ_NO_ROOM);
+    SAME(fq_write_entries(frame, n, 1, true, bytes, 7, numbers, 12), FQ_DONE + n);
+    same_bytes(__LINE__, frame, n, wanted, n);
+    SAME(fq_read_reply(frame, n - 1, 0x19, false, answer, FQ_REPLY_TOLD), 0);
+    SAME(fq_read_reply(frame, n, 0x19, false, answer, FQ_REPLY_TOLD), FQ_DONE + n);
+    SAME(answer[2], 0x1a);
+    SAME(answer[18], 3);
+    SAME(answer[19], start);
+    SAME(answer[20], n - start);
+    SAME(fq_next_entry(frame, n, start, true, answer, FQ_ENTRY_TOLD), FQ_DONE + 8);
+    const uint64_t first[FQ_ENTRY_TOLD] = {8, 1, 7, 2, 10, 3};
+    same_bytes(__LINE__, answer, sizeof first, first, sizeof first);
+    SAME(fq_next_entry(frame, n, start + 8, true, answer, FQ_ENTRY_TOLD), FQ_DONE + 5);
+    SAME(answer[2], 15);
+    SAME(answer[5], 0);
+    SAME(fq_next_entry(frame, n, start + 13, true, answer, FQ_ENTRY_TOLD), FQ_DONE + 5);
+    SAME(answer[3], 0);
+    same_bytes(__LINE__, frame + answer[4], answer[5], "b2", 2);
+    SAME(fq_next_entry(frame, n, n - 1, true, answer, FQ_ENTRY_TOLD), FQ_DONE + 1);
+    SAME(answer[1], 0);
+    SAME(fq_next_entry(frame, n, n, true, answer, FQ_ENTRY_TOLD), 0);
+    SAME(fq_next_entry(frame, n, 6, true, answer, FQ_ENTRY_TOLD), FQ_BAD_FIELD);
+    SAME(fq_write_entries(frame, sizeof frame, 1, false, bytes, 7, numbers, 12), FQ_BAD_MESSAGE);
+    SAME(fq_write_entries(frame, sizeof frame, 1, false, bytes, 7, named, 8), FQ_DONE + sizeof keys);
+    same_bytes(__LINE__, frame, sizeof keys, keys, sizeof keys);
+    SAME(fq_read_reply(frame, sizeof keys, 0x1d, true, answer, FQ_REPLY_TOLD), FQ_DONE + sizeof keys);
+    SAME(answer[18], 2);
+    SAME(fq_next_entry(frame, sizeof keys, start, false, answer, FQ_ENTRY_TOLD), FQ_DONE + 4);
+    SAME(fq_write_reply(frame, sizeof frame, 0x19, false, empty, FQ_REPLY_GIVEN, none, 0, none, 0), FQ_DONE + 6);
+    SAME(fq_write_entries(frame, sizeof frame, 1, true, bytes, 7, many, FQ_ENTRY_GIVEN * FQ_TABLE_KEYS), FQ_DONE + 6 + 3 * FQ_TABLE_KEYS);
+    SAME(fq_write_entries(frame, sizeof frame, 1, true, bytes, 7, many, FQ_ENTRY_GIVEN * (FQ_TABLE_KEYS + 1)), FQ_BAD_MESSAGE);
+    frame[5 + 3 * FQ_TABLE_KEYS] = 1;
+    SAME(fq_read_reply(frame, 6 + 3 * FQ_TABLE_KEYS, 0x19, false, answer, FQ_REPLY_TOLD), FQ_TOO_LONG);
+}
+
+/* A ping, a bulkGet and a ping: the replies fill the buffer, the whole buffer is too small, all are served. */
+static void bulk_stream(void) {
+    static const uint8_t row[] = {0xa0, 0x01, 0x0a, 0x17, 0, 0, 1, 0, 0, 0xa0, 0x02, 0x0a, 0x19, 0, 0, 1, 0, 0, 0, 0xa0, 0x03, 0x0a, 0x17, 0, 0, 1, 0, 0};
+    static const uint8_t wanted[] = {0xa1, 0x01, 0x18, 0, 0, 0xa1, 0x02, 0x1a, 0, 0, 1, 2, 'b', '1', 1, 'x', 0, 0xa1, 0x03, 0x18, 0, 0};
+    SAME(fq_serve_stream(row, sizeof row, other, sizeof other, 0, reply, FQ_BULK_ROOM, answer, FQ_STREAM_TOLD), FQ_REPLY_FULL);
+    SAME(answer[0], 9);
+    SAME(answer[1], 5);
+    SAME(answer[2], 1);
+    SAME(fq_serve_stream(row + 9, sizeof row - 9, other, sizeof other, 0, reply, FQ_BULK_ROOM - 1, answer, FQ_STREAM_TOLD), 0);
+    SAME(answer[0], sizeof row - 9);
+    SAME(answer[1], 5);
+    SAME(answer[2], 3);
+    SAME(fq_serve_stream(row, sizeof row, other, sizeof other, 0, reply, FQ_BULK_ROOM + 5, answer, FQ_STREAM_TOLD), 0);
+    same_bytes(__LINE__, reply, answer[1], wanted, sizeof wanted);
+    SAME(answer[2], 4);
+    SAME(fq_serve(row + 9, 10, other, sizeof other, 0, reply, FQ_BULK_ROOM - 1, answer, FQ_SERVE_TOLD), FQ_NO_ROOM);
+    SAME(answer[0], 10);
+    SAME(answer[1], 0);
+    SAME(fq_serve(row + 9, 10, other, sizeof other, 0, reply, FQ_REPLY_ROOM - 1, answer, FQ_SERVE_TOLD), FQ_NO_ROOM);
+    SAME(answer[0], 0);
+    SAME(fq_serve(row + 9, 10, other, sizeof other, 0, reply, FQ_BULK_ROOM, answer, FQ_SERVE_TOLD), FQ_DONE);
+    SAME(answer[1], 12);
+}
+
 /* A stream of requests: a put, a request to another cache, a byte that begins none; and room that is too small. */
 static void stream(void) {
     static const uint8_t row[] = {0xa0, 0x02, 0x0a, 0x01, 0,    0, 1, 0,    0,    2,    'b', '1', 0, 0, 1, 'x', /* put */
@@ -184,6 +254,7 @@ static void stream(void) {
     SAME(answer[0], 10);
     SAME(fq_serve(row, 16, other, sizeof other, 0, reply, FQ_REPLY_ROOM - 1, answer, FQ_SERVE_TOLD), FQ_NO_ROOM);
     SAME(fq_serve(row, 16, other, sizeof other - 1, 0, reply, FQ_REPLY_ROOM, answer, FQ_SERVE_TOLD), FQ_NO_TABLE);
+    bulk_stream();
     SAME(fq_serve_lines(row, 0, other, sizeof other, out.at, FQ_LINES_ROOM - 1, false, true, answer, FQ_LINES_TOLD), FQ_NO_ROOM);
     SAME(fq_serve_lines(row, 0, other, sizeof other, out.at, FQ_LINES_ROOM, false, true, answer, FQ_LINES_TOLD), FQ_DONE);
 }
@@ -216,6 +287,7 @@ static void short_lists(void) {
     memcpy(untold, answer, sizeof answer);
     SAME(fq_read_request(put, sizeof put, answer, FQ_REQUEST_TOLD - 1), FQ_NO_ROOM);
     SAME(fq_read_reply(pong, sizeof pong, 0x17, false, answer, FQ_REPLY_TOLD - 1), FQ_NO_ROOM);
+    SAME(fq_next_entry(pong, sizeof pong, 3, true, answer, FQ_ENTRY_TOLD - 1), FQ_NO_ROOM);
     SAME(fq_same_key(put, 1, put, 1, answer, FQ_SAME_KEY_TOLD - 1), FQ_NO_ROOM);
     SAME(fq_serve(put, sizeof put, other, sizeof other, 0, reply, FQ_REPLY_ROOM, answer, FQ_SERVE_TOLD - 1), FQ_NO_ROOM);
     SAME(fq_serve_stream(put, sizeof put, other, sizeof other, 0, reply, FQ_REPLY_ROOM, answer, FQ_STREAM_TOLD - 1), FQ_NO_ROOM);
@@ -225,10 +297,10 @@ static void short_lists(void) {
     same_bytes(__LINE__, reply, FQ_LINES_ROOM, kept, sizeof kept);
 }
 
-/* A table with the most and the longest entries gives the longest file. */
+/* A table with the most and the longest entries gives the longest file and the longest reply. */
 static void longest_file(void) {
     static uint8_t key[FQ_KEY_LIMIT], value[FQ_VALUE_LIMIT], frame[FQ_LONGEST_REQUEST];
-    const uint64_t put[FQ_REQUEST_GIVEN] = {1, 10, 1, 0, 1, 0, 0, 0, 0};
+    const uint64_t put[FQ_REQUEST_GIVEN] = {1, 10, 1, 0, 1, 0, 0, 0, 0, 0}, all[FQ_REQUEST_GIVEN] = {UINT64_MAX / 2, 10, 0x19, 0, 1, 0, 0, 0, 0, 0};
     SAME(fq_make(other, sizeof other), FQ_DONE);
     for (int at = 0; at <= FQ_TABLE_KEYS; at++) {
         key[0] = (uint8_t)at;
@@ -236,6 +308,12 @@ static void longest_file(void) {
         SAME(fq_serve(frame, n - FQ_DONE, other, sizeof other, 0, reply, FQ_REPLY_ROOM, answer, FQ_SERVE_TOLD), at < FQ_TABLE_KEYS ? FQ_DONE : FQ_FULL);
     }
     SAME(fq_store(other, sizeof other, out.at, sizeof out.at), FQ_DONE + FQ_LONGEST_FILE);
+    uint64_t n = fq_write_request(frame, sizeof frame, all, FQ_REQUEST_GIVEN, key, 0, key, 0, value, 0);
+    SAME(n, FQ_DONE + 18);
+    SAME(fq_serve(frame, 18, other, sizeof other, 0, reply, FQ_BULK_ROOM, answer, FQ_SERVE_TOLD), FQ_DONE);
+    SAME(answer[1], FQ_LONGEST_BULK);
+    SAME(fq_read_reply(reply, sizeof reply, 0x19, false, answer, FQ_REPLY_TOLD), FQ_DONE + FQ_LONGEST_BULK);
+    SAME(answer[18], FQ_TABLE_KEYS);
 }
 
 int main(int count, char **words) {
@@ -250,9 +328,11 @@ int main(int count, char **words) {
     messages();
     keys();
     statistics();
+    entries();
     stream();
     short_lists();
     longest_file();
-    printf("library: the paper's five requests from C, by calls, by lines and by a file; messages, keys, streams, lists that are too short and the longest file\n");
+    printf("library: the paper's five requests from C, by calls, by lines and by a file; messages, keys, entries, streams, lists that are too short, the "
+           "longest file and the longest reply\n");
     return 0;
 }

@@ -6,16 +6,25 @@
 //! follows it, and each gives one reply. Where a request ends is told by the
 //! library's reader of requests, and where its reply ends by the reader of
 //! replies; nothing here looks into either.
+//!
+//! A bulk request needs much room for its reply, and is refused where a call is
+//! lent less. The library ends a call before a bulk request for which the
+//! replies of others left too little; it is served in another turn.
 
 use std::ops::Range;
 
 use crate::border::library::{read_reply, read_request, End, Found, Table};
-use crate::limits::REPLY_ROOM;
+use crate::limits::{BULK_ROOM, REPLY_ROOM};
 
 /// Bytes of the requests served in one call.
 const REQUESTS: usize = 65536;
 /// Bytes of the replies given in one turn.
 pub const REPLIES: usize = 65536;
+/// Bytes of them that are kept for those that are refused, each alone.
+const REFUSALS: usize = 16 * REPLY_ROOM;
+/// Bytes of them that the requests of many are lent.
+const SHARED: usize = REPLIES - REFUSALS;
+const _: () = assert!(SHARED >= BULK_ROOM, "a bulk request has no room");
 
 /// What one connection got.
 pub struct Share {
@@ -82,7 +91,8 @@ impl Batch {
         REPLIES - self.used >= REPLY_ROOM
     }
 
-    /// Serves the input of one connection as it is.
+    /// Serves the input of one connection as it is. Behind the replies of others
+    /// the input begins with bytes that are refused, and so with no bulk request.
     pub fn serve_alone(&mut self, connection: usize, input: &[u8], table: &mut Table, second: u32) {
         let start = self.used;
         let (mut taken, mut rest) = (0, Rest::Again);
@@ -126,7 +136,7 @@ impl Batch {
         }
         let mut calls = 0;
         if !self.waiting.is_empty() {
-            let served = table.serve_stream(&self.requests, second, &mut self.replies);
+            let served = table.serve_stream(&self.requests, second, &mut self.replies[..SHARED]);
             (self.used, calls) = (served.replied, served.calls);
         }
         self.share_out(&gathered, calls);
@@ -198,7 +208,8 @@ impl Batch {
 mod tests {
     use super::*;
     use crate::border::library::write_request;
-    use crate::command::OPERATIONS;
+    use crate::command::{Command, BULK_GET, OPERATIONS, PUT};
+    use crate::limits::{KEY_LIMIT, LONGEST_BULK, LONGEST_REQUEST, TABLE_KEYS, VALUE_LIMIT};
 
     /// Numbers that look like chance, the same each time.
     struct Chance(u64);
@@ -244,7 +255,8 @@ mod tests {
                     (&key[..], 0, &[][..]),
                     (&[][..], 0, &[][..]),
                 ] {
-                    let numbers = [7, 12, u64::from(code), flag, 1, 0, 0, 0, version];
+                    let bulk = if code == BULK_GET { version } else { 0 };
+                    let numbers = [7, 12, u64::from(code), flag, 1, 0, 0, 0, version, bulk];
                     if let Ok(size) = write_request(&mut out, &numbers, key, value) {
                         return out[..size].to_vec();
                     }
@@ -290,5 +302,43 @@ mod tests {
             assert!(table == other);
         }
         assert!(seen.iter().all(|count| *count > 50), "{seen:?}");
+    }
+
+    /// A table with the longest bulk reply.
+    fn full_table() -> Table {
+        let (mut table, mut replies) = (Table::fresh(), vec![0; REPLIES]);
+        for at in 0..TABLE_KEYS {
+            let (key, mut out) = ([at as u8; KEY_LIMIT], vec![0; LONGEST_REQUEST]);
+            let numbers = [7, 12, u64::from(PUT), 0, 1, 0, 0, 0, 0, 0];
+            let size = write_request(&mut out, &numbers, &key, &[b'v'; VALUE_LIMIT]).unwrap();
+            table.serve_stream(&out[..size], 5, &mut replies);
+        }
+        table
+    }
+
+    #[test]
+    fn no_bulk_request_lacks_room_because_of_others() {
+        let mut table = full_table();
+        let get = Command::get_with_version(&[0; KEY_LIMIT])
+            .request()
+            .unwrap();
+        let list = Command::list().request().unwrap();
+        let one = [get.repeat(30), list.repeat(2), get].concat();
+        let mut inputs = vec![one; 9];
+        let (mut batch, mut given, mut turns) = (Batch::default(), [0; 9], 0);
+        while inputs.iter().any(|input| !input.is_empty()) {
+            let lent = inputs.iter().map(Vec::as_slice).enumerate();
+            batch.begin();
+            batch.serve_together(lent, &mut table, 5);
+            for share in &batch.shares {
+                given[share.connection] += share.replies.len();
+                inputs[share.connection].drain(..share.taken);
+            }
+            turns += 1;
+            assert!(turns < 100, "some wait for ever: {given:?}");
+        }
+        // The id of these requests is eight bytes shorter than the longest.
+        let (version, bulk) = (279 - 8, LONGEST_BULK - 8);
+        assert_eq!(given, [31 * version + 2 * bulk; 9]);
     }
 }

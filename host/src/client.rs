@@ -7,7 +7,7 @@ use std::time::Duration;
 use crate::border::library::{read_reply, Found, Reply};
 use crate::command::{Command, ID};
 use crate::failure::{because, Failure};
-use crate::limits::LONGEST_REPLY;
+use crate::limits::LONGEST_BULK;
 use crate::words::{of_reply, Asked, Went};
 
 /// How long the server may take for each step.
@@ -20,11 +20,8 @@ pub fn call(command: &Command, to: &str) -> Result<(Went, String), Failure> {
     stream
         .write_all(&request)
         .map_err(|error| because(format!("can't send to {to}"), error))?;
-    let asked = Asked {
-        operation: command.operation.code,
-        previous: command.previous,
-    };
-    let mut bytes = [0; LONGEST_REPLY];
+    let asked = command.asked();
+    let mut bytes = vec![0; LONGEST_BULK];
     let reply = receive(&mut stream, asked, &mut bytes)
         .map_err(|failure| format!("{failure}\nThe server at {to} may have done it or not."))?;
     Ok(of_reply(asked, &reply, &bytes))

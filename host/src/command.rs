@@ -8,6 +8,7 @@ use crate::border::library::write_request;
 use crate::failure::Failure;
 use crate::limits::{KEY_LIMIT, LONGEST_REQUEST, VALUE_LIMIT};
 use crate::options::Words;
+use crate::words::Asked;
 
 pub const PUT: u8 = 0x01;
 pub const GET: u8 = 0x03;
@@ -21,6 +22,8 @@ pub const GET_WITH_VERSION: u8 = 0x11;
 pub const CLEAR: u8 = 0x13;
 pub const STATS: u8 = 0x15;
 pub const PING: u8 = 0x17;
+pub const BULK_GET: u8 = 0x19;
+pub const BULK_GET_KEYS: u8 = 0x1d;
 
 /// What a command has to be told.
 #[derive(Clone, Copy, Debug, PartialEq, Eq)]
@@ -43,7 +46,10 @@ const fn operation(word: &'static str, code: u8, told: Told) -> Operation {
     Operation { word, code, told }
 }
 
-pub const OPERATIONS: [Operation; 12] = [
+const LIST: Operation = operation("list", BULK_GET, Told::Nothing);
+const GET_VERSION: Operation = operation("getwithversion", GET_WITH_VERSION, Told::Key);
+
+pub const OPERATIONS: [Operation; 14] = [
     operation("put", PUT, Told::KeyAndValue),
     operation("get", GET, Told::Key),
     operation("putifabsent", PUT_IF_ABSENT, Told::KeyAndValue),
@@ -60,8 +66,10 @@ pub const OPERATIONS: [Operation; 12] = [
         Told::KeyAndVersion,
     ),
     operation("contains", CONTAINS_KEY, Told::Key),
-    operation("getwithversion", GET_WITH_VERSION, Told::Key),
+    GET_VERSION,
     operation("clear", CLEAR, Told::Nothing),
+    LIST,
+    operation("keys", BULK_GET_KEYS, Told::Nothing),
     operation("stats", STATS, Told::Nothing),
     operation("ping", PING, Told::Nothing),
 ];
@@ -99,6 +107,9 @@ impl Operation {
         if self.sends_version() {
             options.push("version");
         }
+        if self.code == BULK_GET {
+            options.push("count");
+        }
         options
     }
 }
@@ -120,6 +131,8 @@ pub struct Command {
     lifespan: u64,
     max_idle: u64,
     entry_version: u64,
+    /// How many entries are asked for, 0 for all.
+    count: u64,
 }
 
 impl Command {
@@ -152,8 +165,44 @@ impl Command {
             lifespan: words.number("lifespan", most)?.unwrap_or(0),
             max_idle: words.number("max-idle", most)?.unwrap_or(0),
             entry_version: version.unwrap_or(0),
+            count: words.number("count", most)?.unwrap_or(0),
         };
         Ok((command, words))
+    }
+
+    /// Asks for all entries.
+    pub fn list() -> Command {
+        Command::bare(&LIST)
+    }
+
+    /// Asks for the version and the value of a key.
+    pub fn get_with_version(key: &[u8]) -> Command {
+        Command {
+            key: key.to_vec(),
+            ..Command::bare(&GET_VERSION)
+        }
+    }
+
+    /// A command with no more than its operation.
+    fn bare(operation: &'static Operation) -> Command {
+        Command {
+            operation,
+            previous: false,
+            key: Vec::new(),
+            value: Vec::new(),
+            lifespan: 0,
+            max_idle: 0,
+            entry_version: 0,
+            count: 0,
+        }
+    }
+
+    /// What a reply to it has to be read as.
+    pub fn asked(&self) -> Asked {
+        Asked {
+            operation: self.operation.code,
+            previous: self.previous,
+        }
     }
 
     /// The bytes of the request.
@@ -169,6 +218,7 @@ impl Command {
             self.lifespan,
             self.max_idle,
             self.entry_version,
+            self.count,
         ];
         let size = write_request(&mut out, &numbers, &self.key, &self.value).map_err(|number| {
             format!(

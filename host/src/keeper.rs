@@ -57,7 +57,12 @@ impl Keeper {
             .open(&self.path)
             .and_then(|file| file.take(LONGEST_FILE as u64 + 1).read_to_end(&mut bytes))
             .map_err(|error| because(format!("can't read and write the table {shown}"), error))?;
-        let table = Table::load(&bytes).ok_or_else(|| broken(&self.path, &bytes))?;
+        let table = Table::load(&bytes).ok_or_else(|| {
+            format!(
+                "{}\nThe file was left as it is, and nothing is served. Name another, or a file that is not there.",
+                broken(&self.path, &bytes)
+            )
+        })?;
         self.stored = Some(bytes);
         // A folder in which no file can be made is found out before anything is served.
         let (beside, _) = self.make_beside(None)?;
@@ -235,7 +240,7 @@ fn give_rights(file: &File, rights: &Metadata) -> std::io::Result<()> {
 
 /// Says which line of a file is not good: the first one with which its
 /// beginning stores no table.
-fn broken(path: &Path, bytes: &[u8]) -> Failure {
+pub fn broken(path: &Path, bytes: &[u8]) -> Failure {
     let mut end = 0;
     let mut number = 0;
     for line in bytes.split_inclusive(|byte| *byte == b'\n') {
@@ -252,7 +257,7 @@ fn broken(path: &Path, bytes: &[u8]) -> Failure {
         "an entry: version, deadline, key and value"
     };
     format!(
-        "refused 17: not a stored table: {}\nThe first line that is not good has the number {number}; it should be {meaning}, in digits.\nThe file was left as it is, and nothing is served. Name another, or a file that is not there.",
+        "refused 17: not a stored table: {}\nThe first line that is not good has the number {number}; it should be {meaning}, in digits.",
         path.display()
     )
 }

@@ -21,4 +21,5 @@ pub mod options;
 pub mod places;
 pub mod saver;
 pub mod server;
+pub mod show;
 pub mod words;

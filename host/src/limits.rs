@@ -9,23 +9,29 @@ pub const KEY_LIMIT: usize = 64;
 pub const VALUE_LIMIT: usize = 256;
 /// Bytes of a request at most.
 pub const LONGEST_REQUEST: usize = 394;
-/// Bytes of a reply at most.
-pub const LONGEST_REPLY: usize = 307;
+/// Bytes of a reply at most: those of a reply to bulkGet.
+pub const LONGEST_BULK: usize = 41486;
 /// The least room for the reply of a call.
 pub const REPLY_ROOM: usize = 512;
+/// The least room for the reply to bulkGet and bulkGetKeys.
+pub const BULK_ROOM: usize = 41600;
+/// Keys that a table holds at most.
+pub const TABLE_KEYS: usize = 128;
 /// Characters of a line of requests at most.
 pub const LONGEST_LINE: usize = 1024;
 /// Bytes of a stored table at most.
 pub const LONGEST_FILE: usize = 86931;
 
 /// Numbers that reading a request tells.
-pub const REQUEST_TOLD: usize = 16;
+pub const REQUEST_TOLD: usize = 17;
 /// Numbers that reading a reply tells.
-pub const REPLY_TOLD: usize = 18;
+pub const REPLY_TOLD: usize = 21;
+/// Numbers that reading an entry of a bulk reply tells.
+pub const ENTRY_TOLD: usize = 6;
 /// Numbers that serving a stream tells.
 pub const STREAM_TOLD: usize = 3;
 /// Numbers that writing a request is given.
-pub const REQUEST_GIVEN: usize = 9;
+pub const REQUEST_GIVEN: usize = 10;
 /// Numbers that writing a reply is given.
 pub const REPLY_GIVEN: usize = 4;
 
@@ -57,12 +63,15 @@ mod tests {
             ("FQ_KEY_LIMIT", KEY_LIMIT as u64),
             ("FQ_VALUE_LIMIT", VALUE_LIMIT as u64),
             ("FQ_LONGEST_REQUEST", LONGEST_REQUEST as u64),
-            ("FQ_LONGEST_REPLY", LONGEST_REPLY as u64),
+            ("FQ_LONGEST_BULK", LONGEST_BULK as u64),
             ("FQ_REPLY_ROOM", REPLY_ROOM as u64),
+            ("FQ_BULK_ROOM", BULK_ROOM as u64),
+            ("FQ_TABLE_KEYS", TABLE_KEYS as u64),
             ("FQ_LONGEST_LINE", LONGEST_LINE as u64),
             ("FQ_LONGEST_FILE", LONGEST_FILE as u64),
             ("FQ_REQUEST_TOLD", REQUEST_TOLD as u64),
             ("FQ_REPLY_TOLD", REPLY_TOLD as u64),
+            ("FQ_ENTRY_TOLD", ENTRY_TOLD as u64),
             ("FQ_STREAM_TOLD", STREAM_TOLD as u64),
             ("FQ_REQUEST_GIVEN", REQUEST_GIVEN as u64),
             ("FQ_REPLY_GIVEN", REPLY_GIVEN as u64),

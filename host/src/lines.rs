@@ -97,9 +97,10 @@ fn asked_by(line: &[u8]) -> (String, Asked) {
         return ("?".to_string(), unknown);
     };
     let key = &bytes[request.key.clone()];
-    let what = match key {
-        [] => operation.word.to_string(),
-        key => format!("{} {}", operation.word, shown(key)),
+    let what = match (key, request.bulk) {
+        ([], 0) => operation.word.to_string(),
+        ([], bulk) => format!("{} {bulk}", operation.word),
+        (key, _) => format!("{} {}", operation.word, shown(key)),
     };
     let asked = Asked {
         operation: request.operation,

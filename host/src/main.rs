@@ -16,6 +16,7 @@ use feyqoolad::lines::{decode, encode};
 use feyqoolad::options::Words;
 use feyqoolad::saver::{Saver, Sync};
 use feyqoolad::server::{listen, Limits, Server};
+use feyqoolad::show::show;
 use feyqoolad::words::Went;
 
 const USAGE: &str = include_str!("usage.txt");
@@ -43,6 +44,7 @@ fn run(given: &[OsString]) -> Result<ExitCode, Failure> {
         "serve" => serve(&given[1..]),
         "encode" => print(&format!("{}\n", encode(&given[1..])?)),
         "decode" => run_decode(&given[1..]),
+        "show" => run_show(&given[1..]),
         _ => run_call(given),
     }
 }
@@ -82,6 +84,13 @@ fn run_decode(given: &[OsString]) -> Result<ExitCode, Failure> {
     };
     decode(requests, replies, &mut io::stdout().lock())?;
     Ok(ExitCode::SUCCESS)
+}
+
+fn run_show(given: &[OsString]) -> Result<ExitCode, Failure> {
+    match given {
+        [table] => print(&show(Path::new(table))?),
+        _ => Err("show is followed by TABLE".to_string()),
+    }
 }
 
 fn serve(given: &[OsString]) -> Result<ExitCode, Failure> {

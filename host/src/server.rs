@@ -226,7 +226,9 @@ impl Server {
 
     /// Gives each connection its replies, and sees to what is left.
     fn send_replies(&mut self, now: Instant) {
-        let shares = std::mem::take(&mut self.batch.shares);
+        let mut shares = std::mem::take(&mut self.batch.shares);
+        // Those that got nothing come first in the next turn.
+        shares.sort_by_key(|share| share.taken > 0);
         for share in &shares {
             let Some(connection) = self.places.get_mut(share.connection) else {
                 continue;

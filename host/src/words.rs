@@ -1,9 +1,9 @@
 //! Replies in words for people.
 
-use crate::border::library::Reply;
+use crate::border::library::{entries, Entry, Reply};
 use crate::command::{
-    CLEAR, CONTAINS_KEY, GET, GET_WITH_VERSION, PING, PUT_IF_ABSENT, REMOVE, REMOVE_IF_UNMODIFIED,
-    REPLACE, STATS,
+    BULK_GET, BULK_GET_KEYS, CLEAR, CONTAINS_KEY, GET, GET_WITH_VERSION, PING, PUT_IF_ABSENT,
+    REMOVE, REMOVE_IF_UNMODIFIED, REPLACE, STATS,
 };
 use crate::hex::to_digits;
 use crate::limits::STATISTICS;
@@ -55,6 +55,8 @@ pub fn of_reply(asked: Asked, reply: &Reply, bytes: &[u8]) -> (Went, String) {
     let mut words = match (asked.operation, reply.status) {
         (GET, 0) => shown(value),
         (STATS, _) => of_statistics(&reply.statistics),
+        (BULK_GET, _) => lines(entries(bytes, reply, true), of_entry),
+        (BULK_GET_KEYS, _) => lines(entries(bytes, reply, false), |(key, _)| shown(key)),
         (GET_WITH_VERSION, 0) => format!("version {}: {}", reply.entry_version, shown(value)),
         (operation, status) => outcome(operation, status).to_string(),
     };
@@ -63,6 +65,23 @@ pub fn of_reply(asked: Asked, reply: &Reply, bytes: &[u8]) -> (Went, String) {
         words.push_str(&format!("; before: {}", shown(value)));
     }
     (went, words)
+}
+
+/// The entries, one a line.
+fn lines(entries: Vec<Entry>, one: impl Fn(Entry) -> String) -> String {
+    if entries.is_empty() {
+        return NO_ENTRIES.to_string();
+    }
+    let lines: Vec<String> = entries.into_iter().map(one).collect();
+    lines.join("\n")
+}
+
+/// The words for a table without entries.
+pub const NO_ENTRIES: &str = "there are no entries";
+
+/// An entry in words.
+pub fn of_entry((key, value): Entry) -> String {
+    format!("{}: {}", shown(key), shown(value))
 }
 
 /// What each statistic counts, in the order of the protocol.

@@ -6,7 +6,7 @@ use std::io::{self, BufRead, BufWriter, Write};
 use reference::fields::{KEY_LIMIT, NAME_LIMIT, VALUE_LIMIT};
 use reference::hex::{from_digits, to_string};
 use reference::number::LARGEST_VLONG;
-use reference::operation::STATS;
+use reference::operation::{greatest_bulk, BULK_GET, BULK_GET_KEYS, STATS};
 use reference::{
     is_text, read_limited, read_limited_text, read_number, read_reply, read_request, read_version,
     write_number, Read, Reply, Request,
@@ -138,7 +138,7 @@ fn bytes_words(bytes: &[u8], taken: usize) -> String {
 }
 
 fn request_words(request: Request, taken: usize) -> String {
-    format!(
+    let mut words = format!(
         "whole {taken} id={} version={} operation={} name={} flags={} intelligence={} \
          topology={} key={} lifespan={} max_idle={} entry_version={} value={}",
         request.id,
@@ -153,7 +153,11 @@ fn request_words(request: Request, taken: usize) -> String {
         request.max_idle,
         request.entry_version,
         to_string(&request.value),
-    )
+    );
+    if greatest_bulk(request.operation).is_some() {
+        words += &format!(" bulk={}", request.bulk);
+    }
+    words
 }
 
 fn reply_words(reply: Reply, taken: usize) -> String {
@@ -168,6 +172,12 @@ fn reply_words(reply: Reply, taken: usize) -> String {
     );
     if reply.operation == STATS + 1 {
         words += &format!(" statistics={:?}", reply.statistics);
+    }
+    if reply.operation == BULK_GET + 1 || reply.operation == BULK_GET_KEYS + 1 {
+        words += &format!(" entries={}", reply.entries.len());
+        for entry in &reply.entries {
+            words += &format!(" {}:{}", to_string(&entry.key), to_string(&entry.value));
+        }
     }
     words
 }

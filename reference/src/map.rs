@@ -4,9 +4,10 @@ use std::collections::{BTreeMap, BTreeSet};
 
 use crate::fields::{KEY_LIMIT, VALUE_LIMIT};
 use crate::history::History;
+use crate::listing::Listed;
 use crate::operation::{
-    body, Body, CLEAR, CONTAINS_KEY, GET, GET_WITH_VERSION, PUT, PUT_IF_ABSENT, REMOVE,
-    REMOVE_IF_UNMODIFIED, REPLACE, REPLACE_IF_UNMODIFIED, STATS,
+    body, Body, BULK_GET, BULK_GET_KEYS, CLEAR, CONTAINS_KEY, GET, GET_WITH_VERSION, PUT,
+    PUT_IF_ABSENT, REMOVE, REMOVE_IF_UNMODIFIED, REPLACE, REPLACE_IF_UNMODIFIED, STATS,
 };
 use crate::reply::Reply;
 use crate::request::{keeps_rules, Request, FLAG_DEFAULT_LIFESPAN};
@@ -118,7 +119,7 @@ fn answer(request: &Request, status: u8, held: Option<&Entry>) -> Reply {
         return reply;
     };
     match body(request.operation, request.wants_old_value(), status) {
-        Body::Nothing | Body::EmptyValue | Body::Statistics => {}
+        Body::Nothing | Body::EmptyValue | Body::Statistics | Body::Entries | Body::Keys => {}
         Body::Value => reply.value = entry.value.clone(),
         Body::VersionAndValue => {
             reply.version = entry.version;
@@ -126,6 +127,25 @@ fn answer(request: &Request, status: u8, held: Option<&Entry>) -> Reply {
         }
     }
     reply
+}
+
+/// The entries in ascending order of their versions: the first `count` of
+/// them, and all if it is 0.
+fn listed(table: &Table, count: u32, values: bool) -> Vec<Listed> {
+    let mut entries: Vec<(&Vec<u8>, &Entry)> = table.entries.iter().collect();
+    entries.sort_by_key(|(_, entry)| entry.version);
+    if count > 0 {
+        entries.truncate(count as usize);
+    }
+    let shown = |(key, entry): (&Vec<u8>, &Entry)| Listed {
+        key: key.clone(),
+        value: if values {
+            entry.value.clone()
+        } else {
+            Vec::new()
+        },
+    };
+    entries.into_iter().map(shown).collect()
 }
 
 /// One step of the map. A refusal (9, 10 or 11) changes nothing. The map is
@@ -151,8 +171,12 @@ pub fn step(request: &Request, second: u32, table: &mut Table) -> Result<Reply, 
     }
     let added = effect == Effect::Store && held.is_none();
     let mut reply = answer(request, status, held);
-    if request.operation == STATS {
-        reply.statistics = table.history.statistics(second, table.entries.len());
+    match request.operation {
+        STATS => reply.statistics = table.history.statistics(second, table.entries.len()),
+        BULK_GET => reply.entries = listed(table, request.bulk, true),
+        // All scopes mean the same.
+        BULK_GET_KEYS => reply.entries = listed(table, 0, false),
+        _ => {}
     }
     apply(effect, request, second, table);
     table

@@ -12,12 +12,14 @@ pub const GET_WITH_VERSION: u8 = 0x11;
 pub const CLEAR: u8 = 0x13;
 pub const STATS: u8 = 0x15;
 pub const PING: u8 = 0x17;
+pub const BULK_GET: u8 = 0x19;
+pub const BULK_GET_KEYS: u8 = 0x1d;
 
 /// The operation code of an error reply.
 pub const ERROR: u8 = 0x50;
 
 /// All served operations, as request codes.
-pub const SERVED: [u8; 12] = [
+pub const SERVED: [u8; 14] = [
     PUT,
     GET,
     PUT_IF_ABSENT,
@@ -30,15 +32,33 @@ pub const SERVED: [u8; 12] = [
     CLEAR,
     STATS,
     PING,
+    BULK_GET,
+    BULK_GET_KEYS,
 ];
 
 pub fn is_served(operation: u8) -> bool {
     SERVED.contains(&operation)
 }
 
+/// Whether the operation is served in this protocol version: bulkGetKeys is
+/// there from 12 on.
+pub fn serves(version: u8, operation: u8) -> bool {
+    is_served(operation) && (operation != BULK_GET_KEYS || version >= 12)
+}
+
 /// Whether a request of this operation sends a key.
 pub fn sends_key(operation: u8) -> bool {
-    is_served(operation) && !matches!(operation, CLEAR | STATS | PING)
+    is_served(operation) && !matches!(operation, CLEAR | STATS | PING | BULK_GET | BULK_GET_KEYS)
+}
+
+/// The greatest number that a bulk request of this operation asks with: an
+/// entry count is any vInt, a scope is 0, 1 or 2. The others send none.
+pub fn greatest_bulk(operation: u8) -> Option<u32> {
+    match operation {
+        BULK_GET => Some(u32::MAX),
+        BULK_GET_KEYS => Some(2),
+        _ => None,
+    }
 }
 
 /// Whether a request of this operation sends lifespan, max idle and value.
@@ -57,7 +77,7 @@ pub fn sends_entry_version(operation: u8) -> bool {
 /// Whether the reply table lists this status for this operation.
 pub fn may_answer(operation: u8, status: u8) -> bool {
     match operation {
-        PUT | CLEAR | STATS | PING => status == 0,
+        PUT | CLEAR | STATS | PING | BULK_GET | BULK_GET_KEYS => status == 0,
         PUT_IF_ABSENT | REPLACE => status == 0 || status == 1,
         REPLACE_IF_UNMODIFIED | REMOVE_IF_UNMODIFIED => status <= 2,
         REMOVE | GET | GET_WITH_VERSION | CONTAINS_KEY => status == 0 || status == 2,
@@ -77,6 +97,10 @@ pub enum Body {
     VersionAndValue,
     /// The nine statistics.
     Statistics,
+    /// Keys and values, each entry behind a byte 1, and a byte 0.
+    Entries,
+    /// The same with keys alone.
+    Keys,
 }
 
 /// The body of the reply to `operation` with this status; `flag` says whether
@@ -86,6 +110,8 @@ pub fn body(operation: u8, flag: bool, status: u8) -> Body {
         GET if status == 0 => Body::Value,
         GET_WITH_VERSION if status == 0 => Body::VersionAndValue,
         STATS if status == 0 => Body::Statistics,
+        BULK_GET if status == 0 => Body::Entries,
+        BULK_GET_KEYS if status == 0 => Body::Keys,
         PUT | PUT_IF_ABSENT | REPLACE | REPLACE_IF_UNMODIFIED | REMOVE | REMOVE_IF_UNMODIFIED
             if flag =>
         {

@@ -3,6 +3,7 @@
 use crate::fields::{
     copy_out, write_eight, write_limited, Cursor, Read, Stop, TEXT_LIMIT, VALUE_LIMIT,
 };
+use crate::listing::{self, Listed};
 use crate::number::{write_number, LARGEST_VLONG};
 use crate::operation::{body, is_served, may_answer, Body, ERROR};
 use crate::statistics::{self, Statistics};
@@ -26,6 +27,8 @@ pub struct Reply {
     /// The error text.
     pub text: Vec<u8>,
     pub statistics: Statistics,
+    /// The entries of a bulk reply, in the order sent.
+    pub entries: Vec<Listed>,
 }
 
 fn is_error_status(status: u8) -> bool {
@@ -58,6 +61,8 @@ fn read_fields(op: u8, flag: bool, cursor: &mut Cursor) -> Result<Reply, Stop> {
             reply.value = cursor.limited(VALUE_LIMIT)?;
         }
         Body::Statistics => reply.statistics = statistics::read(cursor)?,
+        Body::Entries => reply.entries = listing::read(cursor, true)?,
+        Body::Keys => reply.entries = listing::read(cursor, false)?,
     }
     Ok(reply)
 }
@@ -106,11 +111,14 @@ fn error_keeps_rules(reply: &Reply) -> bool {
         && reply.version == 0
         && reply.value.is_empty()
         && reply.statistics == Statistics::default()
+        && reply.entries.is_empty()
 }
 
 fn body_keeps_rules(body: Body, reply: &Reply) -> bool {
     let (value_limit, sends_version) = match body {
-        Body::Nothing | Body::EmptyValue | Body::Statistics => (0, false),
+        Body::Nothing | Body::EmptyValue | Body::Statistics | Body::Entries | Body::Keys => {
+            (0, false)
+        }
         Body::Value => (VALUE_LIMIT, false),
         Body::VersionAndValue => (VALUE_LIMIT, true),
     };
@@ -119,7 +127,15 @@ fn body_keeps_rules(body: Body, reply: &Reply) -> bool {
     } else {
         reply.statistics == Statistics::default()
     };
-    reply.value.len() <= value_limit && (sends_version || reply.version == 0) && statistics_kept
+    let entries_kept = match body {
+        Body::Entries => listing::keep_rules(&reply.entries, true),
+        Body::Keys => listing::keep_rules(&reply.entries, false),
+        _ => reply.entries.is_empty(),
+    };
+    reply.value.len() <= value_limit
+        && (sends_version || reply.version == 0)
+        && statistics_kept
+        && entries_kept
 }
 
 /// The bytes of a reply that keeps the rules.
@@ -141,6 +157,8 @@ pub fn reply_bytes(op: u8, flag: bool, reply: &Reply) -> Vec<u8> {
             write_limited(&reply.value, &mut out);
         }
         Body::Statistics => statistics::write(&reply.statistics, &mut out),
+        Body::Entries => listing::write(&reply.entries, true, &mut out),
+        Body::Keys => listing::write(&reply.entries, false, &mut out),
     }
     out
 }

@@ -4,7 +4,7 @@ use crate::fields::{
     copy_out, write_eight, write_limited, Cursor, Read, Stop, KEY_LIMIT, NAME_LIMIT, VALUE_LIMIT,
 };
 use crate::number::{write_number, LARGEST_VLONG};
-use crate::operation::{is_served, sends_entry_version, sends_key, sends_value};
+use crate::operation::{greatest_bulk, sends_entry_version, sends_key, sends_value, serves};
 use crate::text::is_text;
 
 /// The first byte of every request.
@@ -36,6 +36,8 @@ pub struct Request {
     pub max_idle: u32,
     pub entry_version: u64,
     pub value: Vec<u8>,
+    /// The entry count of bulkGet, 0 for all, or the scope of bulkGetKeys.
+    pub bulk: u32,
 }
 
 impl Request {
@@ -83,7 +85,7 @@ fn read_id(cursor: &mut Cursor) -> Result<u64, Stop> {
 fn read_header(cursor: &mut Cursor) -> Result<Request, Stop> {
     let id = read_id(cursor)?;
     let version = cursor.byte(is_version, 3)?;
-    let operation = cursor.byte(is_served, 4)?;
+    let operation = cursor.byte(|operation| serves(version, operation), 4)?;
     let name = cursor.limited_text(NAME_LIMIT)?;
     let flags = cursor.vint()?;
     if !are_flags(version, flags) {
@@ -119,6 +121,12 @@ fn read_fields(cursor: &mut Cursor) -> Result<Request, Stop> {
     if sends_value(request.operation) {
         request.value = cursor.limited(VALUE_LIMIT)?;
     }
+    if let Some(greatest) = greatest_bulk(request.operation) {
+        request.bulk = cursor.vint()?;
+        if request.bulk > greatest {
+            return Err(Stop::Refused(8));
+        }
+    }
     Ok(request)
 }
 
@@ -131,7 +139,7 @@ pub fn keeps_rules(request: &Request) -> bool {
 fn header_keeps_rules(request: &Request) -> bool {
     request.id <= LARGEST_VLONG
         && is_version(request.version)
-        && is_served(request.operation)
+        && serves(request.version, request.operation)
         && request.name.len() <= NAME_LIMIT
         && is_text(&request.name)
         && are_flags(request.version, request.flags)
@@ -154,6 +162,7 @@ fn body_keeps_rules(request: &Request) -> bool {
         && (sends_value(request.operation) || request.lifespan == 0)
         && (sends_value(request.operation) || request.max_idle == 0)
         && (sends_entry_version(request.operation) || request.entry_version == 0)
+        && request.bulk <= greatest_bulk(request.operation).unwrap_or(0)
 }
 
 fn request_bytes(request: &Request) -> Vec<u8> {
@@ -178,6 +187,9 @@ fn request_bytes(request: &Request) -> Vec<u8> {
     }
     if sends_value(request.operation) {
         write_limited(&request.value, &mut out);
+    }
+    if greatest_bulk(request.operation).is_some() {
+        write_number(u64::from(request.bulk), &mut out);
     }
     out
 }

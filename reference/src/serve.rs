@@ -2,17 +2,22 @@
 
 use crate::fields::{copy_out, Read};
 use crate::map::{is_table, step, Table};
+use crate::operation::greatest_bulk;
 use crate::reply::{error_bytes, reply_bytes};
 use crate::request::{message_id, read_request, Request};
 
 /// The least reply room of a call.
 pub const LEAST_ROOM: usize = 512;
+/// The least reply room of a bulk request.
+pub const BULK_ROOM: usize = 41_600;
 
 #[derive(Clone, Copy, Debug, PartialEq, Eq)]
 pub enum Verdict {
     Served,
     More,
     Refused(u8),
+    /// A stream ends before a call for which the replies left no room.
+    Full,
 }
 
 /// The answer to one call.
@@ -42,13 +47,14 @@ fn send(message: &[u8], taken: usize, verdict: Verdict, reply: &mut [u8]) -> Ans
             reply_len,
             verdict,
         },
-        // Not reached: no reply is longer than the least room.
+        // Not reached: no reply is longer than its least room.
         Err(number) => bare(Verdict::Refused(number)),
     }
 }
 
 /// One call: reads one request from the front of the input and answers it.
-/// The order of refusals is 12, 13, then 1 to 8 in field order, then 9, 10, 11.
+/// The order of refusals is 12, 13, then 1 to 8 in field order, then 12 of a
+/// bulk request, then 9, 10, 11. A bulk request refused 12 is taken.
 pub fn serve(input: &[u8], table: &mut Table, second: u32, reply: &mut [u8]) -> Answer {
     if reply.len() < LEAST_ROOM {
         return bare(Verdict::Refused(12));
@@ -62,10 +68,22 @@ pub fn serve(input: &[u8], table: &mut Table, second: u32, reply: &mut [u8]) -> 
             let message = error_bytes(error_id(number, input), number);
             send(&message, 0, Verdict::Refused(number), reply)
         }
+        Read::Whole(request, taken) if reply.len() < room_of(request.operation) => Answer {
+            taken,
+            ..bare(Verdict::Refused(12))
+        },
         Read::Whole(request, taken) => {
             let (message, verdict) = answer_request(&request, second, table);
             send(&message, taken, verdict, reply)
         }
+    }
+}
+
+/// The least reply room of a request that is read.
+fn room_of(operation: u8) -> usize {
+    match greatest_bulk(operation) {
+        Some(_) => BULK_ROOM,
+        None => LEAST_ROOM,
     }
 }
 
@@ -99,18 +117,16 @@ pub struct StreamAnswer {
     pub reply_len: usize,
     /// The number of calls that sent a reply, error replies included.
     pub answered: usize,
-    /// The verdict of the last call.
+    /// The verdict of the last call, or that there was no room for a further
+    /// one.
     pub verdict: Verdict,
 }
 
-/// Whether another call may follow: after a served request and after 9 to 11.
-fn goes_on(verdict: Verdict) -> bool {
-    matches!(verdict, Verdict::Served | Verdict::Refused(9..=11))
-}
-
 /// Calls `serve` again and again at one second. Each call gets the rest of
-/// the input and the rest of the reply buffer. Stops after 1 to 8, 12 or 13
-/// and when more is needed.
+/// the input and the rest of the reply buffer. Stops after a call that takes
+/// nothing: after 1 to 8, 13 and 12 for every request, and when more is needed.
+/// No request meets 12 because earlier replies filled the buffer: the stream
+/// ends before it.
 pub fn serve_stream(
     input: &[u8],
     table: &mut Table,
@@ -122,12 +138,21 @@ pub fn serve_stream(
     let mut answered = 0;
     loop {
         let answer = serve(&input[taken..], table, second, &mut replies[reply_len..]);
+        // A call that is refused 12 has done nothing.
+        if answer.verdict == Verdict::Refused(12) && reply_len > 0 {
+            return StreamAnswer {
+                taken,
+                reply_len,
+                answered,
+                verdict: Verdict::Full,
+            };
+        }
         taken += answer.taken;
         reply_len += answer.reply_len;
         if answer.reply_len > 0 {
             answered += 1;
         }
-        if !goes_on(answer.verdict) {
+        if answer.taken == 0 {
             return StreamAnswer {
                 taken,
                 reply_len,

@@ -60,7 +60,7 @@ built buf″ t″ turned.Failed k a x = tt
 pub load-begin : (buf : List ℕ) → length buf ≡ 65536 → LoadReady buf begin
 load-begin buf h = record { lies = record { order = omega arith; within = omega arith }; long = omega arith }
 
-pub serve-begin : (buf t out : List ℕ) → length buf ≡ 65536 → length out ≡ 65536 → Sound t → Ready buf t out begin
+pub serve-begin : (buf t out : List ℕ) → length buf ≡ 65536 → length out ≡ 131072 → Sound t → Ready buf t out begin
 serve-begin buf t out h o s = record { lies = record { order = omega arith; within = omega arith }; long = omega arith; room = omega arith; sound = s }
 
 pub storing : {t out : List ℕ} (out′ : List ℕ) (i : ℕ) (r : NextStore) → StoreReady t out → StoresNext t out i r out′ → Stores r

@@ -8,6 +8,7 @@ use files::Window;
 use libc::STDOUT_FILENO;
 ghost use mathlib.Core.Path.{_≡_};
 ghost use mathlib.Core.Bool.{true};
+ghost use lib.ListN.{length};
 ghost use Rattle.table.specs.Memory.{Sound};
 ghost use Rattle.files.specs.Serving.{Ready};
 ghost use Rattle.board.specs.Turn.{Serves, FileServed};
@@ -40,6 +41,13 @@ fn turn(fd: i32, name: &[u8], input: &mut [u8], t: &mut [u8], out: &mut [u8], s:
     }
 }
 
+// Memory for what lines give: the longest line fits, and many short ones. The `ensures` gives only the length, which lending the array as a slice needs.
+fn output() -> [u8; 131072]
+    ensures { λ r. ⌜ 131072 ≡ length r ⌝ }
+{
+    [0; 131072]
+}
+
 // Serves a file, and answers whether it came to its end. A proved loop has to end, and nothing says that a file does: so the turns are counted down,
 // from a number that no run uses up.
 pub(crate) fn serve_file(fd: i32, name: &[u8], t: &mut [u8]) -> bool
@@ -47,7 +55,7 @@ pub(crate) fn serve_file(fd: i32, name: &[u8], t: &mut [u8]) -> bool
     ensures { λ r. ⌜ (r ≡ true → FileServed (now (t .entry)) (now (t .exit))) ⌝ }
 {
     let mut input = io::large_buffer();
-    let mut out = io::large_buffer();
+    let mut out = output();
     let mut s = files::start();
     let mut turns = u64::MAX;
     while turns > 0 {

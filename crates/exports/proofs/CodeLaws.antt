@@ -2,25 +2,32 @@
 use mathlib.Core.Path.{_≡_, refl, sym, ap, _∙_}
 use mathlib.Core.List.{List, [], _∷_}
 use mathlib.Core.Bool.{Bool, true, false, cond}
+use mathlib.Core.Option.{Option}
 use mathlib.Core.Logic.{⊎-elim}
-use Prim.Native.Nat.{ℕ, _+_, _≤_, _<_, _^_}
+use Prim.Native.Nat.{ℕ, _+_, _-_, _≤_, _<_, _^_}
 use native.Mathlib.Omega.{arith}
-use lib.ListN.{length, getD}
+use lib.ListN.{length, drop, getD, length-drop}
 use lib.Dec.{leb}
 use borrow.Author.Tests.{leb-true, le-leb, lt-leb}
-use Rattle.wire.specs.Codec.{whole, mapped, Codec}
+use Rattle.wire.specs.Codec.{Read, whole, more, refused, after, mapped, readAt, Codec}
+use Rattle.wire.specs.Listed.{item}
 use Rattle.wire.specs.Write.{Sent, written, kept, sent, send}
 use Rattle.wire.proofs.Laws.{Laws, both, after-whole, sized}
+use Rattle.wire.proofs.ListedLaws.{item-laws}
+use Rattle.field.specs.declared.Span.{Span}
+use Rattle.message.specs.Listing.{itemOf}
+use Rattle.message.proofs.ListingLaws.{itemOf-laws}
+use Rattle.listing.specs.EntryRead.{itemAt}
 use Rattle.table.specs.Memory.{stateOf}
 use Rattle.table.proofs.Lists.{lt-or-ge}
 use Rattle.stored.specs.File.{form1, file}
 use Rattle.stored.specs.StoreLoad.{Storing}
 use Rattle.exports.specs.Codes.{sentCode, tell, inRoom, IfRoom}
-use Rattle.exports.specs.Messages.{isHead, HeadFits, isReplyHead, ReplyHeadFits}
+use Rattle.exports.specs.Messages.{entryFrom, isHead, HeadFits, isReplyHead, ReplyHeadFits}
 
 pub head-fits : (ns : List ℕ) → isHead ns ≡ true → HeadFits ns
 head-fits ns e =
-    let a = both (leb 9 (length ns)) _ e in
+    let a = both (leb 10 (length ns)) _ e in
     let b = both (leb (getD ns 1 0) 255) _ (a .1) in
     let d = both (leb (getD ns 2 0) 255) _ (b .1) in
     record { long = leb-true _ _ (a .0); version = leb-true _ _ (b .0); op = leb-true _ _ (d .0); intelligence = leb-true _ _ (d .1) }
@@ -69,6 +76,38 @@ unfolding mapped
 whole-fits c l s h f b n e =
     let x = after-whole (c .dec s) _ b n (sym e) in
     omega (arith, l .spans s (x .val) (x .len) (x .first), sized (x .then))
+
+-- what was read at a place, with the count of its bytes for the place behind it
+abbrev pub since : {A : Type 0} → ℕ → Read A → Read A
+since at (whole a n) = whole a (n - at)
+since at more = more
+since at (refused k) = refused k
+
+since-read : {A B : Type 0} (f : A → ℕ → B) (at : ℕ) (r : Read A) → since at (mapped f (after r (λ a n. whole a (at + n)))) ≡ mapped (λ a n. f a (at + n)) r
+unfolding mapped
+since-read f at (whole a n) = let e : at + n - at ≡ n = omega arith in ap (λ (m : ℕ). whole (f a (at + n)) m) e
+since-read f at more = refl
+since-read f at (refused k) = refl
+
+-- an entry or the end that was read at a place is what the bytes from there on begin with
+module _ (values : Bool) (s : List ℕ) (at : ℕ) where
+  pub entry-from : (r : Read (Option (Span × Span))) → r ≡ mapped (itemAt at) (readAt (item (itemOf values)) s at) → since at r ≡ entryFrom values s at
+  unfolding entryFrom readAt
+  entry-from r e = ap (since at) e ∙ since-read (itemAt at) at (item (itemOf values) .dec (drop at s))
+
+  module _ (x : Option (Span × Span)) (j : ℕ) (e : whole x j ≡ mapped (itemAt at) (readAt (item (itemOf values)) s at)) where
+    pub entry-behind : at ≤ j
+    unfolding mapped readAt
+    entry-behind =
+        let y = after-whole (readAt (item (itemOf values)) s at) _ x j (sym e) in
+        let z = after-whole (item (itemOf values) .dec (drop at s)) _ (y .val) (y .len) (y .first) in
+        omega (arith, sized (y .then), sized (z .then))
+
+    pub entry-fits : length s < 2 ^ 63 → 256 + (j - at) < 2 ^ 64
+    unfolding entryFrom
+    entry-fits h =
+        whole-fits (item (itemOf values)) (item-laws (itemOf values) (itemOf-laws values)) (drop at s) (omega (arith, length-drop at s)) _ x (j - at)
+        (entry-from (whole x j) e)
 
 -- the third number told is another name of it
 pub told-third : (a b : ℕ) {p q : ℕ} (old : List ℕ) {new : List ℕ} → p ≡ q → new ≡ tell (a ∷ b ∷ p ∷ []) old → new ≡ tell (a ∷ b ∷ q ∷ []) old

@@ -1,5 +1,7 @@
 // The functions behind those that are exported and tell numbers.
 use crate::tell;
+use field::Cursor;
+use listing::EntryRead;
 use message::Asked;
 use reply_reader::ReplyRead;
 use request_reader::RequestRead;
@@ -14,7 +16,7 @@ ghost use Rattle.table.specs.Compare.{compared};
 ghost use Rattle.server.specs.CallDone.{callOf, contextOf};
 ghost use Rattle.exports.specs.Calls.{TellsDone, TellsTotal, TellsServed, keysCompared};
 ghost use Rattle.exports.specs.Codes.{tell, told};
-ghost use Rattle.exports.specs.Messages.{wholeRequest, wholeReply};
+ghost use Rattle.exports.specs.Messages.{wholeRequest, wholeReply, wholeEntry, entryFrom};
 
 pub(crate) fn read_request(input: &[u8], answer: &mut [u64]) -> u64
     ensures { λ r. ⌜ (r, now (answer .exit)) ≡ told wholeRequest (mapped requestAt (request .dec (now (input .entry)))) (now (answer .entry)) ⌝ }
@@ -43,8 +45,33 @@ pub(crate) fn read_reply(input: &[u8], op: u8, flag: bool, answer: &mut [u64]) -
             tell::statistics(answer, h, x, n);
             256 + n as u64
         }
+        ReplyRead::Entries(h, e, n) => {
+            tell::entries(answer, h, e, n);
+            256 + n as u64
+        }
         ReplyRead::More => 0,
         ReplyRead::Refused(k) => k as u64,
+    }
+}
+
+pub(crate) fn next_entry(input: &[u8], at: u64, values: bool, answer: &mut [u64]) -> u64
+    ensures { λ r. ⌜ (r, now (answer .exit)) ≡ told wholeEntry (entryFrom values (now (input .entry)) at) (now (answer .entry)) ⌝ }
+{
+    let from = at as usize;
+    let a = listing::next_entry(input, Cursor { at: from }, values);
+    match a {
+        EntryRead::Whole(key, value, c) => {
+            let n = c.at - from;
+            tell::entry(answer, key, value, n);
+            256 + n as u64
+        }
+        EntryRead::End(c) => {
+            let n = c.at - from;
+            tell::end(answer, n);
+            256 + n as u64
+        }
+        EntryRead::More => 0,
+        EntryRead::Refused(k) => k as u64,
     }
 }
 

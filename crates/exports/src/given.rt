@@ -13,7 +13,7 @@ ghost use Rattle.exports.specs.Messages.{isHead, headWith, HeadFits, isR
 pub(crate) fn is_head(ns: &[u64]) -> bool
     ensures { λ r. ⌜ r ≡ isHead (now (ns .entry)) ⌝ }
 {
-    if ns.len() < 9 {
+    if ns.len() < 10 {
         return false;
     }
     if 255 < ns[1] {
@@ -39,6 +39,7 @@ pub(crate) fn head(ns: &[u64], op: Operation) -> Head
         lifespan: ns[6],
         idle: ns[7],
         entry: EntryVersion(ns[8]),
+        bulk: ns[9],
     }
 }
 

@@ -1,6 +1,6 @@
 // The library for other languages: each function takes numbers and slices, for any bytes and any lengths. What the number answered means:
-// fq_read_request, fq_read_reply: 256 and the count of the message's bytes, 0 for more needed, or the refusal 1 to 8;
-// fq_write_request, fq_write_reply, fq_write_statistics: 256 and the count of the bytes written, or 16, 12;
+// fq_read_request, fq_read_reply, fq_next_entry: 256 and the count of the message's or the entry's bytes, 0 for more needed, or the refusal 1 to 8;
+// fq_write_request, fq_write_reply, fq_write_statistics, fq_write_entries: 256 and the count of the bytes written, or 16, 12;
 // fq_same_key: 256 for done;
 // fq_is_table: whether the memory is a sound table; fq_make: 256 for done, or 13;
 // fq_serve: 256 for served, 0 for more needed, or the refusal; fq_serve_stream: the same of the last call, or 257 where the reply buffer has no room
@@ -26,15 +26,18 @@ ghost use Rattle.table.specs.Change.{Left, outcomeOf, made};
 ghost use Rattle.server.specs.CallDone.{callOf, contextOf};
 ghost use Rattle.exports.specs.Calls.{TellsDone, TellsTotal, TellsServed, TellsStored, TellsLoaded, outcomeCode, keysCompared, Untold};
 ghost use Rattle.exports.specs.Codes.{coded, tell, told, inRoom, IfRoom};
-ghost use Rattle.exports.specs.Messages.{wholeRequest, wholeReply, sendRequest, sendReply, sendStatistics};
+ghost use Rattle.exports.specs.Messages.{wholeRequest, wholeReply, wholeEntry, entryFrom, sendRequest, sendReply, sendStatistics, sendEntries};
 
-// How many numbers are told: of a request and of a reply that was read, of two keys, of a call, of calls one after the other, and of lines.
+// How many numbers are told: of a request and of a reply that was read, of an entry of a bulk reply, of two keys, of a call, of calls one after the
+// other, and of lines.
 pub struct Told {}
 
 impl Told {
-    pub const REQUEST: usize = 16;
+    pub const REQUEST: usize = 17;
 
-    pub const REPLY: usize = 18;
+    pub const REPLY: usize = 21;
+
+    pub const ENTRY: usize = 6;
 
     pub const KEYS: usize = 2;
 
@@ -46,10 +49,10 @@ impl Told {
 }
 
 // The request at the front of the input. Numbers told: count of bytes, id, version, operation, flags, intelligence, topology, lifespan, max idle, entry
-// version, and the start and length of name, key and value.
+// version, the entry count of bulkGet or the scope of bulkGetKeys, and the start and length of name, key and value.
 #[no_mangle]
 pub extern "C" fn fq_read_request(input: &[u8], answer: &mut [u64]) -> u64
-    ensures { λ r. ⌜ (r, now (answer .exit)) ≡ inRoom 16 (now (answer .entry)) (told wholeRequest (mapped requestAt (request .dec (now (input .entry)))) (now (answer .entry))) ⌝ }
+    ensures { λ r. ⌜ (r, now (answer .exit)) ≡ inRoom 17 (now (answer .entry)) (told wholeRequest (mapped requestAt (request .dec (now (input .entry)))) (now (answer .entry))) ⌝ }
 {
     if answer.len() < Told::REQUEST {
         return 12;
@@ -57,12 +60,12 @@ pub extern "C" fn fq_read_request(input: &[u8], answer: &mut [u64]) -> u64
     calls::read_request(input, answer)
 }
 
-// The reply at the front of the input, to an operation that was asked with flag 0x0001 or without (flag is this bit
-// alone, and not the number of the flags). Numbers told: count of bytes, id, operation, status,
-// entry version, the start and length of value and text, and the nine statistics, which are 0 where it is no stats reply.
+// The reply at the front of the input, to an operation that was asked with flag 0x0001 or without (flag is this bit alone, and not the number of the
+// flags). Numbers told: count of bytes, id, operation, status, entry version, the start and length of value and text, the nine statistics, which are 0
+// where it is no stats reply, how many entries there are, and the start and length of their bytes, which are 0 where it is no bulk reply.
 #[no_mangle]
 pub extern "C" fn fq_read_reply(input: &[u8], op: u8, flag: bool, answer: &mut [u64]) -> u64
-    ensures { λ r. ⌜ (r, now (answer .exit)) ≡ inRoom 18 (now (answer .entry)) (told wholeReply (mapped replyAt (reply (asked op flag) .dec (now (input .entry)))) (now (answer .entry))) ⌝ }
+    ensures { λ r. ⌜ (r, now (answer .exit)) ≡ inRoom 21 (now (answer .entry)) (told wholeReply (mapped replyAt (reply (asked op flag) .dec (now (input .entry)))) (now (answer .entry))) ⌝ }
 {
     if answer.len() < Told::REPLY {
         return 12;
@@ -70,7 +73,8 @@ pub extern "C" fn fq_read_reply(input: &[u8], op: u8, flag: bool, answer: &mut [
     calls::read_reply(input, op, flag, answer)
 }
 
-// Writes a request at the front of `out`. Its numbers: id, version, operation, flags, intelligence, topology, lifespan, max idle and entry version.
+// Writes a request at the front of `out`. Its numbers: id, version, operation, flags, intelligence, topology, lifespan, max idle, entry version, and
+// the entry count of bulkGet or the scope of bulkGetKeys.
 #[no_mangle]
 pub extern "C" fn fq_write_request(
     out: &mut [u8],
@@ -109,6 +113,33 @@ pub extern "C" fn fq_write_reply(
     }
     let h = given::reply_head(numbers);
     tell::sent(reply_writer::write_reply(out, Asked { op: op, flag: flag }, h, value, text))
+}
+
+// The entry of a bulk reply, or the end of its entries, at a place of the input: with its value, or its key alone. Numbers told: count of bytes, 1 for an
+// entry or 0 at the end, and the start and length of key and value.
+#[no_mangle]
+pub extern "C" fn fq_next_entry(input: &[u8], at: u64, values: bool, answer: &mut [u64]) -> u64
+    ensures { λ r. ⌜ (r, now (answer .exit)) ≡ inRoom 6 (now (answer .entry)) (told wholeEntry (entryFrom values (now (input .entry)) at) (now (answer .entry))) ⌝ }
+{
+    if answer.len() < Told::ENTRY {
+        return 12;
+    }
+    calls::next_entry(input, at, values, answer)
+}
+
+// Writes the reply to bulkGet, or to bulkGetKeys where values are not asked for, at the front of `out`. Four numbers name each entry: the start and the
+// length of its key, and those of its value, in the bytes; less than four at the end name none.
+#[no_mangle]
+pub extern "C" fn fq_write_entries(
+    out: &mut [u8],
+    id: u64,
+    values: bool,
+    bytes: &[u8],
+    numbers: &[u64],
+) -> u64
+    ensures { λ r. ⌜ (r, now (out .exit)) ≡ coded (sendEntries values id (now (bytes .entry)) (now (numbers .entry)) (now (out .entry))) ⌝ }
+{
+    tell::sent(reply_writer::write_entries(out, id, values, bytes, numbers))
 }
 
 // Compares two keys, by their lengths and then by their bytes from the end. Numbers told: 1 where they are equal or 0, and how many pairs of bytes were

@@ -1,21 +1,24 @@
 // Answers as numbers, and numbers told at the front of a list that the caller lends.
+use field::Span;
 use message::Reply;
 use message::ReplyHead;
 use message::Request;
 use message::Sent;
+use reply_reader::Entries;
 use server::Verdict;
 use statistics::Statistics;
 use table::Outcome;
 ghost use mathlib.Core.Path.{_≡_};
 ghost use Prim.Native.Nat.{_<_, _^_};
 ghost use mathlib.Core.List.{[]};
+ghost use mathlib.Core.Option.{none, some};
 ghost use Rattle.statistics.specs.Statistics.{listOf};
 ghost use Rattle.message.specs.Sent.{asSent};
-ghost use Rattle.reply_reader.specs.ReplyRead.{withStatistics};
+ghost use Rattle.reply_reader.specs.ReplyRead.{unlisted, withStatistics, withEntries};
 ghost use Rattle.server.specs.CallDone.{asVerdict};
 ghost use Rattle.exports.specs.Calls.{verdictCode, bit as bitOf, outcomeCode};
 ghost use Rattle.exports.specs.Codes.{sentCode, tell};
-ghost use Rattle.exports.specs.Messages.{wholeRequest, wholeReply};
+ghost use Rattle.exports.specs.Messages.{wholeRequest, wholeReply, wholeEntry};
 
 // A list that is shorter than the numbers is left as it was.
 pub(crate) fn numbers(answer: &mut [u64], ns: &[u64])
@@ -51,6 +54,7 @@ pub(crate) fn request(answer: &mut [u64], q: Request, n: usize)
         h.lifespan,
         h.idle,
         entry.0,
+        h.bulk,
         name.start as u64,
         name.len as u64,
         key.start as u64,
@@ -62,7 +66,7 @@ pub(crate) fn request(answer: &mut [u64], q: Request, n: usize)
 }
 
 pub(crate) fn reply(answer: &mut [u64], q: Reply, n: usize)
-    ensures { λ _. ⌜ now (answer .exit) ≡ tell (wholeReply (q, []) n) (now (answer .entry)) ⌝ }
+    ensures { λ _. ⌜ now (answer .exit) ≡ tell (wholeReply (q, ([], unlisted)) n) (now (answer .entry)) ⌝ }
 {
     let h = q.head;
     let entry = h.entry;
@@ -78,6 +82,9 @@ pub(crate) fn reply(answer: &mut [u64], q: Reply, n: usize)
         value.len as u64,
         text.start as u64,
         text.len as u64,
+        0,
+        0,
+        0,
         0,
         0,
         0,
@@ -114,8 +121,62 @@ pub(crate) fn statistics(answer: &mut [u64], h: ReplyHead, x: Statistics, n: usi
         x.misses,
         x.removehits,
         x.removemisses,
+        0,
+        0,
+        0,
     ];
     numbers(answer, &ns);
+}
+
+pub(crate) fn entries(answer: &mut [u64], h: ReplyHead, e: Entries, n: usize)
+    ensures { λ _. ⌜ now (answer .exit) ≡ tell (wholeReply (withEntries h e) n) (now (answer .entry)) ⌝ }
+{
+    let entry = h.entry;
+    let part = e.part;
+    let ns = [
+        n as u64,
+        h.id,
+        h.op as u64,
+        h.status as u64,
+        entry.0,
+        0,
+        0,
+        0,
+        0,
+        0,
+        0,
+        0,
+        0,
+        0,
+        0,
+        0,
+        0,
+        0,
+        e.count,
+        part.start as u64,
+        part.len as u64,
+    ];
+    numbers(answer, &ns);
+}
+
+pub(crate) fn entry(answer: &mut [u64], key: Span, value: Span, n: usize)
+    ensures { λ _. ⌜ now (answer .exit) ≡ tell (wholeEntry (some (key, value)) n) (now (answer .entry)) ⌝ }
+{
+    let ns = [
+        n as u64,
+        1,
+        key.start as u64,
+        key.len as u64,
+        value.start as u64,
+        value.len as u64,
+    ];
+    numbers(answer, &ns);
+}
+
+pub(crate) fn end(answer: &mut [u64], n: usize)
+    ensures { λ _. ⌜ now (answer .exit) ≡ tell (wholeEntry none n) (now (answer .entry)) ⌝ }
+{
+    numbers(answer, &[n as u64, 0, 0, 0, 0, 0]);
 }
 
 // The answer of a writer, and how a call ended.

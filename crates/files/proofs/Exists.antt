@@ -62,7 +62,7 @@ record Fit (st : State) : Type 0 where
 -- a line given that has room, and the state behind it
 record Fits (st : State) (g : Given) : Type 0 where
   fit : Fit (stateLeft st (g .next))
-  short : length (g .text) ≤ 614
+  short : length (g .text) < lineRoom
 
 error-fits : (k id : ℕ) (st : State) → Fit st → 1 ≤ k → k ≤ 11 → id < 0x8000_0000_0000_0000 → Fits st (given (toHex (flat (errorPieces k id))) none)
 error-fits k id st f l u i =

@@ -7,7 +7,8 @@ use borrow.Author.Tests.{ltb-true}
 use Rattle.wire.proofs.Laws.{never}
 use Rattle.message.specs.Request.{Request, isEmpty}
 use Rattle.map.specs.State.{State}
-use Rattle.map.specs.Step.{Context, Change, keep, store, drop, empty, Answer, Outcome, refused, answered, lastVersion, stored, dropped, emptied, full, planned, answer, act, core, arrive, step}
+use Rattle.map.specs.Plan.{Change, keep, store, drop, empty}
+use Rattle.map.specs.Step.{Context, Answer, Outcome, refused, answered, lastVersion, stored, dropped, emptied, full, planned, answer, act, core, arrive, step}
 
 -- the state behind a change
 unfoldable pub changed : Context → Request → State → Change → State

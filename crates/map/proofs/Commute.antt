@@ -13,10 +13,13 @@ use Rattle.message.specs.Value.{withValue}
 use Rattle.message.specs.declared.Form.{Form}
 use Rattle.message.specs.declared.Form.the-variants as form
 use Rattle.map.specs.State.{Entry, State, without}
-use Rattle.map.specs.Step.{Context, Change, keep, store, drop, empty, shows, Answer, answered, lastVersion, deadline, entry, stored, dropped, emptied, isNone, names, held, versionOf, full, planned, statistics, answer, act, core, arrive, step}
+use Rattle.map.specs.Plan.{Change, keep, store, drop, empty}
+use Rattle.map.specs.Shown.{shows, listedBy}
+use Rattle.map.specs.Step.{Context, Answer, answered, lastVersion, deadline, entry, stored, dropped, emptied, isNone, names, held, versionOf, full, planned, statistics, answer, act, core, arrive, step}
 use Rattle.map.specs.Table.{Each}
 use Rattle.map.specs.Revalue.{entriesWith, stateWith, foundWith, shownWith, answerWith, outcomeWith, outcomeState}
 use Rattle.map.proofs.Answered.{changed, did}
+use Rattle.map.proofs.ListedLaws.{listed-with}
 use Rattle.map.proofs.Finding.{cond-of, find-with, without-with, length-with, append-with, fresh}
 
 module _ (v : ℕ) (w : List ℕ) where
@@ -24,15 +27,16 @@ module _ (v : ℕ) (w : List ℕ) where
   version-with none = refl
   version-with (some e) = refl
 
-  shows-with : (g : Form) (ns : List ℕ) (f : Option Entry) → shows g ns (foundWith v w f) ≡ shownWith v w (shows g ns f)
+  shows-with : (g : Form) (ns : List ℕ) (es : List Entry) (f : Option Entry) → shows g ns (entriesWith v w es) (foundWith v w f) ≡ shownWith v w (shows g ns es f)
   unfolding shows shownWith
-  shows-with form.Nothing ns f = refl
-  shows-with (form.Value lim) ns none = refl
-  shows-with (form.Value lim) ns (some e) = rw (cond-of (shownWith v w) (eqb lim 0))
-  shows-with form.Versioned ns none = refl
-  shows-with form.Versioned ns (some e) = refl
-  shows-with form.Statistics ns f = refl
-  shows-with form.Text ns f = refl
+  shows-with form.Nothing ns es f = refl
+  shows-with (form.Value lim) ns es none = refl
+  shows-with (form.Value lim) ns es (some e) = rw (cond-of (shownWith v w) (eqb lim 0))
+  shows-with form.Versioned ns es none = refl
+  shows-with form.Versioned ns es (some e) = refl
+  shows-with form.Statistics ns es f = refl
+  shows-with form.Text ns es f = refl
+  shows-with (form.Listed values) ns es f = refl
 
   none-with : (f : Option Entry) → isNone (foundWith v w f) ≡ isNone f
   none-with none = refl
@@ -57,7 +61,7 @@ module _ (v : ℕ) (w : List ℕ) where
 
     answer-with : answer c r (stateWith v w st) ≡ answerWith v w (answer c r st)
     unfolding answer answerWith
-    answer-with = rw (planned-with, held-with, statistics-with, shows-with)
+    answer-with = rw (planned-with, held-with, statistics-with, listed-with r v w st, shows-with)
 
     drops : dropped r (stateWith v w st) ≡ stateWith v w (dropped r st)
     unfolding dropped stateWith
@@ -115,7 +119,7 @@ module _ (w : List ℕ) (c : Context) (r : Request) (st : State) (h : Each (λ e
       )
 
   core-value : core c (withValue w r) st ≡ outcomeState (suc (st .last)) w (core c r st)
-  unfolding core outcomeState planned answer held
+  unfolding core outcomeState planned answer held listedBy
   core-value =
       rw (act-value (answer c r st) (planned r st .change), cond-of (outcomeState (suc (st .last)) w) (isEmpty (r .name)))
 

@@ -1,23 +1,26 @@
 -- Over every run each count is the number of steps that it counts, up to the largest. Assumes nothing.
 use mathlib.Core.Path.{_≡_, refl, sym, ap, _∙_}
-use mathlib.Core.List.{List, [], _∷_, _++_}
+use mathlib.Core.List.{List, [], _∷_}
 use mathlib.Core.Bool.{Bool, true, false, cond, not, _&&_}
 use mathlib.Core.Option.{Option, none, some}
+use mathlib.Core.Logic.{_⊎_, inl, inr}
 use Prim.Native.Nat.{ℕ, zero, suc, _+_, _-_, _≤_, _<_, zero-le}
 use native.Mathlib.Nat.{add-zero, add-suc, suc-add}
 use native.Mathlib.Omega.{arith}
 use native.Mathlib.Decide.{decLt}
-use lib.ListN.{length, getD, replicate}
-use lib.Dec.{eqb, leb, ltb}
-use borrow.Author.Tests.{ltb-true, ltb-false, le-leb, lt-leb}
+use lib.ListN.{getD, replicate}
+use lib.Dec.{eqb, ltb}
+use borrow.Author.Tests.{ltb-false, le-leb, lt-leb}
 use Rattle.wire.proofs.Laws.{and-false}
 use Rattle.message.specs.declared.Operation.{Operation}
-use Rattle.message.specs.declared.Operation.the-variants.{Put, Get, PutIfAbsent, Replace, ReplaceIfUnmodified, Remove, RemoveIfUnmodified, ContainsKey, GetWithVersion, Clear, Stats, Ping}
+use Rattle.message.specs.declared.Operation.the-variants.{Put, Get, PutIfAbsent, Replace, ReplaceIfUnmodified, Remove, RemoveIfUnmodified, ContainsKey, GetWithVersion, Clear, Stats, Ping, BulkGet, BulkGetKeys}
 use Rattle.message.specs.Request.{Request}
 use Rattle.message.specs.Reply.{bodyAt}
 use Rattle.map.specs.History.{countsHeld, mostCount, onward, is, adds, marked, tally, retrievals, hits, misses, noHistory, startOf}
-use Rattle.map.specs.State.{Entry, State, fresh, find, without, hasKey}
-use Rattle.map.specs.Step.{Context, Change, keep, store, drop, empty, Plan, plans, plan, Answer, Outcome, refused, answered, entry, stored, dropped, emptied, isNone, names, held, versionOf, planned, shows, counted, statistics, answer, arrive, step, stateAfter, Taken, run}
+use Rattle.map.specs.State.{Entry, State, fresh, find, without}
+use Rattle.map.specs.Plan.{Change, keep, store, drop, empty, plans, plan}
+use Rattle.map.specs.Shown.{shows, counted}
+use Rattle.map.specs.Step.{Context, Answer, Outcome, refused, answered, entry, stored, dropped, emptied, isNone, names, held, versionOf, planned, statistics, answer, arrive, step, stateAfter, run}
 use Rattle.map.specs.Table.{Counts}
 use Rattle.map.specs.Counted.{says, number, ends, atMost}
 use Rattle.map.proofs.Each.{each-left}
@@ -79,6 +82,10 @@ plan-says Stats v none = refl
 plan-says Stats v (some w) = refl
 plan-says Ping v none = refl
 plan-says Ping v (some w) = refl
+plan-says BulkGet v none = refl
+plan-says BulkGet v (some w) = refl
+plan-says BulkGetKeys v none = refl
+plan-says BulkGetKeys v (some w) = refl
 
 none-version : (h : Option Entry) → isNone (versionOf h) ≡ isNone h
 none-version none = refl
@@ -245,7 +252,7 @@ fresh-counts = record { long = refl; most = λ i. zeros i }
     zeros (suc (suc (suc (suc (suc (suc zero)))))) = zero-le
     zeros (suc (suc (suc (suc (suc (suc (suc i))))))) = zero-le
 
--- a clear counts nothing, and neither does stats
+-- a clear counts nothing, and neither do stats and the bulk requests
 marked-none : (n : ℕ) (ns : List ℕ) → marked (replicate n false) ns ≡ ns
 unfolding marked
 marked-none zero ns = refl
@@ -264,6 +271,11 @@ module _ (c : Context) (r : Request) (st : State) (a : Answer) (t : State) (e : 
   pub stats-counts : r .op ≡ Stats → t .history .counts ≡ st .history .counts
   unfolding adds
   stats-counts q = same-counts (rw q)
+
+  pub bulk-counts : (r .op ≡ BulkGet) ⊎ (r .op ≡ BulkGetKeys) → t .history .counts ≡ st .history .counts
+  unfolding adds
+  bulk-counts (inl q) = same-counts (rw q)
+  bulk-counts (inr q) = same-counts (rw q)
 
   -- a stats reply shows the statistics behind the arrival of its own call
   pub stats-shown : r .op ≡ Stats → a .shown ≡ counted (statistics c (arrive c r st))

@@ -1,8 +1,10 @@
--- What holds of each entry of a list, or of each two: without some of the entries, and with one more. Assumes nothing.
-use mathlib.Core.Path.{_≡_, refl}
-use mathlib.Core.List.{List, [], _∷_, _++_}
+-- What holds of each entry of a list, or of each two: without some of the entries, with one more, and in another order. Assumes nothing.
+use mathlib.Core.Path.{_≡_, refl, ap, subst, subst₂, _∙_}
+use mathlib.Core.List.{List, [], _∷_, _++_, List·Permᴰ as Perm, List·Permᴰ·nil as nil, List·Permᴰ·cons as cons, List·Permᴰ·swap as swap, List·Permᴰ·trans as trans}
 use mathlib.Core.Bool.{Bool, true, false, cond}
 use mathlib.Core.Option.{Option, none, some}
+use Prim.Native.Nat.{suc}
+use lib.ListN.{length}
 use Rattle.wire.proofs.Basics.{pick}
 use Rattle.map.specs.State.{Entry, find, without}
 use Rattle.map.specs.Table.{Each, Pairs}
@@ -14,6 +16,10 @@ each-map P Q f (e ∷ es) h = (f e (h .0), each-map P Q f es (h .1))
 pub each-both : (P Q R : Entry → Type 0) → ((e : Entry) → P e → Q e → R e) → (es : List Entry) → Each P es → Each Q es → Each R es
 each-both P Q R f [] h g = tt
 each-both P Q R f (e ∷ es) h g = (f e (h .0) (g .0), each-both P Q R f es (h .1) (g .1))
+
+pub pairs-map : (P Q : Entry → Entry → Type 0) → ((e f : Entry) → P e f → Q e f) → (es : List Entry) → Pairs P es → Pairs Q es
+pairs-map P Q f [] h = tt
+pairs-map P Q f (e ∷ es) h = (each-map (P e) (Q e) (f e) es (h .0), pairs-map P Q f es (h .1))
 
 -- what is said of an entry, if there is one
 abbrev pub Maybe : (Entry → Type 0) → Option Entry → Type 0
@@ -54,3 +60,23 @@ module _ (x : Entry) where
   pub pairs-add : (R : Entry → Entry → Type 0) (es : List Entry) → Pairs R es → Each (λ e. R e x) es → Pairs R (es ++ (x ∷ []))
   pairs-add R [] h g = (tt, tt)
   pairs-add R (e ∷ es) h g = (each-add (R e) es (h .0) (g .0), pairs-add R es (h .1) (g .1))
+
+-- what is said of each entry, or of each two in either order, is said of a list in any order
+pub same-each : (P : Entry → Type 0) {es fs : List Entry} → Perm es fs → Each P es → Each P fs
+same-each P nil h = tt
+same-each P (cons p s) h = (subst P p (h .0), same-each P s (h .1))
+same-each P (swap p q) h = (subst P q (h .1 .0), (subst P p (h .0), h .1 .1))
+same-each P (trans s t) h = same-each P t (same-each P s h)
+
+pub same-pairs : (R : Entry → Entry → Type 0) → ((e f : Entry) → R e f → R f e) → {es fs : List Entry} → Perm es fs → Pairs R es → Pairs R fs
+same-pairs R turn nil h = tt
+same-pairs R turn (cons {b = f} {l₁ = es} p s) h = (same-each (R f) s (subst (λ (x : Entry). Each (R x) es) p (h .0)), same-pairs R turn s (h .1))
+same-pairs R turn (swap {a = e} {b = f} {l = es} p q) h =
+    ((subst₂ R q p (turn e f (h .0 .0)), subst (λ (x : Entry). Each (R x) es) q (h .1 .0)), (subst (λ (x : Entry). Each (R x) es) p (h .0 .1), h .1 .1))
+same-pairs R turn (trans s t) h = same-pairs R turn t (same-pairs R turn s h)
+
+pub same-length : {es fs : List Entry} → Perm es fs → length es ≡ length fs
+same-length nil = refl
+same-length (cons p s) = ap suc (same-length s)
+same-length (swap p q) = refl
+same-length (trans s t) = same-length s ∙ same-length t

@@ -1,6 +1,6 @@
 -- The pieces of a reply are its published format, and the reply of a table is valid. Assumes nothing.
-use mathlib.Core.Path.{_≡_, refl, sym, ap, _∙_}
-use mathlib.Core.List.{List, [], _∷_, _++_, append-assoc, append-nil}
+use mathlib.Core.Path.{_≡_, refl, ap, _∙_}
+use mathlib.Core.List.{List, [], _∷_, _++_, map, append-assoc, append-nil}
 use mathlib.Core.Bool.{Bool, true, false, cond}
 use mathlib.Core.Option.{Option, none, some}
 use Prim.Native.Nat.{ℕ, zero, suc, _+_, _-_, _≤_, _<_}
@@ -14,22 +14,27 @@ use Rattle.wire.proofs.Laws.{seq-good, type-good, bytes-are}
 use Rattle.wire.proofs.FieldLaws.{big-good, limited-good}
 use Rattle.wire.proofs.Basics.{pick}
 use Rattle.message.specs.declared.Operation.{Operation}
-use Rattle.message.specs.declared.Operation.the-variants.{Put, Get, PutIfAbsent, Replace, ReplaceIfUnmodified, Remove, RemoveIfUnmodified, ContainsKey, GetWithVersion, Clear, Stats, Ping}
-use Rattle.message.specs.Operation.{codeOf, findCode}
+use Rattle.message.specs.declared.Operation.the-variants.{Put, Get, PutIfAbsent, Replace, ReplaceIfUnmodified, Remove, RemoveIfUnmodified, ContainsKey, GetWithVersion, Clear, Stats, Ping, BulkGet, BulkGetKeys}
+use Rattle.message.specs.Operation.{codeOf}
 use Rattle.message.specs.Request.{valueLimit, Request, request}
 use Rattle.message.specs.Reply as m
-use Rattle.message.specs.Reply.{Body, table, bodyAt, isAllowed, allowed, Reply, noBody, valueBody, versionedBody, statisticsBody, fieldsOf, formOf, fields, message, isAwaited, rowsOf, reply}
+use Rattle.message.specs.Reply.{Body, table, bodyAt, isAllowed, allowed, Reply, noBody, valueBody, versionedBody, statisticsBody, listedBody, fieldsOf, formOf, fields, message, isAwaited, rowsOf, bulkOperation, bulkReply, reply}
+use Rattle.message.specs.Listing.{mostListed}
 use Rattle.message.proofs.RequestLaws.{code-found}
 use Rattle.message.proofs.RequestParts as asked
 use Rattle.message.proofs.ReplyParts.{whole-reply}
-use Rattle.message.proofs.ReplySize.{reply-most, plain-most}
+use Rattle.message.proofs.ReplySize.{longestReply, reply-most}
 use Rattle.statistics.specs.Statistics as stats
 use Rattle.statistics.proofs.Writing.{statistics-good}
 use Rattle.map.specs.History.{startOf}
 use Rattle.map.specs.State.{Entry, State}
-use Rattle.map.specs.Step.{Context, lastVersion, Plan, plans, plan, Shown, nothing, noValue, value, shows, Answer, wantsOld, names, held, versionOf, planned, statistics, answer}
-use Rattle.map.specs.Table.{Sizes, Issued, IsTable}
-use Rattle.map.specs.Reply.{askedBy, payloadOf, replyTo, flat, shownPieces, pieces}
+use Rattle.map.specs.Plan.{Plan, plans, plan}
+use Rattle.map.specs.Shown.{Shown, nothing, noValue, value, shows, listedBy}
+use Rattle.map.specs.Step.{mostKeys, Context, lastVersion, Answer, wantsOld, names, held, versionOf, planned, statistics, answer}
+use Rattle.map.specs.Table.{Each, Sizes, Issued, IsTable}
+use Rattle.map.specs.Reply.{askedBy, pairOf, payloadOf, replyTo, flat, shownPieces, pieces}
+use Rattle.map.proofs.ListedLaws.{listed-each, listed-few}
+use Rattle.map.proofs.ListedFormat.{sized-enc, listing-enc, value-good, listing-good}
 use Rattle.map.proofs.Each.{each-both, Maybe, each-find}
 
 -- a value is shown only of an entry that is there, and no text
@@ -43,6 +48,8 @@ Fit m.versioned none = ⊥
 Fit m.versioned (some e) = Unit {0}
 Fit m.statistics f = Unit {0}
 Fit m.text f = ⊥
+Fit m.entries f = Unit {0}
+Fit m.keys f = Unit {0}
 
 -- the status of a plan is one of the operation's, and its body fits the entry found
 abbrev Told : Operation → Option Entry → Plan → Type 0
@@ -71,9 +78,8 @@ told ContainsKey x (some e) = (refl, tt)
 told Clear x f = (refl, tt)
 told Stats x f = (refl, tt)
 told Ping x f = (refl, tt)
-
-same-some : {o p : Operation} → some o ≡ some p → o ≡ p
-same-some e = cc
+told BulkGet x f = (refl, tt)
+told BulkGetKeys x f = (refl, tt)
 
 -- the code of an operation's reply is awaited, and its rows are the operation's
 abbrev Coded : Operation → Type 0
@@ -93,28 +99,32 @@ coded GetWithVersion = (refl, refl)
 coded Clear = (refl, refl)
 coded Stats = (refl, refl)
 coded Ping = (refl, refl)
+coded BulkGet = (refl, refl)
+coded BulkGetKeys = (refl, refl)
 
 -- the bytes of what is shown
 abbrev carried : Shown → m.Payload
 carried s = payloadOf s
 
-limited-flat : (e : Entry) → vInt .enc (length (e .value)) ++ (e .value ++ []) ≡ limited valueLimit .enc (e .value)
-unfolding limited as-type seq guard raw
-limited-flat e = rw append-nil
+-- as many entries as a list may have
+abbrev Few : List Entry → Type 0
+Few es = length es ≤ mostListed
 
-shown-enc : (t : Bool) (b : Body) (ns : List ℕ) (f : Option Entry) → Fit b f
-    → flat (shownPieces (shows (formOf t b) ns f)) ≡ fieldsOf (formOf t b) .enc (carried (shows (formOf t b) ns f))
-unfolding shows shownPieces flat fieldsOf noBody valueBody versionedBody statisticsBody as-type limited seq guard raw empty vInt number numberEnc
-shown-enc t m.nothing ns f h = refl
-shown-enc true m.old ns none h = refl
-shown-enc true m.old ns (some e) h = limited-flat e
-shown-enc false m.old ns f h = refl
-shown-enc true m.oldNone ns none h = refl
-shown-enc true m.oldNone ns (some e) h = refl
-shown-enc false m.oldNone ns f h = refl
-shown-enc t m.value ns (some e) h = limited-flat e
-shown-enc t m.versioned ns (some e) h = ap (λ (s : List ℕ). entryVersion .enc (e .version) ++ s) (limited-flat e)
-shown-enc t m.statistics ns f h = append-nil (stats.statistics .enc ns)
+shown-enc : (t : Bool) (b : Body) (ns : List ℕ) (es : List Entry) (f : Option Entry) → Few es → Fit b f
+    → flat (shownPieces (shows (formOf t b) ns es f)) ≡ fieldsOf (formOf t b) .enc (carried (shows (formOf t b) ns es f))
+unfolding shows shownPieces flat fieldsOf noBody valueBody versionedBody statisticsBody listedBody as-type limited seq guard raw empty vInt number numberEnc
+shown-enc t m.nothing ns es f l h = refl
+shown-enc true m.old ns es none l h = refl
+shown-enc true m.old ns es (some e) l h = sized-enc e
+shown-enc false m.old ns es f l h = refl
+shown-enc true m.oldNone ns es none l h = refl
+shown-enc true m.oldNone ns es (some e) l h = refl
+shown-enc false m.oldNone ns es f l h = refl
+shown-enc t m.value ns es (some e) l h = sized-enc e
+shown-enc t m.versioned ns es (some e) l h = ap (λ (s : List ℕ). entryVersion .enc (e .version) ++ s) (sized-enc e)
+shown-enc t m.statistics ns es f l h = append-nil (stats.statistics .enc ns)
+shown-enc t m.entries ns es f l h = listing-enc true es l
+shown-enc t m.keys ns es f l h = listing-enc false es l
 
 empty-good : Valid empty tt
 unfolding empty
@@ -134,9 +144,6 @@ held-fits r st s =
     each-find (names r) Fits (st .entries)
     (each-both Sizes (Issued (st .last)) Fits (λ e z i. (z, omega (arith, i .1, s .last))) (st .entries) (s .sizes) (s .issued))
 
-value-good : (e : Entry) → Fits e → Valid (limited valueLimit) (e .value)
-value-good e h = limited-good valueLimit (e .value) (omega (arith, h .0 .value)) (h .0 .value) (bytes-are (e .value) (h .0 .valueBytes))
-
 -- the statistics of a table
 statistics-valid : (c : Context) (st : State) → IsTable st → c .second < 0x1_0000_0000 → Valid stats.statistics (statistics c st)
 unfolding statistics
@@ -147,37 +154,39 @@ statistics-valid c st s h = statistics-good _ (ap (λ (n : ℕ). suc (suc n)) (s
     small (suc zero) = omega (arith, s .few)
     small (suc (suc j)) = s .counts .most j
 
-shown-good : (t : Bool) (b : Body) (ns : List ℕ) (f : Option Entry) → Valid stats.statistics ns → Fit b f → Maybe Fits f
-    → Valid (fieldsOf (formOf t b)) (carried (shows (formOf t b) ns f))
-unfolding shows fieldsOf noBody valueBody versionedBody statisticsBody
-shown-good t m.nothing ns f g h i = type-good _ _ _ _ refl empty-good
-shown-good true m.old ns none g h i = type-good _ _ _ _ refl (none-good valueLimit)
-shown-good true m.old ns (some e) g h i = type-good _ _ _ _ refl (value-good e i)
-shown-good false m.old ns f g h i = type-good _ _ _ _ refl empty-good
-shown-good true m.oldNone ns none g h i = type-good _ _ _ _ refl (none-good 0)
-shown-good true m.oldNone ns (some e) g h i = type-good _ _ _ _ refl (none-good 0)
-shown-good false m.oldNone ns f g h i = type-good _ _ _ _ refl empty-good
-shown-good t m.value ns (some e) g h i = type-good _ _ _ _ refl (value-good e i)
-shown-good t m.versioned ns (some e) g h i =
-    type-good _ _ _ _ refl (seq-good _ _ (big-good 8 (e .version) (omega (arith, i .1))) (value-good e i))
-shown-good t m.statistics ns f g h i = type-good _ _ _ _ refl g
+shown-good : (t : Bool) (b : Body) (ns : List ℕ) (es : List Entry) (f : Option Entry) → Valid stats.statistics ns → Few es → Each Sizes es → Fit b f
+    → Maybe Fits f → Valid (fieldsOf (formOf t b)) (carried (shows (formOf t b) ns es f))
+unfolding shows fieldsOf noBody valueBody versionedBody statisticsBody listedBody
+shown-good t m.nothing ns es f g l z h i = type-good _ _ _ _ refl empty-good
+shown-good true m.old ns es none g l z h i = type-good _ _ _ _ refl (none-good valueLimit)
+shown-good true m.old ns es (some e) g l z h i = type-good _ _ _ _ refl (value-good e (i .0))
+shown-good false m.old ns es f g l z h i = type-good _ _ _ _ refl empty-good
+shown-good true m.oldNone ns es none g l z h i = type-good _ _ _ _ refl (none-good 0)
+shown-good true m.oldNone ns es (some e) g l z h i = type-good _ _ _ _ refl (none-good 0)
+shown-good false m.oldNone ns es f g l z h i = type-good _ _ _ _ refl empty-good
+shown-good t m.value ns es (some e) g l z h i = type-good _ _ _ _ refl (value-good e (i .0))
+shown-good t m.versioned ns es (some e) g l z h i =
+    type-good _ _ _ _ refl (seq-good _ _ (big-good 8 (e .version) (omega (arith, i .1))) (value-good e (i .0)))
+shown-good t m.statistics ns es f g l z h i = type-good _ _ _ _ refl g
+shown-good t m.entries ns es f g l z h i = type-good _ _ _ _ refl (listing-good true es l z)
+shown-good t m.keys ns es f g l z h i = type-good _ _ _ _ refl (listing-good false es l z)
 
 -- an old value
 abbrev oldOf : Option Entry → Shown
 oldOf none = noValue
 oldOf (some e) = value e
 
-shows-old : (t : Bool) (ns : List ℕ) (f : Option Entry) → shows (formOf t m.old) ns f ≡ cond t (oldOf f) nothing
+shows-old : (t : Bool) (ns : List ℕ) (es : List Entry) (f : Option Entry) → shows (formOf t m.old) ns es f ≡ cond t (oldOf f) nothing
 unfolding shows
-shows-old true ns none = refl
-shows-old true ns (some e) = refl
-shows-old false ns f = refl
+shows-old true ns es none = refl
+shows-old true ns es (some e) = refl
+shows-old false ns es f = refl
 
-shows-none : (t : Bool) (ns : List ℕ) (f : Option Entry) → shows (formOf t m.oldNone) ns f ≡ cond t noValue nothing
+shows-none : (t : Bool) (ns : List ℕ) (es : List Entry) (f : Option Entry) → shows (formOf t m.oldNone) ns es f ≡ cond t noValue nothing
 unfolding shows
-shows-none true ns none = refl
-shows-none true ns (some e) = refl
-shows-none false ns f = refl
+shows-none true ns es none = refl
+shows-none true ns es (some e) = refl
+shows-none false ns es f = refl
 
 -- the bytes of a message, and of the pieces
 message-enc : (comes : ℕ → Bool) (rows : ℕ → List (ℕ × Body)) (flag : Bool) (x : Reply) → message comes rows flag .enc x
@@ -202,26 +211,35 @@ module _ (c : Context) (r : Request) (st : State) where
   unfolding planned
   planned-told = told (r .op) (r .args .entryVersion) (held r st)
 
+  few : length (st .entries) ≤ mostKeys → Few (listedBy r st)
+  few l = omega (arith, listed-few r st)
+
   -- the pieces of a reply are the bytes of its format
-  pub pieces-reply : flat (pieces r (answer c r st)) ≡ reply (askedBy r) .enc (replyTo r (answer c r st))
+  pub pieces-reply : length (st .entries) ≤ mostKeys → flat (pieces r (answer c r st)) ≡ reply (askedBy r) .enc (replyTo r (answer c r st))
   unfolding answer
-  pieces-reply =
+  pieces-reply l =
       pieces-enc r (answer c r st)
       ∙ rw (
         reply-is,
         message-enc (isAwaited (r .op)) (rowsOf (r .op)) (wantsOld r) (replyTo r (answer c r st)),
         coded (r .op) .1,
-        shown-enc (wantsOld r) row (statistics c st) (held r st) (planned-told .1),
+        shown-enc (wantsOld r) row (statistics c st) (listedBy r st) (held r st) (few l) (planned-told .1),
       )
+
+  -- the reply to a bulk request has the entries that it lists, and nothing else
+  pub bulk-reply : (values : Bool) → r .op ≡ bulkOperation values → replyTo r (answer c r st) ≡ bulkReply values (r .id) (map (pairOf values) (listedBy r st))
+  unfolding answer planned plan plans shows bodyAt
+  bulk-reply true e = rw e
+  bulk-reply false e = rw e
 
   -- an old value is shown only if the flag was set; of a key that was absent, and of one kept by an IfUnmodified operation, it has length 0
   pub old-shown : row ≡ m.old → answer c r st .shown ≡ cond (wantsOld r) (oldOf (held r st)) nothing
   unfolding answer
-  old-shown e = rw e (shows-old (wantsOld r) (statistics c st) (held r st))
+  old-shown e = rw e (shows-old (wantsOld r) (statistics c st) (listedBy r st) (held r st))
 
   pub old-none : row ≡ m.oldNone → answer c r st .shown ≡ cond (wantsOld r) noValue nothing
   unfolding answer
-  old-none e = rw e (shows-none (wantsOld r) (statistics c st) (held r st))
+  old-none e = rw e (shows-none (wantsOld r) (statistics c st) (listedBy r st) (held r st))
 
   module _ (v : Valid request r) (s : IsTable st) (h : c .second < 0x1_0000_0000) where
     -- the reply to a well-formed request from a table is valid
@@ -235,14 +253,10 @@ module _ (c : Context) (r : Request) (st : State) where
           op = coded (r .op) .0;
           status = rw (coded (r .op) .1) (planned-told .0);
           body = rw (coded (r .op) .1)
-              (shown-good (wantsOld r) row (statistics c st) (held r st) (statistics-valid c st s h) (planned-told .1) (held-fits r st s));
+              (shown-good (wantsOld r) row (statistics c st) (listedBy r st) (held r st) (statistics-valid c st s h)
+              (few (s .few)) (listed-each r st Sizes (s .sizes)) (planned-told .1) (held-fits r st s));
         }))
 
-    -- "No reply is longer than 279 bytes." "A stats reply may pass 279 bytes and stays under 512."
-    pub answer-most : (r .op ≡ Stats → ⊥) → length (flat (pieces r (answer c r st))) ≤ 279
-    unfolding findCode
-    answer-most n =
-        rw pieces-reply (plain-most (askedBy r) (replyTo r (answer c r st)) (λ e. n (same-some (sym (code-found (r .op)) ∙ ap findCode e))) reply-valid)
-
-    pub answer-under : length (flat (pieces r (answer c r st))) < 512
-    answer-under = rw pieces-reply (omega (arith, reply-most (askedBy r) (replyTo r (answer c r st)) reply-valid))
+    -- no reply is longer than the longest one to its operation
+    pub answer-most : length (flat (pieces r (answer c r st))) ≤ longestReply (r .op)
+    answer-most = rw (pieces-reply (s .few)) (reply-most (r .op) (wantsOld r) (replyTo r (answer c r st)) reply-valid)

@@ -14,7 +14,8 @@ use Rattle.message.specs.Request.{Request, request}
 use Rattle.wire.proofs.Basics.{pick}
 use Rattle.message.proofs.Sizes.{small}
 use Rattle.map.specs.State.{Entry, State, find, without}
-use Rattle.map.specs.Step.{mostKeys, lastVersion, Context, Change, keep, store, drop, empty, Answer, answered, entry, stored, dropped, emptied, isNone, names, held, full, planned, arrive, step}
+use Rattle.map.specs.Plan.{Change, keep, store, drop, empty}
+use Rattle.map.specs.Step.{mostKeys, lastVersion, Context, Answer, answered, entry, stored, dropped, emptied, isNone, names, held, full, planned, arrive, step}
 use Rattle.map.specs.Table.{Each, Sizes, OtherKey, OtherVersion, Issued, IsTable, Ascending}
 use Rattle.map.proofs.Each.{each-map, each-without, pairs-without, each-left, each-add, pairs-add}
 use Rattle.map.proofs.Answered.{changed, did}

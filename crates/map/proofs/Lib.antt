@@ -1,6 +1,8 @@
 pub mod Each
 pub mod Finding
+pub mod SortedLaws
 pub mod Answered
+pub mod ListedLaws
 pub mod Counting
 pub mod Commute
 pub mod Laws
@@ -9,4 +11,5 @@ pub mod CountLaws
 pub mod Keeps
 pub mod Order
 pub mod Sent
+pub mod ListedFormat
 pub mod Format

@@ -1,38 +1,20 @@
 -- A step does not look at the order of the entries. Assumes nothing.
-use mathlib.Core.Path.{_≡_, refl, sym, ap, subst, subst₂, _∙_}
+use mathlib.Core.Path.{_≡_, refl, sym, ap, subst₂, _∙_}
 use mathlib.Core.List.{List, _∷_, List·Permᴰ as Perm, List·Permᴰ·nil as nil, List·Permᴰ·cons as cons, List·Permᴰ·swap as swap, List·Permᴰ·trans as trans, Permᴰ·refl, Permᴰ·append-right}
 use mathlib.Core.Bool.{Bool, true, false, cond}
 use mathlib.Core.Option.{Option, some}
-use Prim.Native.Nat.{ℕ, suc}
-use lib.ListN.{length}
+use Prim.Native.Nat.{ℕ}
 use lib.Dec.{ltb}
 use Rattle.message.specs.Request.{Request, isEmpty}
 use Rattle.map.specs.State.{Entry, State, find, without, hasKey}
-use Rattle.map.specs.Step.{Context, Change, keep, store, drop, empty, Answer, Outcome, lastVersion, stored, dropped, emptied, names, held, full, planned, statistics, answer, act, core, arrive, step}
-use Rattle.map.specs.Table.{Each, Pairs, OtherKey, IsTable}
+use Rattle.map.specs.Plan.{Change, keep, store, drop, empty}
+use Rattle.map.specs.Step.{Context, Answer, Outcome, lastVersion, stored, dropped, emptied, names, held, full, planned, statistics, answer, act, core, arrive, step}
+use Rattle.map.specs.Table.{Pairs, OtherKey, IsTable}
 use Rattle.map.specs.Order.{SameState, SameOutcome}
 use Rattle.wire.proofs.SameLaws.{same-true}
+use Rattle.map.proofs.Each.{same-pairs, same-length}
+use Rattle.map.proofs.ListedLaws.{same-listed}
 use Rattle.map.proofs.Counting.{arrive-table}
-
--- what is said of each entry, or of each two in either order, is said of a list in any order
-same-each : (P : Entry → Type 0) {es fs : List Entry} → Perm es fs → Each P es → Each P fs
-same-each P nil h = tt
-same-each P (cons p s) h = (subst P p (h .0), same-each P s (h .1))
-same-each P (swap p q) h = (subst P q (h .1 .0), (subst P p (h .0), h .1 .1))
-same-each P (trans s t) h = same-each P t (same-each P s h)
-
-same-pairs : (R : Entry → Entry → Type 0) → ((e f : Entry) → R e f → R f e) → {es fs : List Entry} → Perm es fs → Pairs R es → Pairs R fs
-same-pairs R turn nil h = tt
-same-pairs R turn (cons {b = f} {l₁ = es} p s) h = (same-each (R f) s (subst (λ (x : Entry). Each (R x) es) p (h .0)), same-pairs R turn s (h .1))
-same-pairs R turn (swap {a = e} {b = f} {l = es} p q) h =
-    ((subst₂ R q p (turn e f (h .0 .0)), subst (λ (x : Entry). Each (R x) es) q (h .1 .0)), (subst (λ (x : Entry). Each (R x) es) p (h .0 .1), h .1 .1))
-same-pairs R turn (trans s t) h = same-pairs R turn t (same-pairs R turn s h)
-
-pub same-length : {es fs : List Entry} → Perm es fs → length es ≡ length fs
-same-length nil = refl
-same-length (cons p s) = ap suc (same-length s)
-same-length (swap p q) = refl
-same-length (trans s t) = same-length s ∙ same-length t
 
 without-cons : (b : Bool) (e : Entry) {es fs : List Entry} → Perm es fs → Perm (cond b es (e ∷ es)) (cond b fs (e ∷ fs))
 without-cons true e s = s
@@ -99,7 +81,7 @@ module _ (c : Context) (r : Request) (st us : State) (s : SameState st us) (h : 
 
   same-answer : answer c r st ≡ answer c r us
   unfolding answer
-  same-answer = rw (same-planned, same-held, same-statistics)
+  same-answer = rw (same-planned, same-held, same-statistics, same-listed r st us s h)
 
   same-rest : Perm (without (names r) (st .entries)) (without (names r) (us .entries))
   same-rest = same-without (names r) (s .entries)

@@ -1,6 +1,6 @@
 -- The bytes of a reply and of the same reply with another value, of the same length, for the entry of a version. Assumes nothing.
 use mathlib.Core.Path.{_≡_, refl, sym, ap, ap₂, _∙_}
-use mathlib.Core.List.{List, [], _∷_}
+use mathlib.Core.List.{List, [], _∷_, _++_}
 use mathlib.Core.Bool.{Bool, true, false, cond}
 use Prim.Native.Nat.{ℕ, _+_}
 use lib.ListN.{length, length-append}
@@ -8,9 +8,10 @@ use lib.Dec.{eqb}
 use Rattle.wire.specs.Number.{vInt}
 use Rattle.message.specs.Request.{Request}
 use Rattle.map.specs.State.{Entry}
-use Rattle.map.specs.Step.{Shown, nothing, noValue, value, versioned, counted, Answer}
-use Rattle.map.specs.Reply.{Piece, fixed, held, bytes, flat, sized, shownPieces, pieces}
-use Rattle.map.specs.Revalue.{entryWith, shownWith, answerWith, pieceWith, piecesWith}
+use Rattle.map.specs.Shown.{Shown, nothing, noValue, value, versioned, counted, listed}
+use Rattle.map.specs.Step.{Answer}
+use Rattle.map.specs.Reply.{Piece, fixed, held, bytes, flat, sized, itemPieces, listPieces, shownPieces, pieces}
+use Rattle.map.specs.Revalue.{entryWith, entriesWith, shownWith, answerWith, pieceWith, piecesWith}
 
 module _ (v : ℕ) (u w : List ℕ) (len : length w ≡ length u) where
   level : (b : Bool) (x : List ℕ) → length (cond b w x) ≡ length (cond b u x)
@@ -25,6 +26,23 @@ module _ (v : ℕ) (u w : List ℕ) (len : length w ≡ length u) where
   unfolding piecesWith
   sized-with e h = ap (λ (n : ℕ). fixed (vInt .enc n) ∷ held (entryWith v w e) ∷ []) (kept e h)
 
+  append-pieces : (ps qs : List Piece) → piecesWith v w (ps ++ qs) ≡ piecesWith v w ps ++ piecesWith v w qs
+  unfolding piecesWith
+  append-pieces [] qs = refl
+  append-pieces (p ∷ ps) qs = ap₂ _∷_ refl (append-pieces ps qs)
+
+  item-with : (values : Bool) (e : Entry) → entryWith v u e ≡ e → itemPieces values (entryWith v w e) ≡ piecesWith v w (itemPieces values e)
+  unfolding piecesWith
+  item-with true e h = ap₂ _∷_ refl (sized-with e h)
+  item-with false e h = refl
+
+  -- of a list, that entry's bytes alone, though another have the same bytes
+  list-with : (values : Bool) (es : List Entry) → entriesWith v u es ≡ es → listPieces values (entriesWith v w es) ≡ piecesWith v w (listPieces values es)
+  unfolding listPieces entriesWith piecesWith
+  list-with values [] h = refl
+  list-with values (e ∷ es) h =
+      ap₂ _++_ (item-with values e (cc)) (list-with values es (cc)) ∙ sym (append-pieces (itemPieces values e) (listPieces values es))
+
   shown-with : (s : Shown) → shownWith v u s ≡ s → shownPieces (shownWith v w s) ≡ piecesWith v w (shownPieces s)
   unfolding shownWith shownPieces piecesWith
   shown-with nothing h = refl
@@ -32,6 +50,7 @@ module _ (v : ℕ) (u w : List ℕ) (len : length w ≡ length u) where
   shown-with (value e) h = sized-with e (cc)
   shown-with (versioned e) h = ap₂ _∷_ refl (sized-with e (cc))
   shown-with (counted ns) h = refl
+  shown-with (listed values es) h = list-with values es (cc)
 
   -- an answer whose value of the entry of version v is u, and that answer with w for it
   pub pieces-with : (r : Request) (a : Answer) → answerWith v u a ≡ a → pieces r (answerWith v w a) ≡ piecesWith v w (pieces r a)

@@ -1,5 +1,8 @@
 pub mod History
 pub mod State
+pub mod Sorted
+pub mod Plan
+pub mod Shown
 pub mod Step
 pub mod Table
 pub mod Counted

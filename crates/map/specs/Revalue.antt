@@ -6,7 +6,8 @@ use Prim.Native.Nat.{ℕ}
 use lib.Dec.{eqb}
 use Rattle.map.specs.State.{Entry, State, withEntries}
 use Rattle.map.specs.Reply.{Piece, fixed, held}
-use Rattle.map.specs.Step.{Shown, nothing, noValue, value, versioned, counted, Answer, Outcome, refused, answered}
+use Rattle.map.specs.Shown.{Shown, nothing, noValue, value, versioned, counted, listed}
+use Rattle.map.specs.Step.{Answer, Outcome, refused, answered}
 
 module _ (v : ℕ) (w : List ℕ) where
   abbrev pub entryWith : Entry → Entry
@@ -29,6 +30,7 @@ module _ (v : ℕ) (w : List ℕ) where
   shownWith (value e) = value (entryWith e)
   shownWith (versioned e) = versioned (entryWith e)
   shownWith (counted ns) = counted ns
+  shownWith (listed values es) = listed values (entriesWith es)
 
   unfoldable pub answerWith : Answer → Answer
   answerWith a = record { status = a .status; shown = shownWith (a .shown) }

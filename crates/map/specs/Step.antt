@@ -5,14 +5,12 @@ use mathlib.Core.Option.{Option, none, some}
 use Prim.Native.Nat.{ℕ, suc, _+_, _-_, _/_, _%_}
 use lib.ListN.{length}
 use lib.Dec.{eqb, leb, ltb}
-use Rattle.message.specs.declared.Operation.{Operation}
-use Rattle.message.specs.declared.Operation.the-variants.{Put, Get, PutIfAbsent, Replace, ReplaceIfUnmodified, Remove, RemoveIfUnmodified, ContainsKey, GetWithVersion, Clear, Stats, Ping}
 use Rattle.message.specs.Request.{Request, isEmpty}
-use Rattle.message.specs.declared.Form.{Form}
-use Rattle.message.specs.declared.Form.the-variants as form
 use Rattle.message.specs.Reply.{formOf, bodyAt, allowed, table}
 use Rattle.map.specs.History.{tally, startOf}
 use Rattle.map.specs.State.{Entry, State, withEntries, withLast, withHistory, find, without, hasKey}
+use Rattle.map.specs.Plan.{Change, keep, store, drop, empty, Plan, plan}
+use Rattle.map.specs.Shown.{Shown, shows, listedBy}
 
 -- "A served table has at most 128 keys."
 abbrev pub mostKeys : ℕ
@@ -25,61 +23,6 @@ lastVersion = 0x7fff_ffff_ffff_ffff
 -- what a call is given beside the request
 pub record Context : Type 0 where
   pub second : ℕ
-
--- what becomes of the entries
-pub data Change : Type 0 where
-  keep store drop empty : Change
-
-pub record Plan : Type 0 where
-  pub status : ℕ
-  pub change : Change
-
-unfoldable pub plans : ℕ → Change → Plan
-plans s c = record { status = s; change = c }
-
--- one plan where an entry has the key, and another where none has: a plan goes by the version held, if one is
-abbrev pub ifHeld : Option ℕ → Plan → Plan → Plan
-ifHeld none present absent = absent
-ifHeld (some w) present absent = present
-
--- the change where the version held is the one asked for, and what is answered where it is another, or none is held
-abbrev pub ifSame : Option ℕ → ℕ → Change → Plan
-ifSame none v change = plans 0x02 keep
-ifSame (some w) v change = cond (eqb w v) (plans 0x00 change) (plans 0x01 keep)
-
--- The reply table's status and condition: by the operation, the version asked for, and the version of the entry that has the key.
-unfoldable pub plan : Operation → ℕ → Option ℕ → Plan
-plan Put v h = plans 0x00 store
-plan PutIfAbsent v h = ifHeld h (plans 0x01 keep) (plans 0x00 store)
-plan Replace v h = ifHeld h (plans 0x00 store) (plans 0x01 keep)
-plan ReplaceIfUnmodified v h = ifSame h v store
-plan Remove v h = ifHeld h (plans 0x00 drop) (plans 0x02 keep)
-plan RemoveIfUnmodified v h = ifSame h v drop
-plan Get v h = ifHeld h (plans 0x00 keep) (plans 0x02 keep)
-plan GetWithVersion v h = ifHeld h (plans 0x00 keep) (plans 0x02 keep)
-plan ContainsKey v h = ifHeld h (plans 0x00 keep) (plans 0x02 keep)
-plan Clear v h = plans 0x00 empty
-plan Stats v h = plans 0x00 keep
-plan Ping v h = plans 0x00 keep
-
--- what a reply shows: nothing, length 0, the value of an entry, its version and value, or the statistics
-pub data Shown : Type 0 where
-  nothing : Shown
-  noValue : Shown
-  value : Entry → Shown
-  versioned : Entry → Shown
-  counted : List ℕ → Shown
-
--- What a reply of the form shows of the entry held before the step: "length and bytes held before the call, or length 0 if the key was absent". A value of at
--- most 0 bytes is length 0.
-unfoldable pub shows : Form → List ℕ → Option Entry → Shown
-shows form.Nothing ns f = nothing
-shows (form.Value lim) ns none = noValue
-shows (form.Value lim) ns (some e) = cond (eqb lim 0) noValue (value e)
-shows form.Versioned ns none = nothing
-shows form.Versioned ns (some e) = versioned e
-shows form.Statistics ns f = counted ns
-shows form.Text ns f = nothing
 
 pub record Answer : Type 0 where
   pub status : ℕ
@@ -155,7 +98,7 @@ unfoldable pub answer : Context → Request → State → Answer
 answer c r st =
     record {
       status = planned r st .status;
-      shown = shows (formOf (wantsOld r) (allowed (bodyAt (planned r st .status) (table (r .op))))) (statistics c st) (held r st);
+      shown = shows (formOf (wantsOld r) (allowed (bodyAt (planned r st .status) (table (r .op))))) (statistics c st) (listedBy r st) (held r st);
     }
 
 -- "11: the write would take effect and no version is left"

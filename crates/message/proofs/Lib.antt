@@ -10,3 +10,4 @@ pub mod ReplyParts
 pub mod ReplySize
 pub mod ErrorLaws
 pub mod Refusals
+pub mod ListingLaws

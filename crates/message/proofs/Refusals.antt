@@ -12,7 +12,7 @@ use Rattle.wire.proofs.Basics.{pick}
 use Rattle.field.specs.FieldRead.{limitedText}
 use Rattle.text.specs.Text.{isText}
 use Rattle.message.specs.Edition.{Edition}
-use Rattle.message.specs.Request.{Shape, keyed, writes, writesIf, keyedIf, bare, argsOf, operation, transaction, opFits, fields, request}
+use Rattle.message.specs.Request.{Shape, keyed, writes, writesIf, keyedIf, bare, bulk, argsOf, operation, transaction, opFits, fields, request}
 
 -- a reading that is refused only for a reason from 1 to 8
 abbrev Fair : {A : Type 0} → Read A → Type 0
@@ -95,6 +95,7 @@ args-among writesIf =
     (seq-among _ _ (limited-among _) λ _. seq-among _ _ int-among λ _. seq-among _ _ int-among λ _. seq-among _ _ (big-among 8) λ _. limited-among _)
 args-among keyedIf = type-among _ _ _ _ (seq-among _ _ (limited-among _) λ _. big-among 8)
 args-among bare = type-among _ _ _ _ empty-among
+args-among (bulk most) = type-among _ _ _ _ (guard-among _ 8 vInt (lit≤ tt) (lit≤ tt) int-among)
 
 operation-among : (e : Edition) → Among (operation e)
 unfolding operation

@@ -11,6 +11,7 @@ use Rattle.wire.specs.Field.{entryVersion, limited}
 use Rattle.wire.proofs.Laws.{Laws, both, seq-valid, guard-valid, seq-laws, guard-laws, type-laws, empty-laws, refuse-laws, byte-laws}
 use Rattle.wire.proofs.NumberLaws.{vLong-laws}
 use Rattle.wire.proofs.FieldLaws.{big-laws, limited-laws}
+use Rattle.wire.proofs.ListedLaws.{nil-is}
 use Rattle.field.specs.FieldRead.{limitedText}
 use Rattle.statistics.specs.Statistics.{statistics}
 use Rattle.statistics.proofs.StatisticsLaws.{statistics-laws}
@@ -20,23 +21,33 @@ use Rattle.message.specs.declared.Form.the-variants as form
 use Rattle.message.specs.declared.Asked.{Asked}
 use Rattle.message.specs.Operation.{findCode}
 use Rattle.message.specs.Request.{valueLimit}
-use Rattle.message.specs.Reply.{textLimit, Body, bodyAt, isAllowed, allowed, Payload, payload, counted, noEntry, noValue, noText, noStatistics, noBody, valueBody, versionedBody, textBody, statisticsBody, fieldsOf, formOf, Fields, fields, toReply, fromReply, message, isAwaited, rowsOf, replyTo, reply}
+use Rattle.message.specs.Reply.{textLimit, Body, bodyAt, isAllowed, allowed, Payload, payload, counted, noEntry, noValue, noText, noStatistics, noEntries, noLists, bulkPayload, noBody, valueBody, versionedBody, textBody, statisticsBody, listedBody, fieldsOf, formOf, Fields, fields, toReply, fromReply, message, isAwaited, rowsOf, replyTo, reply}
+use Rattle.message.specs.Listing.{listing}
 use Rattle.message.proofs.RequestLaws.{is-empty, is-zero, text-laws}
+use Rattle.message.proofs.ListingLaws.{listing-laws}
 
 -- what a reply carries
-same-all : (p : Payload) {e : ℕ} {v t ns : List ℕ} → e ≡ p .entryVersion → v ≡ p .value → t ≡ p .text → ns ≡ p .statistics
-    → _≡_ {A = Payload} (record { entryVersion = e; value = v; text = t; statistics = ns }) p
-same-all p q r s n = rw (q, r, s, n)
+same-all : (p : Payload) {e : ℕ} {v t ns : List ℕ} {es : List (List ℕ × List ℕ)} → e ≡ p .entryVersion → v ≡ p .value → t ≡ p .text → ns ≡ p .statistics
+    → es ≡ p .entries → _≡_ {A = Payload} (record { entryVersion = e; value = v; text = t; statistics = ns; entries = es }) p
+same-all p q r s n m = rw (q, r, s, n, m)
 
-same-payload : (p : Payload) {e : ℕ} {v t : List ℕ} → noStatistics p ≡ true → e ≡ p .entryVersion → v ≡ p .value → t ≡ p .text → payload e v t ≡ p
-same-payload p n q r s = same-all p q r s (is-empty (p .statistics) n)
+same-payload : (p : Payload) {e : ℕ} {v t : List ℕ} → noLists p ≡ true → e ≡ p .entryVersion → v ≡ p .value → t ≡ p .text → payload e v t ≡ p
+same-payload p n q r s = let x = both (noStatistics p) (noEntries p) n in same-all p q r s (is-empty (p .statistics) (x .0)) (nil-is (p .entries) (x .1))
+
+-- no number, no value and no text
+plain-is : (p : Payload) {ns : List ℕ} {es : List (List ℕ × List ℕ)} → (noEntry p && (noValue p && noText p)) ≡ true → ns ≡ p .statistics → es ≡ p .entries
+    → _≡_ {A = Payload} (record { entryVersion = 0; value = []; text = []; statistics = ns; entries = es }) p
+plain-is p t n m =
+    let x = both (noEntry p) (noValue p && noText p) t in
+    let y = both (noValue p) (noText p) (x .1) in
+    same-all p (is-zero _ (x .0)) (is-empty _ (y .0)) (is-empty _ (y .1)) n m
 
 noBody-laws : Laws noBody
 unfolding noBody
 noBody-laws =
-    type-laws (λ p. noStatistics p && (noEntry p && (noValue p && noText p))) (λ u. payload 0 [] []) (λ p. tt) empty empty-laws
+    type-laws (λ p. noLists p && (noEntry p && (noValue p && noText p))) (λ u. payload 0 [] []) (λ p. tt) empty empty-laws
     (λ p t.
-    let n = both (noStatistics p) (noEntry p && (noValue p && noText p)) t in
+    let n = both (noLists p) (noEntry p && (noValue p && noText p)) t in
     let x = both (noEntry p) (noValue p && noText p) (n .1) in
     let y = both (noValue p) (noText p) (x .1) in
     same-payload p (n .0) (is-zero _ (x .0)) (is-empty _ (y .0)) (is-empty _ (y .1)))
@@ -45,9 +56,9 @@ noBody-laws =
 valueBody-laws : (lim : ℕ) → Laws (valueBody lim)
 unfolding valueBody
 valueBody-laws lim =
-    type-laws (λ p. noStatistics p && (noEntry p && noText p)) (λ v. payload 0 v []) (λ p. p .value) (limited lim) (limited-laws lim)
+    type-laws (λ p. noLists p && (noEntry p && noText p)) (λ v. payload 0 v []) (λ p. p .value) (limited lim) (limited-laws lim)
     (λ p t.
-    let n = both (noStatistics p) (noEntry p && noText p) t in
+    let n = both (noLists p) (noEntry p && noText p) t in
     let x = both (noEntry p) (noText p) (n .1) in
     same-payload p (n .0) (is-zero _ (x .0)) refl (is-empty _ (x .1)))
     (λ s v. (refl, refl))
@@ -55,15 +66,15 @@ valueBody-laws lim =
 versionedBody-laws : Laws versionedBody
 unfolding versionedBody
 versionedBody-laws =
-    type-laws (λ p. noStatistics p && noText p) (λ p. payload (p .0) (p .1) []) (λ p. (p .entryVersion, p .value)) (seq entryVersion λ _. limited valueLimit)
-    (seq-laws _ _ (big-laws 8) λ _. limited-laws valueLimit) (λ p t. let n = both (noStatistics p) (noText p) t in same-payload p (n .0) refl refl (is-empty _ (n .1))) (λ s v. (refl, refl))
+    type-laws (λ p. noLists p && noText p) (λ p. payload (p .0) (p .1) []) (λ p. (p .entryVersion, p .value)) (seq entryVersion λ _. limited valueLimit)
+    (seq-laws _ _ (big-laws 8) λ _. limited-laws valueLimit) (λ p t. let n = both (noLists p) (noText p) t in same-payload p (n .0) refl refl (is-empty _ (n .1))) (λ s v. (refl, refl))
 
 textBody-laws : Laws textBody
 unfolding textBody
 textBody-laws =
-    type-laws (λ p. noStatistics p && (noEntry p && noValue p)) (λ t. payload 0 [] t) (λ p. p .text) (limitedText textLimit) (text-laws textLimit)
+    type-laws (λ p. noLists p && (noEntry p && noValue p)) (λ t. payload 0 [] t) (λ p. p .text) (limitedText textLimit) (text-laws textLimit)
     (λ p t.
-    let n = both (noStatistics p) (noEntry p && noValue p) t in
+    let n = both (noLists p) (noEntry p && noValue p) t in
     let x = both (noEntry p) (noValue p) (n .1) in
     same-payload p (n .0) (is-zero _ (x .0)) (is-empty _ (x .1)) refl)
     (λ s v. (refl, refl))
@@ -71,11 +82,15 @@ textBody-laws =
 statisticsBody-laws : Laws statisticsBody
 unfolding statisticsBody
 statisticsBody-laws =
-    type-laws (λ p. noEntry p && (noValue p && noText p)) counted (λ p. p .statistics) statistics statistics-laws
-    (λ p t.
-    let x = both (noEntry p) (noValue p && noText p) t in
-    let y = both (noValue p) (noText p) (x .1) in
-    same-all p (is-zero _ (x .0)) (is-empty _ (y .0)) (is-empty _ (y .1)) refl)
+    type-laws (λ p. noEntries p && (noEntry p && (noValue p && noText p))) counted (λ p. p .statistics) statistics statistics-laws
+    (λ p t. let n = both (noEntries p) (noEntry p && (noValue p && noText p)) t in plain-is p (n .1) refl (nil-is (p .entries) (n .0)))
+    (λ s v. (refl, refl))
+
+listedBody-laws : (values : Bool) → Laws (listedBody values)
+unfolding listedBody
+listedBody-laws values =
+    type-laws (λ p. noStatistics p && (noEntry p && (noValue p && noText p))) bulkPayload (λ p. p .entries) (listing values) (listing-laws values)
+    (λ p t. let n = both (noStatistics p) (noEntry p && (noValue p && noText p)) t in plain-is p (n .1) (is-empty (p .statistics) (n .0)) refl)
     (λ s v. (refl, refl))
 
 fieldsOf-laws : (f : Form) → Laws (fieldsOf f)
@@ -85,6 +100,7 @@ fieldsOf-laws (form.Value lim) = valueBody-laws lim
 fieldsOf-laws form.Versioned = versionedBody-laws
 fieldsOf-laws form.Text = textBody-laws
 fieldsOf-laws form.Statistics = statisticsBody-laws
+fieldsOf-laws (form.Listed values) = listedBody-laws values
 
 -- a message, whatever operations may come and whatever their rows are
 module _ (comes : ℕ → Bool) (rows : ℕ → List (ℕ × Body)) (flag : Bool) where

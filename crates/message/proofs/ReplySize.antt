@@ -1,23 +1,24 @@
 -- The greatest length of a reply. Assumes nothing.
-use mathlib.Core.Path.{_≡_, refl, sym, _∙_}
+use mathlib.Core.Path.{_≡_, refl}
 use mathlib.Core.List.{List, [], _∷_}
 use mathlib.Core.Option.{Option, none, some}
 use mathlib.Core.Bool.{Bool, true, false, cond, _&&_}
-use Prim.Native.Nat.{ℕ, _+_, _≤_}
+use Prim.Native.Nat.{ℕ, _+_, _*_, _≤_, zero-le}
 use native.Mathlib.Omega.{arith}
 use lib.ListN.{length}
-use lib.Dec.{eqb, lit≤}
-use Rattle.wire.specs.Codec.{Valid, refuse}
+use lib.Dec.{eqb, leb, lit≤}
+use borrow.Author.Tests.{leb-true}
+use Rattle.wire.specs.Codec.{Valid}
 use Rattle.wire.proofs.Laws.{never, both, guard-valid}
 use Rattle.wire.proofs.Basics.{pick}
 use Rattle.statistics.proofs.Writing.{statistics-most}
 use Rattle.message.specs.declared.Operation.{Operation}
-use Rattle.message.specs.declared.Operation.the-variants.{Put, Get, PutIfAbsent, Replace, ReplaceIfUnmodified, Remove, RemoveIfUnmodified, ContainsKey, GetWithVersion, Clear, Stats, Ping}
-use Rattle.message.specs.declared.Asked.{Asked}
-use Rattle.message.specs.Operation.{codeOf, findCode}
+use Rattle.message.specs.declared.Operation.the-variants.{Put, Get, PutIfAbsent, Replace, ReplaceIfUnmodified, Remove, RemoveIfUnmodified, ContainsKey, GetWithVersion, Clear, Stats, Ping, BulkGet, BulkGetKeys}
+use Rattle.message.specs.Operation.{codeOf}
 use Rattle.message.specs.Request.{valueLimit}
-use Rattle.message.specs.Reply.{textLimit, Body, nothing, old, oldNone, value, versioned, text, statistics, table, errors, errorCode, bodyAt, isAllowed, allowed, Reply, noBody, valueBody, versionedBody, textBody, statisticsBody, fieldsOf, formOf, fields, message, isAwaited, rowsOf, replyTo, reply, errorReply}
-use Rattle.message.proofs.RequestLaws.{found-code}
+use Rattle.message.specs.Reply.{textLimit, Body, nothing, old, oldNone, value, versioned, text, statistics, entries, keys, asked, errors, errorCode, bodyAt, isAllowed, allowed, Reply, noBody, valueBody, versionedBody, textBody, statisticsBody, listedBody, fieldsOf, formOf, fields, message, isAwaited, rowsOf, reply, errorReply}
+use Rattle.message.proofs.RequestLaws.{code-found}
+use Rattle.message.proofs.ListingLaws.{longest, listing-most}
 use Rattle.message.proofs.Most.{Most, most-less, seq-most, guard-most, type-most, empty-most, byte-most, big-most, vLong-most, limited-most, text-most}
 
 -- header and body
@@ -52,90 +53,91 @@ textBody-most : Most textBody 65
 unfolding textBody
 textBody-most = type-most _ _ _ (text-most textLimit 0 (lit≤ tt))
 
--- a body that is no statistics
-abbrev plain : Body → Bool
-plain statistics = false
-plain nothing = true
-plain old = true
-plain oldNone = true
-plain value = true
-plain versioned = true
-plain text = true
+listedBody-most : (values : Bool) → Most (listedBody values) (1 + 128 * (1 + longest values))
+unfolding listedBody
+listedBody-most values = type-most _ _ _ (listing-most values)
 
-body-most : (flag : Bool) (b : Body) → plain b ≡ true → Most (fieldsOf (formOf flag b)) 266
+-- the greatest length of a body
+abbrev bodyLongest : Body → ℕ
+bodyLongest nothing = 0
+bodyLongest old = 258
+bodyLongest oldNone = 258
+bodyLongest value = 258
+bodyLongest versioned = 266
+bodyLongest text = 65
+bodyLongest statistics = 294
+bodyLongest entries = 41_473
+bodyLongest keys = 8_449
+
+body-most : (flag : Bool) (b : Body) → Most (fieldsOf (formOf flag b)) (bodyLongest b)
 unfolding fieldsOf valueBody versionedBody
-body-most flag nothing h = most-less (lit≤ tt) noBody-most
-body-most true old h = most-less (lit≤ tt) valueBody-most
-body-most false old h = most-less (lit≤ tt) noBody-most
-body-most true oldNone h = most-less (lit≤ tt) (type-most _ _ _ (limited-most 0 0 (lit≤ tt)))
-body-most false oldNone h = most-less (lit≤ tt) noBody-most
-body-most flag value h = most-less (lit≤ tt) valueBody-most
-body-most flag versioned h = type-most _ _ _ (seq-most (big-most 8) λ _ _. limited-most valueLimit 1 (lit≤ tt))
-body-most flag text h = most-less (lit≤ tt) textBody-most
-body-most flag statistics h = never (cc)
+body-most flag nothing = noBody-most
+body-most true old = valueBody-most
+body-most false old = most-less (lit≤ tt) noBody-most
+body-most true oldNone = most-less (lit≤ tt) (type-most _ _ _ (limited-most 0 0 (lit≤ tt)))
+body-most false oldNone = most-less (lit≤ tt) noBody-most
+body-most flag value = valueBody-most
+body-most flag versioned = type-most _ _ _ (seq-most (big-most 8) λ _ _. limited-most valueLimit 1 (lit≤ tt))
+body-most flag text = textBody-most
+body-most flag statistics = statisticsBody-most
+body-most flag entries = listedBody-most true
+body-most flag keys = listedBody-most false
 
-any-most : (flag : Bool) (b : Body) → Most (fieldsOf (formOf flag b)) 294
-unfolding fieldsOf
-any-most flag nothing = most-less (lit≤ tt) (body-most flag nothing refl)
-any-most flag old = most-less (lit≤ tt) (body-most flag old refl)
-any-most flag oldNone = most-less (lit≤ tt) (body-most flag oldNone refl)
-any-most flag value = most-less (lit≤ tt) (body-most flag value refl)
-any-most flag versioned = most-less (lit≤ tt) (body-most flag versioned refl)
-any-most flag text = most-less (lit≤ tt) (body-most flag text refl)
-any-most flag statistics = statisticsBody-most
+-- rows of which none carries more than n bytes
+abbrev under : ℕ → List (ℕ × Body) → Bool
+under n [] = true
+under n (r ∷ rs) = leb (bodyLongest (r .1)) n && under n rs
 
--- rows of which none carries statistics
-abbrev plains : List (ℕ × Body) → Bool
-plains [] = true
-plains (r ∷ rs) = plain (r .1) && plains rs
-
-plain-at : (s : ℕ) (rs : List (ℕ × Body)) → plains rs ≡ true → plain (allowed (bodyAt s rs)) ≡ true
+under-at : (n s : ℕ) (rs : List (ℕ × Body)) → under n rs ≡ true → bodyLongest (allowed (bodyAt s rs)) ≤ n
 unfolding bodyAt
-plain-at s [] h = refl
-plain-at s (r ∷ rs) h =
-    let w = both (plain (r .1)) (plains rs) h in
-    pick (λ x. plain (allowed x) ≡ true) (eqb s (r .0)) (λ e. w .0) (plain-at s rs (w .1))
+under-at n s [] h = zero-le
+under-at n s (r ∷ rs) h =
+    let w = both (leb (bodyLongest (r .1)) n) (under n rs) h in
+    pick (λ x. bodyLongest (allowed x) ≤ n) (eqb s (r .0)) (λ e. leb-true (bodyLongest (r .1)) n (w .0)) (under-at n s rs (w .1))
 
-plain-table : (o : Operation) → (codeOf o ≡ 0x15 → ⊥) → plains (table o) ≡ true
-plain-table Put h = refl
-plain-table Get h = refl
-plain-table PutIfAbsent h = refl
-plain-table Replace h = refl
-plain-table ReplaceIfUnmodified h = refl
-plain-table Remove h = refl
-plain-table RemoveIfUnmodified h = refl
-plain-table ContainsKey h = refl
-plain-table GetWithVersion h = refl
-plain-table Clear h = refl
-plain-table Stats h = absurd (h refl)
-plain-table Ping h = refl
+-- the greatest length of what a reply to an operation carries
+abbrev mostCarried : Operation → ℕ
+mostCarried Put = 266
+mostCarried Get = 266
+mostCarried PutIfAbsent = 266
+mostCarried Replace = 266
+mostCarried ReplaceIfUnmodified = 266
+mostCarried Remove = 266
+mostCarried RemoveIfUnmodified = 266
+mostCarried ContainsKey = 266
+mostCarried GetWithVersion = 266
+mostCarried Clear = 266
+mostCarried Stats = 294
+mostCarried Ping = 266
+mostCarried BulkGet = 41_473
+mostCarried BulkGetKeys = 8_449
 
-plain-rows : (o : Operation) (op : ℕ) → (codeOf o ≡ 0x15 → ⊥) → plains (rowsOf o op) ≡ true
-plain-rows o op h = pick (λ rs. plains rs ≡ true) (eqb op errorCode) (λ e. refl) (plain-table o h)
+under-rows : (o : Operation) (op : ℕ) → under (mostCarried o) (rowsOf o op) ≡ true
+under-rows Put op = pick (λ rs. under 266 rs ≡ true) (eqb op errorCode) (λ e. refl) refl
+under-rows Get op = pick (λ rs. under 266 rs ≡ true) (eqb op errorCode) (λ e. refl) refl
+under-rows PutIfAbsent op = pick (λ rs. under 266 rs ≡ true) (eqb op errorCode) (λ e. refl) refl
+under-rows Replace op = pick (λ rs. under 266 rs ≡ true) (eqb op errorCode) (λ e. refl) refl
+under-rows ReplaceIfUnmodified op = pick (λ rs. under 266 rs ≡ true) (eqb op errorCode) (λ e. refl) refl
+under-rows Remove op = pick (λ rs. under 266 rs ≡ true) (eqb op errorCode) (λ e. refl) refl
+under-rows RemoveIfUnmodified op = pick (λ rs. under 266 rs ≡ true) (eqb op errorCode) (λ e. refl) refl
+under-rows ContainsKey op = pick (λ rs. under 266 rs ≡ true) (eqb op errorCode) (λ e. refl) refl
+under-rows GetWithVersion op = pick (λ rs. under 266 rs ≡ true) (eqb op errorCode) (λ e. refl) refl
+under-rows Clear op = pick (λ rs. under 266 rs ≡ true) (eqb op errorCode) (λ e. refl) refl
+under-rows Stats op = pick (λ rs. under 294 rs ≡ true) (eqb op errorCode) (λ e. refl) refl
+under-rows Ping op = pick (λ rs. under 266 rs ≡ true) (eqb op errorCode) (λ e. refl) refl
+under-rows BulkGet op = pick (λ rs. under 41_473 rs ≡ true) (eqb op errorCode) (λ e. refl) refl
+under-rows BulkGetKeys op = pick (λ rs. under 8_449 rs ≡ true) (eqb op errorCode) (λ e. refl) refl
 
-refuse-most : (n : ℕ) → Most (refuse {A = Reply} 4) n
-unfolding refuse
-refuse-most n = record { most = λ r v. never (cc) }
+-- "No reply is longer than 279 bytes" but "a stats reply may pass 279 bytes and stays under 512", and "such a reply may pass 279 bytes": that of bulkGet
+-- has at most 41,486, and that of bulkGetKeys 8,462
+abbrev pub longestReply : Operation → ℕ
+longestReply o = 13 + mostCarried o
 
-reply-to-most : (o : Option Operation) (flag : Bool) → Most (replyTo o flag) 307
-reply-to-most none flag = refuse-most 307
-reply-to-most (some o) flag = message-most (isAwaited o) (rowsOf o) flag 294 (λ op s e. any-most flag (allowed (bodyAt s (rowsOf o op))))
-
-plain-to-most : (o : Option Operation) (flag : Bool) → ((p : Operation) → o ≡ some p → codeOf p ≡ 0x15 → ⊥) → Most (replyTo o flag) 279
-plain-to-most none flag h = refuse-most 279
-plain-to-most (some o) flag h =
-    message-most (isAwaited o) (rowsOf o) flag 266
-    (λ op s e. body-most flag (allowed (bodyAt s (rowsOf o op))) (plain-at s (rowsOf o op) (plain-rows o op (h o refl))))
-
--- "A stats reply may pass 279 bytes and stays under 512": it has at most 307, and no reply has more
-pub reply-most : (a : Asked) (r : Reply) → Valid (reply a) r → length (reply a .enc r) ≤ 307
+pub reply-most : (o : Operation) (flag : Bool) (r : Reply) → Valid (reply (asked (codeOf o) flag)) r → length (reply (asked (codeOf o) flag) .enc r) ≤ longestReply o
 unfolding reply
-reply-most a = reply-to-most (findCode (a .op)) (a .flag) .most
-
--- "No reply is longer than 279 bytes": none but that of stats
-pub plain-most : (a : Asked) (r : Reply) → (a .op ≡ 0x15 → ⊥) → Valid (reply a) r → length (reply a .enc r) ≤ 279
-unfolding reply
-plain-most a r h = plain-to-most (findCode (a .op)) (a .flag) (λ p e q. h (sym (found-code (a .op) p e) ∙ q)) .most r
+reply-most o flag r v =
+    let m = message-most (isAwaited o) (rowsOf o) flag (mostCarried o) (λ op s e. most-less (under-at (mostCarried o) s (rowsOf o op) (under-rows o op)) (body-most flag (allowed (bodyAt s (rowsOf o op))))) in
+    rw (code-found o) (m .most r (rw (code-found o) at v))
 
 -- each error carries a text
 record Told (x : Option Body) : Type 0 where

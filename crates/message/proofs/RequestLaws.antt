@@ -18,10 +18,10 @@ use Rattle.wire.proofs.FieldLaws.{big-laws, limited-laws}
 use Rattle.text.specs.Text.{isText}
 use Rattle.field.specs.FieldRead.{limitedText}
 use Rattle.message.specs.declared.Operation.{Operation}
-use Rattle.message.specs.declared.Operation.the-variants.{Put, Get, PutIfAbsent, Replace, ReplaceIfUnmodified, Remove, RemoveIfUnmodified, ContainsKey, GetWithVersion, Clear, Stats, Ping}
+use Rattle.message.specs.declared.Operation.the-variants.{Put, Get, PutIfAbsent, Replace, ReplaceIfUnmodified, Remove, RemoveIfUnmodified, ContainsKey, GetWithVersion, Clear, Stats, Ping, BulkGet, BulkGetKeys}
 use Rattle.message.specs.Operation.{codeOf, findCode, isKnown, known}
 use Rattle.message.specs.Edition.{Edition}
-use Rattle.message.specs.Request.{nameLimit, keyLimit, valueLimit, Shape, keyed, writes, writesIf, keyedIf, bare, shapeOf, Args, args, isEmpty, noTimes, noEntry, noValue, argsOf, opFits, operation, transaction, Fields, isVersion, editionAt, fields, toRequest, fromRequest, request}
+use Rattle.message.specs.Request.{nameLimit, keyLimit, valueLimit, Shape, keyed, writes, writesIf, keyedIf, bare, bulk, shapeOf, Args, args, isEmpty, noTimes, noEntry, noBulk, noValue, argsOf, opFits, operation, transaction, Fields, isVersion, editionAt, fields, toRequest, fromRequest, request}
 
 -- an operation and its code
 pub code-found : (o : Operation) → findCode (codeOf o) ≡ some o
@@ -38,6 +38,8 @@ code-found GetWithVersion = refl
 code-found Clear = refl
 code-found Stats = refl
 code-found Ping = refl
+code-found BulkGet = refl
+code-found BulkGetKeys = refl
 
 -- a code that is known is that of the operation found
 record Coded (n : ℕ) (x : Option Operation) : Type 0 where
@@ -50,13 +52,10 @@ coded : (n : ℕ) → Coded n (findCode n)
 unfolding findCode
 coded n =
     or n Put (or n Get (or n PutIfAbsent (or n Replace (or n ReplaceIfUnmodified (or n Remove (or n RemoveIfUnmodified (or n ContainsKey (or n GetWithVersion
-    (or n Clear (or n Stats (or n Ping (record { is = λ e. never (cc) }))))))))))))
+    (or n Clear (or n Stats (or n Ping (or n BulkGet (or n BulkGetKeys (record { is = λ e. never (cc) }))))))))))))))
 
 known-code : (n : ℕ) → isKnown (findCode n) ≡ true → codeOf (known (findCode n)) ≡ n
 known-code n = coded n .is
-
-pub found-code : (n : ℕ) (o : Operation) → findCode n ≡ some o → codeOf o ≡ n
-found-code n o e = rw e at (known-code n (rw e))
 
 pub operation-laws : (e : Edition) → Laws (operation e)
 unfolding operation
@@ -85,61 +84,84 @@ is-zero n e = sym (eqb-true n 0 e)
 
 -- arguments of which no times and no value are sent
 module _ (a : Args) where
-  same-args : {k v : List ℕ} {l m e : ℕ} → k ≡ a .key → l ≡ a .lifespan → m ≡ a .maxIdle → e ≡ a .entryVersion → v ≡ a .value → args k l m e v ≡ a
-  same-args p q r s t = rw (p, q, r, s, t)
+  same-args : {k v : List ℕ} {l m e b : ℕ} → k ≡ a .key → l ≡ a .lifespan → m ≡ a .maxIdle → e ≡ a .entryVersion → b ≡ a .bulk → v ≡ a .value
+      → args k l m e b v ≡ a
+  same-args p q r s n t = rw (p, q, r, s, n, t)
 
-  timeless : {k : List ℕ} {e : ℕ} → k ≡ a .key → noTimes a ≡ true → e ≡ a .entryVersion → noValue a ≡ true → args k 0 0 e [] ≡ a
-  timeless p t q e =
+  timeless : {k : List ℕ} {e b : ℕ} → k ≡ a .key → noTimes a ≡ true → e ≡ a .entryVersion → b ≡ a .bulk → noValue a ≡ true → args k 0 0 e b [] ≡ a
+  timeless p t q n e =
       let x = both (eqb (a .lifespan) 0) (eqb (a .maxIdle) 0) t in
-      same-args p (is-zero _ (x .0)) (is-zero _ (x .1)) q (is-empty _ e)
+      same-args p (is-zero _ (x .0)) (is-zero _ (x .1)) q n (is-empty _ e)
 
-  key-only : {k : List ℕ} → k ≡ a .key → (noTimes a && (noEntry a && noValue a)) ≡ true → args k 0 0 0 [] ≡ a
+  key-only : {k : List ℕ} → k ≡ a .key → (noTimes a && (noEntry a && (noBulk a && noValue a))) ≡ true → args k 0 0 0 0 [] ≡ a
   key-only p t =
-      let x = both (noTimes a) (noEntry a && noValue a) t in
-      let y = both (noEntry a) (noValue a) (x .1) in
-      timeless p (x .0) (is-zero _ (y .0)) (y .1)
+      let x = both (noTimes a) (noEntry a && (noBulk a && noValue a)) t in
+      let y = both (noEntry a) (noBulk a && noValue a) (x .1) in
+      let z = both (noBulk a) (noValue a) (y .1) in
+      timeless p (x .0) (is-zero _ (y .0)) (is-zero _ (z .0)) (z .1)
 
-  key-entry : (noTimes a && noValue a) ≡ true → args (a .key) 0 0 (a .entryVersion) [] ≡ a
-  key-entry t = let x = both (noTimes a) (noValue a) t in timeless refl (x .0) refl (x .1)
+  key-entry : (noTimes a && (noBulk a && noValue a)) ≡ true → args (a .key) 0 0 (a .entryVersion) 0 [] ≡ a
+  key-entry t =
+      let x = both (noTimes a) (noBulk a && noValue a) t in
+      let y = both (noBulk a) (noValue a) (x .1) in
+      timeless refl (x .0) refl (is-zero _ (y .0)) (y .1)
 
-  none : (isEmpty (a .key) && (noTimes a && (noEntry a && noValue a))) ≡ true → args [] 0 0 0 [] ≡ a
-  none t = let x = both (isEmpty (a .key)) (noTimes a && (noEntry a && noValue a)) t in key-only (is-empty _ (x .0)) (x .1)
+  none : (isEmpty (a .key) && (noTimes a && (noEntry a && (noBulk a && noValue a)))) ≡ true → args [] 0 0 0 0 [] ≡ a
+  none t = let x = both (isEmpty (a .key)) (noTimes a && (noEntry a && (noBulk a && noValue a))) t in key-only (is-empty _ (x .0)) (x .1)
 
-  pub keyed-is : Valid (argsOf keyed) a → args (a .key) 0 0 0 [] ≡ a
+  bulk-only : (isEmpty (a .key) && (noTimes a && (noEntry a && noValue a))) ≡ true → args [] 0 0 0 (a .bulk) [] ≡ a
+  bulk-only t =
+      let x = both (isEmpty (a .key)) (noTimes a && (noEntry a && noValue a)) t in
+      let y = both (noTimes a) (noEntry a && noValue a) (x .1) in
+      let z = both (noEntry a) (noValue a) (y .1) in
+      timeless (is-empty _ (x .0)) (y .0) (is-zero _ (z .0)) refl (z .1)
+
+  write-only : (noEntry a && noBulk a) ≡ true → args (a .key) (a .lifespan) (a .maxIdle) 0 0 (a .value) ≡ a
+  write-only t = let x = both (noEntry a) (noBulk a) t in same-args refl refl refl (is-zero _ (x .0)) (is-zero _ (x .1)) refl
+
+  pub keyed-is : Valid (argsOf keyed) a → args (a .key) 0 0 0 0 [] ≡ a
   unfolding argsOf
   keyed-is v = key-only refl (type-valid _ _ _ _ a v .0)
 
-  pub keyedIf-is : Valid (argsOf keyedIf) a → args (a .key) 0 0 (a .entryVersion) [] ≡ a
+  pub keyedIf-is : Valid (argsOf keyedIf) a → args (a .key) 0 0 (a .entryVersion) 0 [] ≡ a
   unfolding argsOf
   keyedIf-is v = key-entry (type-valid _ _ _ _ a v .0)
 
-  pub bare-is : Valid (argsOf bare) a → args [] 0 0 0 [] ≡ a
+  pub bare-is : Valid (argsOf bare) a → args [] 0 0 0 0 [] ≡ a
   unfolding argsOf
   bare-is v = none (type-valid _ _ _ _ a v .0)
+
+  pub bulk-is : (most : ℕ) → Valid (argsOf (bulk most)) a → args [] 0 0 0 (a .bulk) [] ≡ a
+  unfolding argsOf
+  bulk-is most v = bulk-only (type-valid _ _ _ _ a v .0)
 
 args-laws : (s : Shape) → Laws (argsOf s)
 unfolding argsOf
 args-laws keyed =
-    type-laws (λ a. noTimes a && (noEntry a && noValue a)) (λ k. args k 0 0 0 []) (λ a. a .key) (limited keyLimit) (limited-laws keyLimit)
+    type-laws (λ a. noTimes a && (noEntry a && (noBulk a && noValue a))) (λ k. args k 0 0 0 0 []) (λ a. a .key) (limited keyLimit) (limited-laws keyLimit)
     (λ a t. key-only a refl t) (λ k v. (refl, refl))
 args-laws writes =
-    type-laws noEntry (λ p. args (p .0) (p .1 .0) (p .1 .1 .0) 0 (p .1 .1 .1)) (λ a. (a .key, (a .lifespan, (a .maxIdle, a .value))))
+    type-laws (λ a. noEntry a && noBulk a) (λ p. args (p .0) (p .1 .0) (p .1 .1 .0) 0 0 (p .1 .1 .1)) (λ a. (a .key, (a .lifespan, (a .maxIdle, a .value))))
     (seq (limited keyLimit) λ _. seq vInt λ _. seq vInt λ _. limited valueLimit)
     (seq-laws _ _ (limited-laws keyLimit) λ _. seq-laws _ _ vInt-laws λ _. seq-laws _ _ vInt-laws λ _. limited-laws valueLimit)
-    (λ a t. same-args a refl refl refl (is-zero _ t) refl) (λ p v. (refl, refl))
+    (λ a t. write-only a t) (λ p v. (refl, refl))
 args-laws writesIf =
-    type-laws all (λ p. args (p .0) (p .1 .0) (p .1 .1 .0) (p .1 .1 .1 .0) (p .1 .1 .1 .1))
+    type-laws noBulk (λ p. args (p .0) (p .1 .0) (p .1 .1 .0) (p .1 .1 .1 .0) 0 (p .1 .1 .1 .1))
     (λ a. (a .key, (a .lifespan, (a .maxIdle, (a .entryVersion, a .value)))))
     (seq (limited keyLimit) λ _. seq vInt λ _. seq vInt λ _. seq entryVersion λ _. limited valueLimit)
     (seq-laws _ _ (limited-laws keyLimit) λ _. seq-laws _ _ vInt-laws λ _. seq-laws _ _ vInt-laws λ _. seq-laws _ _ (big-laws 8) λ _. limited-laws valueLimit)
-    (λ a t. refl) (λ p v. (refl, refl))
+    (λ a t. same-args a refl refl refl refl (is-zero _ t) refl) (λ p v. (refl, refl))
 args-laws keyedIf =
-    type-laws (λ a. noTimes a && noValue a) (λ p. args (p .0) 0 0 (p .1) []) (λ a. (a .key, a .entryVersion)) (seq (limited keyLimit) λ _. entryVersion)
+    type-laws (λ a. noTimes a && (noBulk a && noValue a)) (λ p. args (p .0) 0 0 (p .1) 0 []) (λ a. (a .key, a .entryVersion))
+    (seq (limited keyLimit) λ _. entryVersion)
     (seq-laws _ _ (limited-laws keyLimit) λ _. big-laws 8)
     (λ a t. key-entry a t) (λ p v. (refl, refl))
 args-laws bare =
-    type-laws (λ a. isEmpty (a .key) && (noTimes a && (noEntry a && noValue a))) (λ u. args [] 0 0 0 []) (λ a. tt) empty empty-laws
+    type-laws (λ a. isEmpty (a .key) && (noTimes a && (noEntry a && (noBulk a && noValue a)))) (λ u. args [] 0 0 0 0 []) (λ a. tt) empty empty-laws
     (λ a t. none a t) (λ u v. (refl, refl))
+args-laws (bulk most) =
+    type-laws (λ a. isEmpty (a .key) && (noTimes a && (noEntry a && noValue a))) (λ n. args [] 0 0 0 n []) (λ a. a .bulk) (guard (λ n. leb n most) 8 vInt)
+    (guard-laws (λ n. leb n most) 8 vInt vInt-laws) (λ a t. bulk-only a t) (λ n v. (refl, refl))
 
 fields-laws : Laws fields
 unfolding fields

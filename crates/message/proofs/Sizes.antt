@@ -15,8 +15,8 @@ use Rattle.wire.proofs.NumberLaws.{valid}
 use Rattle.wire.proofs.FieldLaws.{limited-valid}
 use Rattle.text.specs.Text.{isText}
 use Rattle.field.specs.FieldRead.{limitedText}
-use Rattle.message.specs.Request.{nameLimit, keyLimit, valueLimit, Shape, keyed, writes, writesIf, keyedIf, bare, shapeOf, Args, args, argsOf, editionAt, Request, request}
-use Rattle.message.proofs.RequestLaws.{keyed-is, keyedIf-is, bare-is}
+use Rattle.message.specs.Request.{nameLimit, keyLimit, valueLimit, Shape, keyed, writes, writesIf, keyedIf, bare, bulk, shapeOf, Args, args, argsOf, editionAt, Request, request}
+use Rattle.message.proofs.RequestLaws.{keyed-is, keyedIf-is, bare-is, bulk-is}
 use Rattle.message.proofs.RequestParts.{parts}
 use Rattle.message.proofs.Editions.{flags-small}
 
@@ -43,8 +43,8 @@ sized : (a : Args) → Fits keyLimit (a .key) → a .lifespan < 0x1_0000_0000 �
 sized a k l m v = record { key = k .0; keyBytes = k .1; lifespan = l; maxIdle = m; value = v .0; valueBytes = v .1 }
 
 -- no times and no value are sent
-blank : (k : List ℕ) (e : ℕ) → Fits keyLimit k → Small (args k 0 0 e [])
-blank k e f = sized (args k 0 0 e []) f (omega arith) (omega arith) (nil-fits valueLimit)
+blank : (k : List ℕ) (e b : ℕ) → Fits keyLimit k → Small (args k 0 0 e b [])
+blank k e b f = sized (args k 0 0 e b []) f (omega arith) (omega arith) (nil-fits valueLimit)
 
 -- both times are, and d behind them
 timed : {B : Type 0} (d : Codec B) (a : Args) (b : B) → Valid (seq (limited keyLimit) λ _. seq vInt λ _. seq vInt λ _. d) (a .key, (a .lifespan, (a .maxIdle, b)))
@@ -58,13 +58,14 @@ timed d a b v f =
 
 args-small : (s : Shape) (a : Args) → Valid (argsOf s) a → Small a
 unfolding argsOf
-args-small keyed a v = subst Small (keyed-is a v) (blank (a .key) 0 (limited-valid keyLimit (a .key) (type-valid _ _ _ _ a v .1)))
+args-small keyed a v = subst Small (keyed-is a v) (blank (a .key) 0 0 (limited-valid keyLimit (a .key) (type-valid _ _ _ _ a v .1)))
 args-small writes a v = timed (limited valueLimit) a (a .value) (type-valid _ _ _ _ a v .1) (λ w. w)
 args-small writesIf a v =
     timed (seq entryVersion λ _. limited valueLimit) a (a .entryVersion, a .value) (type-valid _ _ _ _ a v .1) (λ w. seq-valid _ _ _ w .1)
 args-small keyedIf a v =
-    subst Small (keyedIf-is a v) (blank (a .key) (a .entryVersion) (limited-valid keyLimit (a .key) (seq-valid _ _ _ (type-valid _ _ _ _ a v .1) .0)))
-args-small bare a v = subst Small (bare-is a v) (blank [] 0 (nil-fits keyLimit))
+    subst Small (keyedIf-is a v) (blank (a .key) (a .entryVersion) 0 (limited-valid keyLimit (a .key) (seq-valid _ _ _ (type-valid _ _ _ _ a v .1) .0)))
+args-small bare a v = subst Small (bare-is a v) (blank [] 0 0 (nil-fits keyLimit))
+args-small (bulk most) a v = subst Small (bulk-is a most v) (blank [] 0 (a .bulk) (nil-fits keyLimit))
 
 pub record RequestSmall (r : Request) : Type 0 where
   pub id : r .id < 0x8000_0000_0000_0000

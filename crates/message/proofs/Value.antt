@@ -9,9 +9,9 @@ use Rattle.wire.specs.Number.{vInt}
 use Rattle.wire.specs.Field.{limited}
 use Rattle.wire.proofs.Laws.{seq-valid, seq-good, type-valid, type-good}
 use Rattle.wire.proofs.FieldLaws.{limited-valid, limited-good}
-use Rattle.message.specs.Request.{valueLimit, Shape, keyed, writes, writesIf, keyedIf, bare, shapeOf, Args, args, argsOf, fields, Request, request}
+use Rattle.message.specs.Request.{valueLimit, Shape, keyed, writes, writesIf, keyedIf, bare, bulk, shapeOf, Args, args, argsOf, fields, Request, request}
 use Rattle.message.specs.Value.{valued, withValue}
-use Rattle.message.proofs.RequestLaws.{keyed-is, keyedIf-is, bare-is}
+use Rattle.message.proofs.RequestLaws.{keyed-is, keyedIf-is, bare-is, bulk-is}
 use Rattle.message.proofs.RequestParts.{parts, whole-request}
 
 -- where the value is empty, so is another of its length
@@ -28,7 +28,7 @@ good-behind : {A B : Type 0} (c : Codec A) (d : A → Codec B) {a : A} {b b₁ :
 good-behind c d f v = let x = seq-valid c d _ v in seq-good c d (x .0) (f (x .1))
 
 module _ (a : Args) (w : List ℕ) (h : length w ≡ length (a .value)) where
-  none-valid : (s : Shape) {k : List ℕ} {e : ℕ} → args k 0 0 e [] ≡ a → Valid (argsOf s) a → Valid (argsOf s) (valued w a)
+  none-valid : (s : Shape) {k : List ℕ} {e n : ℕ} → args k 0 0 e n [] ≡ a → Valid (argsOf s) a → Valid (argsOf s) (valued w a)
   none-valid s q v =
       let e = ap (λ (x : Args). x .value) q in
       subst (λ (x : List ℕ). Valid (argsOf s) (valued x a)) (sym e ∙ both-empty (a .value) w e h) v
@@ -41,9 +41,10 @@ module _ (a : Args) (w : List ℕ) (h : length w ≡ length (a .value)) where
       type-good _ _ _ _ (t .0) (good-behind _ _ (good-behind _ _ (good-behind _ _ (value-good (a .value) w h b))) (t .1))
   args-valid writesIf v b =
       let t = type-valid _ _ _ _ a v in
-      type-good _ _ _ _ refl (good-behind _ _ (good-behind _ _ (good-behind _ _ (good-behind _ _ (value-good (a .value) w h b)))) (t .1))
+      type-good _ _ _ _ (t .0) (good-behind _ _ (good-behind _ _ (good-behind _ _ (good-behind _ _ (value-good (a .value) w h b)))) (t .1))
   args-valid keyedIf v b = none-valid keyedIf (keyedIf-is a v) v
   args-valid bare v b = none-valid bare (bare-is a v) v
+  args-valid (bulk most) v b = none-valid (bulk most) (bulk-is a most v) v
 
 pub value-valid : (r : Request) (w : List ℕ) → Valid request r → length w ≡ length (r .args .value) → Bytes w → Valid request (withValue w r)
 value-valid r w v h b =
@@ -81,7 +82,7 @@ unfolding limited as-type seq guard raw
 last-limited lim u w h = record { lead = vInt .enc (length u); this = refl; other = rw h }
 
 module _ (a : Args) (w : List ℕ) (h : length w ≡ length (a .value)) where
-  last-none : (x : List ℕ) {k : List ℕ} {e : ℕ} → args k 0 0 e [] ≡ a → Last x x (a .value) w
+  last-none : (x : List ℕ) {k : List ℕ} {e n : ℕ} → args k 0 0 e n [] ≡ a → Last x x (a .value) w
   last-none x q =
       let e = ap (λ (x : Args). x .value) q in
       record {
@@ -97,6 +98,7 @@ module _ (a : Args) (w : List ℕ) (h : length w ≡ length (a .value)) where
   args-last writesIf v = last-behind _ _ (last-behind _ _ (last-behind _ _ (last-behind _ _ (last-limited valueLimit (a .value) w h))))
   args-last keyedIf v = last-none _ (keyedIf-is a v)
   args-last bare v = last-none _ (bare-is a v)
+  args-last (bulk most) v = last-none _ (bulk-is a most v)
 
 module _ (r : Request) (w : List ℕ) (v : Valid request r) (h : length w ≡ length (r .args .value)) where
   pub value-last : Last (request .enc r) (request .enc (withValue w r)) (r .args .value) w

@@ -1,10 +1,11 @@
 -- What goes by the protocol version.
 use mathlib.Core.List.{List, [], _∷_}
 use mathlib.Core.Option.{Option, none, some}
-use mathlib.Core.Bool.{Bool, true, false, cond}
+use mathlib.Core.Bool.{Bool, true, false, cond, not}
 use Prim.Native.Nat.{ℕ}
 use lib.Dec.{eqb}
 use Rattle.message.specs.declared.Operation.{Operation}
+use Rattle.message.specs.Operation.{codeOf}
 
 pub record Edition : Type 0 where
   -- the greatest flags
@@ -14,12 +15,17 @@ pub record Edition : Type 0 where
   -- the operations that it has
   pub serves : Operation → Bool
 
-abbrev edition : ℕ → Edition
-edition n = record { flags = n; transaction = true; serves = λ o. true }
+abbrev edition : ℕ → (Operation → Bool) → Edition
+edition n s = record { flags = n; transaction = true; serves = s }
+
+-- "bulkGetKeys (0x1D) from 12 on": every other operation is in all served versions
+abbrev pub early : Operation → Bool
+early o = not (eqb (codeOf o) 0x1d)
 
 -- "Served versions: 10, 11, 12"; "flags: 0 or 1 in versions 10 and 11, 0 to 7 in 12"
 unfoldable pub editionOf : ℕ → Option Edition
-editionOf v = cond (eqb v 10) (some (edition 1)) (cond (eqb v 11) (some (edition 1)) (cond (eqb v 12) (some (edition 7)) none))
+editionOf v =
+    cond (eqb v 10) (some (edition 1 early)) (cond (eqb v 11) (some (edition 1 early)) (cond (eqb v 12) (some (edition 7 (λ o. true))) none))
 
 abbrev pub isServed : Option Edition → Bool
 isServed none = false
@@ -27,5 +33,5 @@ isServed (some e) = true
 
 -- the edition of a version; of a version that is not served, any
 abbrev pub served : Option Edition → Edition
-served none = edition 0
+served none = edition 0 (λ o. true)
 served (some e) = e

@@ -2,6 +2,7 @@ pub mod Operation
 pub mod Edition
 pub mod Request
 pub mod Start
+pub mod Listing
 pub mod Reply
 pub mod Refusal
 pub mod Written

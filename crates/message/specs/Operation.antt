@@ -1,10 +1,10 @@
--- The served operations (document 01, 'What is built').
+-- The served operations (document 01, 'What is built'; document 02, C-13).
 use mathlib.Core.Option.{Option, none, some}
 use mathlib.Core.Bool.{Bool, true, false, cond}
 use Prim.Native.Nat.{ℕ}
 use lib.Dec.{eqb}
 use Rattle.message.specs.declared.Operation.{Operation}
-use Rattle.message.specs.declared.Operation.the-variants.{Put, Get, PutIfAbsent, Replace, ReplaceIfUnmodified, Remove, RemoveIfUnmodified, ContainsKey, GetWithVersion, Clear, Stats, Ping}
+use Rattle.message.specs.declared.Operation.the-variants.{Put, Get, PutIfAbsent, Replace, ReplaceIfUnmodified, Remove, RemoveIfUnmodified, ContainsKey, GetWithVersion, Clear, Stats, Ping, BulkGet, BulkGetKeys}
 use Rattle.message.specs.declared.Found.{Found}
 use Rattle.message.specs.declared.Found.the-variants as f
 
@@ -21,6 +21,8 @@ codeOf GetWithVersion = 0x11
 codeOf Clear = 0x13
 codeOf Stats = 0x15
 codeOf Ping = 0x17
+codeOf BulkGet = 0x19
+codeOf BulkGetKeys = 0x1d
 
 -- the operation that has a code
 unfoldable pub findCode : ℕ → Option Operation
@@ -36,7 +38,9 @@ findCode n =
     (cond (eqb n 0x11) (some GetWithVersion)
     (cond (eqb n 0x13) (some Clear)
     (cond (eqb n 0x15) (some Stats)
-    (cond (eqb n 0x17) (some Ping) none)))))))))))
+    (cond (eqb n 0x17) (some Ping)
+    (cond (eqb n 0x19) (some BulkGet)
+    (cond (eqb n 0x1d) (some BulkGetKeys) none)))))))))))))
 
 abbrev pub asFound : Found → Option Operation
 asFound (f.Known o) = some o

@@ -7,10 +7,11 @@ use lib.Dec.{eqb}
 use Rattle.wire.specs.Codec.{Codec, empty, refuse, byte, guard, seq, as-type, all}
 use Rattle.wire.specs.Number.{vLong}
 use Rattle.wire.specs.Field.{entryVersion, limited}
+use Rattle.wire.specs.Listed.{isNil}
 use Rattle.field.specs.FieldRead.{partOf, limitedText}
 use Rattle.statistics.specs.Statistics as stats
 use Rattle.message.specs.declared.Operation.{Operation}
-use Rattle.message.specs.declared.Operation.the-variants.{Put, Get, PutIfAbsent, Replace, ReplaceIfUnmodified, Remove, RemoveIfUnmodified, ContainsKey, GetWithVersion, Clear, Stats, Ping}
+use Rattle.message.specs.declared.Operation.the-variants.{Put, Get, PutIfAbsent, Replace, ReplaceIfUnmodified, Remove, RemoveIfUnmodified, ContainsKey, GetWithVersion, Clear, Stats, Ping, BulkGet, BulkGetKeys}
 use Rattle.message.specs.declared.Form.{Form}
 use Rattle.message.specs.declared.Form.the-variants as form
 use Rattle.message.specs.declared.Asked.{Asked}
@@ -18,6 +19,7 @@ use Rattle.message.specs.declared.ReplyHead.{ReplyHead}
 use Rattle.message.specs.declared.Reply as code-reply
 use Rattle.message.specs.Operation.{codeOf, findCode}
 use Rattle.message.specs.Request.{valueLimit, isEmpty}
+use Rattle.message.specs.Listing.{listing}
 
 abbrev pub textLimit : ℕ
 textLimit = 64
@@ -42,6 +44,10 @@ pub data Body : Type 0 where
   text : Body
   -- the nine statistics
   statistics : Body
+  -- entries, each a key and a value
+  entries : Body
+  -- entries, each a key alone
+  keys : Body
 
 -- The reply table: the statuses that an operation can give, and what follows each. "Where the status says that the key was absent, and at 01 of
 -- the IfUnmodified operations, an old value has length 0."
@@ -58,6 +64,8 @@ table ContainsKey = (0x00, nothing) ∷ (0x02, nothing) ∷ []
 table Clear = (0x00, nothing) ∷ []
 table Stats = (0x00, statistics) ∷ []
 table Ping = (0x00, nothing) ∷ []
+table BulkGet = (0x00, entries) ∷ []
+table BulkGetKeys = (0x00, keys) ∷ []
 
 -- "An error reply has operation 0x50, status 0x81 to 0x86, then text length and text."
 abbrev pub errorCode : ℕ
@@ -85,6 +93,8 @@ pub record Payload : Type 0 where
   pub value : List ℕ
   pub text : List ℕ
   pub statistics : List ℕ
+  -- a key and a value each; where keys alone are sent, the values are empty
+  pub entries : List (List ℕ × List ℕ)
 
 -- a reply: a header and a payload
 pub record Reply : Type 0 where
@@ -94,10 +104,13 @@ pub record Reply : Type 0 where
   pub payload : Payload
 
 abbrev pub payload : ℕ → List ℕ → List ℕ → Payload
-payload e v t = record { entryVersion = e; value = v; text = t; statistics = [] }
+payload e v t = record { entryVersion = e; value = v; text = t; statistics = []; entries = [] }
 
 abbrev pub counted : List ℕ → Payload
-counted ns = record { entryVersion = 0; value = []; text = []; statistics = ns }
+counted ns = record { entryVersion = 0; value = []; text = []; statistics = ns; entries = [] }
+
+abbrev pub bulkPayload : List (List ℕ × List ℕ) → Payload
+bulkPayload es = record { entryVersion = 0; value = []; text = []; statistics = []; entries = es }
 
 abbrev pub noEntry : Payload → Bool
 noEntry p = eqb (p .entryVersion) 0
@@ -111,21 +124,31 @@ noText p = isEmpty (p .text)
 abbrev pub noStatistics : Payload → Bool
 noStatistics p = isEmpty (p .statistics)
 
+abbrev pub noEntries : Payload → Bool
+noEntries p = isNil (p .entries)
+
+-- neither statistics nor entries
+abbrev pub noLists : Payload → Bool
+noLists p = noStatistics p && noEntries p
+
 unfoldable pub noBody : Codec Payload
-noBody = as-type (λ p. noStatistics p && (noEntry p && (noValue p && noText p))) (λ u. payload 0 [] []) (λ p. tt) empty
+noBody = as-type (λ p. noLists p && (noEntry p && (noValue p && noText p))) (λ u. payload 0 [] []) (λ p. tt) empty
 
 unfoldable pub valueBody : ℕ → Codec Payload
-valueBody lim = as-type (λ p. noStatistics p && (noEntry p && noText p)) (λ v. payload 0 v []) (λ p. p .value) (limited lim)
+valueBody lim = as-type (λ p. noLists p && (noEntry p && noText p)) (λ v. payload 0 v []) (λ p. p .value) (limited lim)
 
 unfoldable pub versionedBody : Codec Payload
 versionedBody =
-    as-type (λ p. noStatistics p && noText p) (λ p. payload (p .0) (p .1) []) (λ p. (p .entryVersion, p .value)) (seq entryVersion λ _. limited valueLimit)
+    as-type (λ p. noLists p && noText p) (λ p. payload (p .0) (p .1) []) (λ p. (p .entryVersion, p .value)) (seq entryVersion λ _. limited valueLimit)
 
 unfoldable pub textBody : Codec Payload
-textBody = as-type (λ p. noStatistics p && (noEntry p && noValue p)) (λ t. payload 0 [] t) (λ p. p .text) (limitedText textLimit)
+textBody = as-type (λ p. noLists p && (noEntry p && noValue p)) (λ t. payload 0 [] t) (λ p. p .text) (limitedText textLimit)
 
 unfoldable pub statisticsBody : Codec Payload
-statisticsBody = as-type (λ p. noEntry p && (noValue p && noText p)) counted (λ p. p .statistics) stats.statistics
+statisticsBody = as-type (λ p. noEntries p && (noEntry p && (noValue p && noText p))) counted (λ p. p .statistics) stats.statistics
+
+unfoldable pub listedBody : Bool → Codec Payload
+listedBody values = as-type (λ p. noStatistics p && (noEntry p && (noValue p && noText p))) bulkPayload (λ p. p .entries) (listing values)
 
 unfoldable pub fieldsOf : Form → Codec Payload
 fieldsOf form.Nothing = noBody
@@ -133,6 +156,7 @@ fieldsOf (form.Value lim) = valueBody lim
 fieldsOf form.Versioned = versionedBody
 fieldsOf form.Text = textBody
 fieldsOf form.Statistics = statisticsBody
+fieldsOf (form.Listed values) = listedBody values
 
 -- "Old value is sent only if flag 0x0001 was set"
 abbrev pub oldForm : Bool → ℕ → Form
@@ -147,6 +171,8 @@ formOf flag value = form.Value valueLimit
 formOf flag versioned = form.Versioned
 formOf flag text = form.Text
 formOf flag statistics = form.Statistics
+formOf flag entries = form.Listed true
+formOf flag keys = form.Listed false
 
 abbrev pub Fields : Type 0
 Fields = ℕ × (ℕ × (ℕ × (ℕ × Payload)))
@@ -192,16 +218,25 @@ errorReply = message (λ op. eqb op errorCode) (λ op. errors) false
 abbrev pub replyOf : ReplyHead → List ℕ → List ℕ → Reply
 replyOf a v t = record { id = a .id; op = a .op; status = a .status; payload = payload (a .entry .0) v t }
 
--- the reply that an answer tells: its numbers, the parts of the bytes, and the statistics
-abbrev pub replyIn : List ℕ → code-reply.Reply → List ℕ → Reply
-replyIn s r ns =
+-- the reply that an answer tells: its numbers, the parts of the bytes, the statistics and the entries
+abbrev pub replyIn : List ℕ → code-reply.Reply → List ℕ → List (List ℕ × List ℕ) → Reply
+replyIn s r ns es =
     record {
       id = r .head .id;
       op = r .head .op;
       status = r .head .status;
-      payload = record { entryVersion = r .head .entry .0; value = partOf s (r .value); text = partOf s (r .text); statistics = ns };
+      payload = record { entryVersion = r .head .entry .0; value = partOf s (r .value); text = partOf s (r .text); statistics = ns; entries = es };
     }
 
 -- the stats reply of an id and the nine
 abbrev pub statisticsReply : ℕ → List ℕ → Reply
 statisticsReply id ns = record { id = id; op = codeOf Stats + 1; status = 0x00; payload = counted ns }
+
+-- the operation of bulkGet, or of bulkGetKeys where values are not asked for
+abbrev pub bulkOperation : Bool → Operation
+bulkOperation true = BulkGet
+bulkOperation false = BulkGetKeys
+
+-- the reply of an id and the entries to one of them
+abbrev pub bulkReply : Bool → ℕ → List (List ℕ × List ℕ) → Reply
+bulkReply values id es = record { id = id; op = codeOf (bulkOperation values) + 1; status = 0x00; payload = bulkPayload es }

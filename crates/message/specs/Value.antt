@@ -4,7 +4,7 @@ use Prim.Native.Nat.{ℕ}
 use Rattle.message.specs.Request.{Args, args, Request}
 
 abbrev pub valued : List ℕ → Args → Args
-valued w a = args (a .key) (a .lifespan) (a .maxIdle) (a .entryVersion) w
+valued w a = args (a .key) (a .lifespan) (a .maxIdle) (a .entryVersion) (a .bulk) w
 
 abbrev pub withValue : List ℕ → Request → Request
 withValue w r =

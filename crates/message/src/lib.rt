@@ -20,9 +20,12 @@ pub enum Operation {
     Clear,
     Stats,
     Ping,
+    BulkGet,
+    BulkGetKeys,
 }
 
-// The numbers of a request. A number that the operation does not send is 0.
+// The numbers of a request. A number that the operation does not send is 0. `bulk` is the number of entries that bulkGet asks for, and the scope of
+// bulkGetKeys.
 pub struct Head {
     pub id: u64,
     pub version: u8,
@@ -33,6 +36,7 @@ pub struct Head {
     pub lifespan: u64,
     pub idle: u64,
     pub entry: EntryVersion,
+    pub bulk: u64,
 }
 
 // A request that was read: its numbers, and where in the bytes its name, key and value stand.
@@ -65,13 +69,14 @@ pub struct Reply {
 }
 
 // The fields of a reply's body: none; bytes of at most a length; an entry version and a value; a text; the
-// nine statistics.
+// nine statistics; entries, with their values or their keys alone.
 pub enum Form {
     Nothing,
     Value(u64),
     Versioned,
     Text,
     Statistics,
+    Listed(bool),
 }
 
 // The largest sizes of a request's name, key and value.
@@ -172,6 +177,8 @@ pub fn code(op: Operation) -> u8
         Operation::Clear => 0x13,
         Operation::Stats => 0x15,
         Operation::Ping => 0x17,
+        Operation::BulkGet => 0x19,
+        Operation::BulkGetKeys => 0x1d,
     }
 }
 
@@ -197,6 +204,8 @@ pub fn find(code: u8) -> Found
         0x13 => Found::Known(Operation::Clear),
         0x15 => Found::Known(Operation::Stats),
         0x17 => Found::Known(Operation::Ping),
+        0x19 => Found::Known(Operation::BulkGet),
+        0x1d => Found::Known(Operation::BulkGetKeys),
         _ => Found::Unknown,
     }
 }

@@ -7,7 +7,8 @@ use Prim.Native.Nat.{ℕ}
 use lib.ListN.{length}
 use lib.Dec.{leb, ltb}
 use Rattle.map.specs.State.{Entry, State, find, hasKey}
-use Rattle.map.specs.Step as map
+use Rattle.map.specs.Plan as map
+use Rattle.map.specs.Step.{mostKeys, lastVersion, isNone}
 use Rattle.table.specs.Memory.{stateOf}
 use Rattle.table.specs.Found.{entryAt, FoundIs}
 use Rattle.table.specs.declared.Found.the-variants as f
@@ -44,13 +45,13 @@ heldAt t k = find (hasKey k) (stateOf t .entries)
 
 -- "10: the write would add a key and 128 are held"; "11: the write would take effect and no version is left"
 unfoldable pub isFull : State → Option ℕ → Bool
-isFull st o = map.isNone o && leb map.mostKeys (length (st .entries))
+isFull st o = isNone o && leb mostKeys (length (st .entries))
 
 unfoldable pub refusalOf : State → Option ℕ → map.Change → Option ℕ
 refusalOf st o map.keep = none
 refusalOf st o map.drop = none
 refusalOf st o map.empty = none
-refusalOf st o map.store = cond (isFull st o) (some 10) (cond (ltb (st .last) map.lastVersion) none (some 11))
+refusalOf st o map.store = cond (isFull st o) (some 10) (cond (ltb (st .last) lastVersion) none (some 11))
 
 -- the number of the refusal, or none
 abbrev pub asJudged : Judged → Option ℕ

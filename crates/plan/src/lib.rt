@@ -4,7 +4,7 @@ use message::Operation;
 use table::Found;
 use table::Table;
 ghost use mathlib.Core.Path.{_≡_};
-ghost use Rattle.map.specs.Step as map;
+ghost use Rattle.map.specs.Plan as map;
 ghost use Rattle.table.specs.Memory.{stateOf};
 ghost use Rattle.plan.specs.Plan.{asPlan, asChange, asJudged, Holds, heldVersion, isFull, refusalOf};
 
@@ -99,6 +99,8 @@ pub fn plan_of(op: Operation, asked: EntryVersion, held: Held) -> Plan
         Operation::Clear => planned(0x00, Change::Empty),
         Operation::Stats => kept,
         Operation::Ping => kept,
+        Operation::BulkGet => kept,
+        Operation::BulkGetKeys => kept,
     }
 }
 

@@ -1,2 +1,3 @@
+pub mod BulkLaws
 pub mod ReadLaws
 pub mod Spans

@@ -1,22 +1,26 @@
 -- What reading a reply goes by, field by field. Assumes nothing.
 use mathlib.Core.Path.{_≡_, sym, ap}
 use mathlib.Core.List.{List}
+use mathlib.Core.Option.{none, some}
 use mathlib.Core.Bool.{Bool, cond}
 use Prim.Native.Nat.{ℕ}
 use native.Mathlib.Nat.{add-zero}
-use Rattle.wire.specs.Codec.{Read, whole, refused, after, mapped, Codec, empty, byte, as-type, readAt}
+use lib.ListN.{length}
+use Rattle.wire.specs.Codec.{Read, whole, refused, after, mapped, Codec, Bytes, empty, byte, as-type, readAt}
 use Rattle.wire.specs.Number.{vLong}
 use Rattle.wire.specs.Field.{entryVersion, limited}
-use Rattle.wire.proofs.Laws.{after-after, after-same}
+use Rattle.wire.proofs.Laws.{after-after, after-same, after-on}
 use Rattle.wire.proofs.At.{at-seq, at-guard, at-type, at-cond}
 use Rattle.field.specs.FieldRead.{limitedText, between, nowhere, spanTo}
-use Rattle.field.proofs.Parts.{at-between, only}
+use Rattle.field.proofs.Parts.{at-between, only, span-none}
 use Rattle.statistics.specs.Statistics.{statistics}
 use Rattle.message.specs.Request.{valueLimit}
-use Rattle.message.specs.Reply.{Payload, textLimit, noBody, valueBody, versionedBody, textBody, statisticsBody, isAwaited, rowsOf, bodyAt, isAllowed, allowed, fieldsOf, formOf, fields, message}
+use Rattle.message.specs.Listing.{listing}
+use Rattle.message.specs.Reply.{Payload, textLimit, noBody, valueBody, versionedBody, textBody, statisticsBody, listedBody, isAwaited, rowsOf, bodyAt, isAllowed, allowed, fieldsOf, formOf, fields, message}
 use Rattle.message.specs.declared.Operation.{Operation}
 use Rattle.message.specs.declared.ReplyHead.{ReplyHead}
-use Rattle.reply_reader.specs.ReplyRead.{Answer, replyAt, replyWith, headWith, withParts, withStatistics}
+use Rattle.reply_reader.specs.ReplyRead.{Answer, replyAt, replyWith, headWith, withParts, withStatistics, withEntries, entriesTo, bulkOf}
+use Rattle.reply_reader.proofs.BulkLaws.{span-here}
 
 -- an answer whose entry version is 0
 same-head : (a : ReplyHead) → a .entry .0 ≡ 0 → headWith a 0 ≡ a
@@ -27,27 +31,35 @@ module _ (s : List ℕ) (at : ℕ) (a : ReplyHead) where
   abbrev With : Codec Payload → Read Answer
   With c = mapped replyAt (after (readAt c s at) (λ p j. whole (replyWith a p) j))
 
-  pub with-version : With versionedBody
-      ≡ after (readAt entryVersion s at) (λ e j. after (mapped spanTo (readAt (limited valueLimit) s j)) (λ p l. whole (withParts (headWith a e) p nowhere) l))
-  unfolding versionedBody mapped replyAt spanTo
-  with-version = simp (at-type, at-seq, after-after)
+  module _ (k : bulkOf (a .op) ≡ none) where
+    pub with-version : With versionedBody
+        ≡ after (readAt entryVersion s at) (λ e j. after (mapped spanTo (readAt (limited valueLimit) s j)) (λ p l. whole (withParts (headWith a e) p nowhere) l))
+    unfolding versionedBody mapped replyAt spanTo
+    with-version = simp (at-type, at-seq, after-after, k)
 
-  module _ (z : a .entry .0 ≡ 0) where
-    pub with-none : With noBody ≡ whole (withParts a nowhere nowhere) at
-    unfolding noBody readAt as-type empty mapped replyAt spanTo
-    with-none = rw (add-zero, same-head a z)
+    module _ (z : a .entry .0 ≡ 0) where
+      pub with-none : With noBody ≡ whole (withParts a nowhere nowhere) at
+      unfolding noBody readAt as-type empty mapped replyAt spanTo
+      with-none = rw (add-zero, same-head a z, k)
 
-    pub with-value : (lim : ℕ) → With (valueBody lim) ≡ after (mapped spanTo (readAt (limited lim) s at)) (λ p j. whole (withParts a p nowhere) j)
-    unfolding valueBody mapped replyAt spanTo
-    with-value lim = simp (at-type, after-after) (after-same (readAt (limited lim) s at) (λ v j. rw (same-head a z)))
+      pub with-value : (lim : ℕ) → With (valueBody lim) ≡ after (mapped spanTo (readAt (limited lim) s at)) (λ p j. whole (withParts a p nowhere) j)
+      unfolding valueBody mapped replyAt spanTo
+      with-value lim = simp (at-type, after-after) (after-same (readAt (limited lim) s at) (λ v j. rw (same-head a z, k)))
 
-    pub with-text : With textBody ≡ after (mapped spanTo (readAt (limitedText textLimit) s at)) (λ p j. whole (withParts a nowhere p) j)
-    unfolding textBody mapped replyAt spanTo
-    with-text = simp (at-type, after-after) (after-same (readAt (limitedText textLimit) s at) (λ t j. rw (same-head a z)))
+      pub with-text : With textBody ≡ after (mapped spanTo (readAt (limitedText textLimit) s at)) (λ p j. whole (withParts a nowhere p) j)
+      unfolding textBody mapped replyAt spanTo
+      with-text = simp (at-type, after-after) (after-same (readAt (limitedText textLimit) s at) (λ t j. rw (same-head a z, k)))
 
-    pub with-statistics : With statisticsBody ≡ after (readAt statistics s at) (λ ns j. whole (withStatistics a ns) j)
-    unfolding statisticsBody mapped replyAt spanTo
-    with-statistics = simp (at-type, after-after) (after-same (readAt statistics s at) (λ ns j. rw (same-head a z)))
+      pub with-statistics : With statisticsBody ≡ after (readAt statistics s at) (λ ns j. whole (withStatistics a ns) j)
+      unfolding statisticsBody mapped replyAt spanTo
+      with-statistics = simp (at-type, after-after) (after-same (readAt statistics s at) (λ ns j. rw (same-head a z, k)))
+
+  pub with-entries : (values : Bool) → bulkOf (a .op) ≡ some values → a .entry .0 ≡ 0 → Bytes s → With (listedBody values)
+      ≡ after (mapped (λ es n. length es) (readAt (listing values) s at)) (λ n j. whole (withEntries a (entriesTo at n j)) j)
+  unfolding listedBody mapped replyAt
+  with-entries values k z b =
+      simp (at-type, after-after)
+      (after-on (readAt (listing values) s at) (λ es j e. rw (same-head a z, k, span-here values s at es j b e, ← (span-none j))))
 
 module _ (o : Operation) (flag : Bool) (s : List ℕ) where
   unfoldable pub rest5 : (id op status : ℕ) → ℕ → Read Answer

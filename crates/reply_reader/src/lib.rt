@@ -1,6 +1,7 @@
 // The reader of a reply, for any bytes and whatever was asked.
 mod read;
 
+use field::Span;
 use message::Asked;
 use message::Found;
 use message::Reply;
@@ -11,11 +12,18 @@ ghost use Rattle.wire.specs.Codec.{mapped};
 ghost use Rattle.message.specs.Reply.{reply};
 ghost use Rattle.reply_reader.specs.ReplyRead.{asReply, replyAt};
 
-// What reading a reply finds: the reply with the count of its bytes, a stats reply with the nine and the count, more needed, or a refusal by its
-// number.
+// The entries of a bulk reply: how many they are, and the part of the bytes where they stand, from the first more byte through the byte 0 at the end.
+pub struct Entries {
+    pub count: u64,
+    pub part: Span,
+}
+
+// What reading a reply finds: the reply with the count of its bytes, a stats reply with the nine and the count, a bulk reply with its entries and the
+// count, more needed, or a refusal by its number.
 pub enum ReplyRead {
     Whole(Reply, usize),
     Statistics(ReplyHead, Statistics, usize),
+    Entries(ReplyHead, Entries, usize),
     More,
     Refused(u8),
 }

@@ -1,4 +1,5 @@
 // The parts of the reader of a reply.
+use crate::Entries;
 use crate::ReplyRead;
 use field::ByteRead;
 use field::Cursor;
@@ -14,12 +15,15 @@ use message::Reply;
 use message::ReplyHead;
 use statistics::StatisticsRead;
 ghost use mathlib.Core.Path.{_≡_};
+ghost use lib.ListN.{length};
 ghost use Rattle.wire.specs.Codec.{readAt, after, mapped, whole};
-ghost use Rattle.wire.specs.Field.{limited};
+ghost use Rattle.wire.specs.Field.{entryVersion, limited};
 ghost use Rattle.field.specs.FieldRead.{asNumber, nowhere, spanTo, stopped, limitedText};
 ghost use Rattle.statistics.specs.Statistics.{statistics};
-ghost use Rattle.message.specs.Reply.{message, isAwaited, rowsOf, versionedBody, textLimit, fieldsOf};
-ghost use Rattle.reply_reader.specs.ReplyRead.{asReply, replyAt, replyWith, withParts, withStatistics};
+ghost use Rattle.message.specs.Request.{valueLimit};
+ghost use Rattle.message.specs.Listing.{listing};
+ghost use Rattle.message.specs.Reply.{message, isAwaited, rowsOf, textLimit, fieldsOf};
+ghost use Rattle.reply_reader.specs.ReplyRead.{asReply, replyAt, replyWith, headWith, withParts, withStatistics, withEntries, entriesTo, bulkOf, listedOf};
 
 // What a field that is not whole makes of the reply.
 fn stop(r: NumberRead) -> ReplyRead
@@ -52,7 +56,7 @@ fn read_value(s: &[u8], c: Cursor, a: ReplyHead, lim: u64) -> ReplyRead
 }
 
 fn read_versioned(s: &[u8], c: Cursor, a: ReplyHead) -> ReplyRead
-    ensures { λ r. ⌜ asReply r ≡ mapped replyAt (after (readAt versionedBody (now (s .entry)) (c .at)) (λ p j. whole (replyWith a p) j)) ⌝ }
+    ensures { λ r. ⌜ asReply r ≡ after (readAt entryVersion (now (s .entry)) (c .at)) (λ e j. after (mapped spanTo (readAt (limited valueLimit) (now (s .entry)) j)) (λ p l. whole (withParts (headWith a e) p nowhere) l)) ⌝ }
 {
     let r = field::read_version(s, c);
     let VersionRead::Whole(entry, next) = r else {
@@ -97,9 +101,29 @@ fn read_statistics(s: &[u8], c: Cursor, a: ReplyHead) -> ReplyRead
     }
 }
 
+// A body of entries, which end the reply.
+fn read_listed(s: &[u8], c: Cursor, a: ReplyHead, values: bool) -> ReplyRead
+    ensures { λ r. ⌜ asReply r ≡ after (mapped (λ es n. length es) (readAt (listing values) (now (s .entry)) (c .at))) (λ k j. whole (withEntries a (entriesTo (c .at) k j)) j) ⌝ }
+{
+    let r = listing::read_entries(s, c, values);
+    let NumberRead::Whole(count, next) = r else {
+        return stop(r);
+    };
+    let part = Span {
+        start: c.at,
+        len: next.at - c.at,
+    };
+    let entries = Entries {
+        count: count,
+        part: part,
+    };
+    ReplyRead::Entries(a, entries, next.at)
+}
+
 // The body behind a header, whose entry version is not read yet.
 fn read_body(s: &[u8], c: Cursor, a: ReplyHead, f: Form) -> ReplyRead
     requires { ⌜ a .entry .0 ≡ 0 ⌝ }
+    requires { ⌜ bulkOf (a .op) ≡ listedOf f ⌝ }
     ensures { λ r. ⌜ asReply r ≡ mapped replyAt (after (readAt (fieldsOf f) (now (s .entry)) (c .at)) (λ p j. whole (replyWith a p) j)) ⌝ }
 {
     match f {
@@ -118,6 +142,7 @@ fn read_body(s: &[u8], c: Cursor, a: ReplyHead, f: Form) -> ReplyRead
         Form::Versioned => read_versioned(s, c, a),
         Form::Text => read_text(s, c, a),
         Form::Statistics => read_statistics(s, c, a),
+        Form::Listed(values) => read_listed(s, c, a, values),
     }
 }
 

@@ -1,38 +1,59 @@
 -- The laws of a reply's writer: its rules, its length, and its fields one after the other. Assumes nothing.
-use mathlib.Core.Path.{_≡_, refl, sym, _∙_}
-use mathlib.Core.List.{List}
+use mathlib.Core.Path.{_≡_, refl, sym, ap, _∙_}
+use mathlib.Core.List.{List, [], _∷_, _++_, append-assoc}
 use mathlib.Core.Bool.{Bool, true, false, _&&_}
 use Prim.Native.Nat.{ℕ, _+_, _≤_, _<_}
+use native.Mathlib.Nat.{add-zero}
 use native.Mathlib.Decide.{decLt}
 use native.Mathlib.Omega.{arith}
 use lib.ListN.{length, length-append}
-use lib.Dec.{eqb, ltb, leb}
+use lib.Dec.{eqb, ltb, leb, lit<}
 use borrow.Author.Tests.{lt-ltb, leb-true, leb-false}
 use Rattle.wire.specs.Codec.{Codec, Valid, Bytes, empty, byte, seq, guard, as-type, all}
 use Rattle.wire.specs.Number.{vLong}
 use Rattle.wire.specs.Field.{entryVersion, limited}
-use Rattle.wire.specs.Write.{Room, Wrote, putAt, kept, send}
-use Rattle.wire.proofs.Laws.{never, both, and-false}
+use Rattle.wire.specs.Listed.{moreByte, behind, item, others, listed}
+use Rattle.wire.specs.Write.{Room, Wrote, putAt, written, kept, send}
+use Rattle.wire.proofs.Laws.{never, and, both, and-false}
 use Rattle.wire.proofs.FieldLaws.{big-length, limited-good, limited-long, limited-over, limited-length}
-use Rattle.wire.proofs.WriteLaws.{send-broken, put-wrote, wrote-seq, wrote-guard, wrote-type}
+use Rattle.wire.proofs.ListedEnc.{listed-some}
+use Rattle.wire.proofs.WriteLaws.{send-broken, send-short, send-done, put-wrote, put-moved, put-kept, wrote-seq, wrote-first, wrote-second, wrote-guard, wrote-type}
 use Rattle.text.specs.Text.{isText}
 use Rattle.field.specs.FieldRead.{limitedText}
 use Rattle.statistics.specs.Statistics.{statistics}
 use Rattle.statistics.proofs.Writing.{none-bad}
+use Rattle.message.specs.declared.Operation.the-variants.{BulkGet, BulkGetKeys}
+use Rattle.message.specs.Operation.{codeOf, findCode}
 use Rattle.message.specs.Request.{isEmpty, valueLimit}
-use Rattle.message.specs.Reply.{Reply, Body, Payload, payload, counted, noEntry, noValue, noText, noStatistics, textLimit, noBody, valueBody, versionedBody, textBody, statisticsBody, bodyAt, isAllowed, allowed, fieldsOf, formOf, toReply, fromReply, fields, message}
+use Rattle.message.specs.Listing.{itemOf, listing}
+use Rattle.message.specs.Reply.{asked, Reply, Body, Payload, payload, counted, bulkPayload, bulkOperation, bulkReply, noEntry, noValue, noText, noLists, textLimit, noBody, valueBody, versionedBody, textBody, statisticsBody, listedBody, bodyAt, isAllowed, allowed, fieldsOf, formOf, toReply, fromReply, fields, message, isAwaited, rowsOf, reply}
 use Rattle.reply_writer.specs.Frame.{framed}
 
 -- a body that carries nothing
+none-sent : (x y z : Bool) → ((x && (y && z)) && true) ≡ ((x && y) && z)
+none-sent true true true = refl
+none-sent true true false = refl
+none-sent true false z = refl
+none-sent false y z = refl
+
 pub none-ok : (e : ℕ) (v t : List ℕ) → noBody .ok (payload e v t) ≡ ((eqb e 0 && isEmpty v) && isEmpty t)
 unfolding noBody as-type empty
-none-ok e v t = go (eqb e 0) (isEmpty v) (isEmpty t)
-  where
-    go : (x y z : Bool) → ((x && (y && z)) && true) ≡ ((x && y) && z)
-    go true true true = refl
-    go true true false = refl
-    go true false z = refl
-    go false y z = refl
+none-ok e v t = none-sent (eqb e 0) (isEmpty v) (isEmpty t)
+
+-- a body of entries that carries none: a byte 0
+module _ (values : Bool) (e : ℕ) (v t : List ℕ) where
+  pub no-entries-ok : listedBody values .ok (payload e v t) ≡ ((eqb e 0 && isEmpty v) && isEmpty t)
+  unfolding listedBody listing listed item others behind moreByte as-type seq guard byte empty
+  no-entries-ok = none-sent (eqb e 0) (isEmpty v) (isEmpty t)
+
+  pub no-entries-size : length (listedBody values .enc (payload e v t)) ≡ 1
+  unfolding listedBody listing listed item others behind moreByte as-type seq guard byte empty
+  no-entries-size = refl
+
+  pub put-no-entries : {old new : List ℕ} {at r : ℕ} → Room (listedBody values) (payload e v t) at old → (r, new) ≡ putAt byte 0 at old
+      → Wrote (listedBody values) (payload e v t) old new at r
+  unfolding listedBody listing listed item others behind moreByte as-type seq guard byte empty
+  put-no-entries h q = let w = put-wrote byte 0 _ _ refl h _ _ q in record { next = w .next; list = w .list; long = w .long }
 
 -- which bytes have a written form
 pub limited-ok : (lim : ℕ) (s : List ℕ) → Bytes s → (leb (length s) lim && leb (length s) 0xffff_ffff) ≡ limited lim .ok s
@@ -125,7 +146,7 @@ module _ (p : Payload) where
   module _ (lim : ℕ) where
     pub value-valid : Valid (valueBody lim) p → Valid (limited lim) (p .value)
     unfolding valueBody as-type
-    value-valid v = both (noStatistics p && (noEntry p && noText p)) (limited lim .ok (p .value)) v .1
+    value-valid v = both (noLists p && (noEntry p && noText p)) (limited lim .ok (p .value)) v .1
 
     pub value-size : Valid (valueBody lim) p → length (valueBody lim .enc p) ≡ length (vLong .enc (length (p .value))) + length (p .value)
     unfolding valueBody as-type
@@ -139,7 +160,7 @@ module _ (p : Payload) where
 
   versioned-valid : Valid versionedBody p → Valid entryVersion (p .entryVersion) × Valid (limited valueLimit) (p .value)
   unfolding versionedBody as-type seq
-  versioned-valid v = both (entryVersion .ok (p .entryVersion)) (limited valueLimit .ok (p .value)) (both (noStatistics p && noText p) (entryVersion .ok (p .entryVersion) && limited valueLimit .ok (p .value)) v .1)
+  versioned-valid v = both (entryVersion .ok (p .entryVersion)) (limited valueLimit .ok (p .value)) (both (noLists p && noText p) (entryVersion .ok (p .entryVersion) && limited valueLimit .ok (p .value)) v .1)
 
   pub versioned-size : Valid versionedBody p → length (versionedBody .enc p) ≡ 8 + (length (vLong .enc (length (p .value))) + length (p .value))
   unfolding versionedBody as-type seq
@@ -161,7 +182,7 @@ module _ (p : Payload) where
 
   text-valid : Valid textBody p → Valid (limitedText textLimit) (p .text)
   unfolding textBody as-type
-  text-valid v = both (noStatistics p && (noEntry p && noValue p)) (limitedText textLimit .ok (p .text)) v .1
+  text-valid v = both (noLists p && (noEntry p && noValue p)) (limitedText textLimit .ok (p .text)) v .1
 
   pub text-size : Valid textBody p → length (textBody .enc p) ≡ length (vLong .enc (length (p .text))) + length (p .text)
   unfolding textBody as-type limitedText guard
@@ -193,3 +214,90 @@ module _ (ns : List ℕ) where
   pub counted-wrote : {old new : List ℕ} {at r : ℕ} → Wrote statistics ns old new at r → Wrote statisticsBody (counted ns) old new at r
   unfolding statisticsBody
   counted-wrote w = wrote-type _ _ _ statistics w
+
+-- entries
+module _ (values : Bool) (es : List (List ℕ × List ℕ)) where
+  listed-ok : listedBody values .ok (bulkPayload es) ≡ listing values .ok es
+  unfolding listedBody as-type
+  listed-ok = refl
+
+  listed-length : length (listedBody values .enc (bulkPayload es)) ≡ length (listing values .enc es)
+  unfolding listedBody as-type
+  listed-length = refl
+
+bulk-small : (values : Bool) → codeOf (bulkOperation values) + 1 < 256
+bulk-small true = lit< tt
+bulk-small false = lit< tt
+
+module _ (values : Bool) (id : ℕ) (es : List (List ℕ × List ℕ)) where
+  -- the rules and the length of a bulk reply: those of the id and of the entries
+  pub bulk-ok : (vLong .ok id && listing values .ok es) ≡ framed (listedBody values) .ok (bulkReply values id es)
+  bulk-ok = rw (← (listed-ok values es)) (framed-ok (listedBody values) (bulkReply values id es) (bulk-small values) (lit< tt))
+
+  bulk-valid : Valid vLong id → Valid (listing values) es → Valid (framed (listedBody values)) (bulkReply values id es)
+  bulk-valid v g = sym bulk-ok ∙ and v g
+
+  bulk-length : length (framed (listedBody values) .enc (bulkReply values id es)) ≡ 4 + length (vLong .enc id) + length (listing values .enc es)
+  bulk-length = rw (← (listed-length values es)) (framed-length (listedBody values) (bulkReply values id es))
+
+  -- its header is a reply with no body, and its entries stand behind that
+  bulk-enc : framed (listedBody values) .enc (bulkReply values id es) ≡ framed noBody .enc (bulkReply values id []) ++ listing values .enc es
+  unfolding framed listedBody noBody as-type seq guard byte empty
+  bulk-enc = ap (λ (l : List ℕ). 0xa1 ∷ l) (sym (append-assoc (vLong .enc id) _ (listing values .enc es)))
+
+  bulk-wrote : {old mid new : List ℕ} {n r : ℕ} → Wrote (listing values) es old mid n r → Wrote (framed noBody) (bulkReply values id []) mid new 0 n
+      → Wrote (framed (listedBody values)) (bulkReply values id es) old new 0 r
+  unfolding seq
+  bulk-wrote x y =
+      let c = framed noBody in
+      let w = wrote-seq c (λ _. listing values) (wrote-first c (listing values) x y) (wrote-second c (listing values) x y) in
+      record { next = w .next ∙ rw bulk-enc; list = w .list ∙ rw bulk-enc; long = w .long }
+
+module _ (values : Bool) (id : ℕ) where
+  pub head-ok : Valid vLong id → Valid (framed noBody) (bulkReply values id [])
+  head-ok v = sym (framed-ok noBody (bulkReply values id []) (bulk-small values) (lit< tt)) ∙ rw (v, none-ok)
+
+  pub head-length : length (framed noBody .enc (bulkReply values id [])) ≡ 4 + length (vLong .enc id)
+  unfolding noBody as-type empty
+  head-length = framed-length noBody (bulkReply values id []) ∙ add-zero _
+
+-- entries are written first, behind the place of the header
+module _ (values : Bool) (id : ℕ) (es : List (List ℕ × List ℕ)) (old : List ℕ) (n : ℕ) where
+  bulk-kept : {new : List ℕ} → (n, new) ≡ putAt (listing values) es n old → (new ≡ old) × (Valid (listing values) es → length old < n + length (listing values .enc es))
+  unfolding listing
+  bulk-kept e = put-kept (listing values) es n old (listed-some (itemOf values) 128 es) _ e
+
+  pub bulk-broken : {new : List ℕ} → (n, new) ≡ putAt (listing values) es n old → listing values .ok es ≡ false
+      → (kept 16, new) ≡ send (framed (listedBody values)) (bulkReply values id es) old
+  bulk-broken e f = rw (bulk-kept e .0) (send-broken (framed (listedBody values)) _ old (sym (bulk-ok values id es) ∙ rw f (and-false (vLong .ok id))))
+
+  module _ (v : Valid vLong id) (l : n ≡ 4 + length (vLong .enc id)) where
+    pub bulk-short : {new : List ℕ} → (n, new) ≡ putAt (listing values) es n old → Valid (listing values) es
+        → (kept 12, new) ≡ send (framed (listedBody values)) (bulkReply values id es) old
+    bulk-short e g =
+        let k = bulk-kept e in
+        rw (k .0) (send-short (framed (listedBody values)) _ old (bulk-valid values id es v g) (omega (arith, k .1 g, bulk-length values id es, l)))
+
+    module _ {mid : List ℕ} {r : ℕ} (e : (r, mid) ≡ putAt (listing values) es n old) (f : r ≡ n → ⊥) where
+      bulk-moved : Valid (listing values) es × Room (listing values) es n old
+      bulk-moved = put-moved (listing values) es n old mid r e f
+
+      bulk-mid : Wrote (listing values) es old mid n r
+      bulk-mid = put-wrote (listing values) es n old (bulk-moved .0) (bulk-moved .1) mid r e
+
+      pub head-room : Room (framed noBody) (bulkReply values id []) 0 mid
+      head-room = omega (arith, bulk-moved .1, head-length values id, bulk-mid .long, l)
+
+      pub bulk-sent : {new : List ℕ} {m : ℕ} → Wrote (framed noBody) (bulkReply values id []) mid new 0 m
+          → (written r, new) ≡ send (framed (listedBody values)) (bulkReply values id es) old
+      bulk-sent {m = m} y =
+          let q : m ≡ n = omega (arith, y .next, head-length values id, l) in
+          send-done (framed (listedBody values)) _ old (bulk-valid values id es v (bulk-moved .0)) (omega (arith, bulk-moved .1, bulk-length values id es, l)) _ _
+          (bulk-wrote values id es bulk-mid (rw q at y))
+
+-- it answers its operation, whatever the flag
+pub send-bulk : (values flag : Bool) (id : ℕ) (es : List (List ℕ × List ℕ)) (old : List ℕ)
+    → send (framed (listedBody values)) (bulkReply values id es) old ≡ send (reply (asked (codeOf (bulkOperation values)) flag)) (bulkReply values id es) old
+unfolding reply findCode bodyAt fieldsOf
+send-bulk true flag id es old = send-framed (isAwaited BulkGet) (rowsOf BulkGet) flag (bulkReply true id es) old refl refl
+send-bulk false flag id es old = send-framed (isAwaited BulkGetKeys) (rowsOf BulkGetKeys) flag (bulkReply false id es) old refl refl

@@ -1,5 +1,6 @@
 // The writers of a reply, whatever was asked.
 mod counted;
+mod listed;
 mod write;
 
 use field::EntryVersion;
@@ -15,12 +16,14 @@ ghost use Prim.Native.Nat.{_≤_};
 ghost use Rattle.wire.specs.Write.{send};
 ghost use Rattle.message.specs.Sent.{asSent};
 ghost use Rattle.statistics.specs.Statistics.{listOf};
-ghost use Rattle.message.specs.Reply.{asked, reply, replyOf, errorReply, statisticsReply};
+ghost use Rattle.listing.specs.EntryWrite.{listedIn};
+ghost use Rattle.message.specs.Operation.{codeOf};
+ghost use Rattle.message.specs.Reply.{asked, reply, replyOf, errorReply, statisticsReply, bulkOperation, bulkReply};
 ghost use Rattle.message.specs.Refusal.{refusal};
 ghost use Rattle.reply_writer.specs.Frame.{errorOf};
 
 // The reply to what was asked: its numbers, value and text. What is not sent is 0 or empty. A reply to stats has no written form without its
-// statistics: it is 16 here, and `write_statistics` writes it.
+// statistics: it is 16 here, and `write_statistics` writes it. A reply to bulkGet or bulkGetKeys has no entries here: `write_entries` writes those.
 pub fn write_reply(out: &mut [u8], asked: Asked, head: ReplyHead, value: &[u8], text: &[u8]) -> Sent
     ensures { λ r. ⌜ (asSent r, now (out .exit)) ≡ send (reply asked) (replyOf head (now (value .entry)) (now (text .entry))) (now (out .entry)) ⌝ }
 {
@@ -43,6 +46,14 @@ pub fn write_statistics(out: &mut [u8], id: u64, x: Statistics) -> Sent
     ensures { λ r. ⌜ ((flag : Bool) → (asSent r, now (out .exit)) ≡ send (reply (asked 0x15 flag)) (statisticsReply id (listOf x)) (now (out .entry))) ⌝ }
 {
     counted::write_counted(out, id, x)
+}
+
+// The reply to bulkGet, or to bulkGetKeys where values are not asked for, with flag 0x0001 or without. Four numbers name each entry: the start and the
+// length of its key in `bytes`, and those of its value.
+pub fn write_entries(out: &mut [u8], id: u64, values: bool, bytes: &[u8], numbers: &[u64]) -> Sent
+    ensures { λ r. ⌜ ((flag : Bool) → (asSent r, now (out .exit)) ≡ send (reply (asked (codeOf (bulkOperation values)) flag)) (bulkReply values id (listedIn (now (bytes .entry)) (now (numbers .entry)))) (now (out .entry))) ⌝ }
+{
+    listed::write_listed(out, id, values, bytes, numbers)
 }
 
 // The error reply of a refusal, whatever was asked.

@@ -47,7 +47,8 @@ fn is_limited_text(s: &[u8], lim: u64) -> bool
     text::is_text(s) && is_limited(s, lim)
 }
 
-// Does a body have its fields, and no other? There are no statistics here, so that a body of statistics lacks them.
+// Does a body have its fields, and no other? There are no statistics here, so that a body of statistics lacks them, and no entries, so that a list of
+// entries is empty.
 fn keeps_body(a: ReplyHead, f: Form, value: &[u8], text: &[u8]) -> bool
     ensures { λ r. ⌜ r ≡ fieldsOf f .ok (payloadOf a (now (value .entry)) (now (text .entry))) ⌝ }
 {
@@ -59,6 +60,7 @@ fn keeps_body(a: ReplyHead, f: Form, value: &[u8], text: &[u8]) -> bool
         Form::Versioned => text.len() == 0 && is_limited(value, Reply::VALUE),
         Form::Text => is_absent(v, value) && is_limited_text(text, Reply::TEXT),
         Form::Statistics => false,
+        Form::Listed(_) => is_absent(v, value) && text.len() == 0,
     }
 }
 
@@ -83,6 +85,7 @@ fn body_end(at: usize, a: ReplyHead, f: Form, value: &[u8], text: &[u8]) -> usiz
         Form::Versioned => at + 8 + put::number_len(value.len() as u64) + value.len(),
         Form::Text => at + put::number_len(text.len() as u64) + text.len(),
         Form::Statistics => at,
+        Form::Listed(_) => at + 1,
     }
 }
 
@@ -109,6 +112,7 @@ fn put_body(out: &mut [u8], at: usize, a: ReplyHead, f: Form, value: &[u8], text
         }
         Form::Text => put::put_text(out, at, text, Reply::TEXT),
         Form::Statistics => at,
+        Form::Listed(_) => put::put_byte(out, at, 0),
     }
 }
 

@@ -1,12 +1,12 @@
 -- What reading a request goes by, field by field, and what an answer that is not whole says. Assumes nothing.
 use mathlib.Core.Path.{_≡_, refl, sym, _∙_}
 use mathlib.Core.List.{List, [], _∷_}
-use mathlib.Core.Bool.{cond}
-use Prim.Native.Nat.{ℕ, _+_}
+use mathlib.Core.Bool.{Bool, true, false, cond}
+use Prim.Native.Nat.{ℕ, _+_, zero-le}
 use native.Mathlib.Nat.{zero-add, add-zero}
 use lib.ListN.{length}
 use lib.Dec.{leb}
-use borrow.Author.Tests.{eqb-true}
+use borrow.Author.Tests.{eqb-true, le-leb}
 use types.Run.{OneOf}
 use denote.Enum.Declared.{tagOf}
 use Rattle.wire.specs.Codec.{Read, whole, more, refused, after, mapped, Bytes, readAt, byte, empty, all}
@@ -21,12 +21,12 @@ use Rattle.field.specs.declared.NumberRead.{NumberRead}
 use Rattle.field.specs.declared.NumberRead.the-variants as n
 use Rattle.field.proofs.NumberRead as number-read
 use Rattle.field.proofs.Parts.{only, at-between, not-whole, not-refused}
-use Rattle.message.specs.Operation.{findCode, isKnown, known}
-use Rattle.message.specs.Request.{Shape, keyed, writes, writesIf, keyedIf, bare, shapeOf, argsOf, operation, transaction, isVersion, editionAt, fields, toRequest, request, nameLimit, keyLimit, valueLimit}
+use Rattle.message.specs.Operation.{findCode, known}
+use Rattle.message.specs.Request.{Shape, keyed, writes, writesIf, keyedIf, bare, bulk, shapeOf, argsOf, opFits, operation, transaction, isVersion, editionAt, fields, toRequest, request, nameLimit, keyLimit, valueLimit}
 use Rattle.message.proofs.RequestLaws.{text-laws, operation-laws, transaction-laws}
 use Rattle.message.specs.Start.{start, idFound}
 use Rattle.request_reader.specs.RequestRead.{requestAt, front, options}
-use Rattle.request_reader.specs.Parts.{asFront, asOptions, asArgs, optionsAt, argsAt, argsWith, togetherOf, sendsOf, partIn, timeIn, entryIn}
+use Rattle.request_reader.specs.Parts.{asFront, asOptions, asArgs, optionsAt, argsAt, argsWith, togetherOf, sendsOf, partIn, intIn, entryIn, bulkIn}
 use Rattle.request_reader.specs.declared.Args as code
 use Rattle.request_reader.specs.declared.FrontRead.{FrontRead}
 use Rattle.request_reader.specs.declared.FrontRead.the-variants as f
@@ -37,7 +37,7 @@ use Rattle.request_reader.specs.declared.ArgsRead.the-variants as a
 use Rattle.request_reader.proofs.FrontRead as front-read
 use Rattle.request_reader.proofs.OptionsRead as options-read
 use Rattle.request_reader.proofs.ArgsRead as args-read
-use Rattle.message.proofs.Editions.{has-transaction, op-known}
+use Rattle.message.proofs.Editions.{has-transaction}
 
 start-laws : Laws start
 unfolding start
@@ -64,6 +64,12 @@ module _ (s : List ℕ) where
   unfolding transaction
   at-transaction v at = rw (has-transaction v) (simp (at-type, at-guard, at-between, after-after, at-cond, only))
 
+  -- the number is judged once it is whole; one that is not sent is 0, which no greatest one is under
+  pub at-bulk : (most : ℕ) (sent : Bool) (at : ℕ) → bulkIn s most sent at ≡ after (intIn s sent at) (λ n j. cond (leb n most) (whole n j) (refused 8))
+  unfolding bulkIn intIn
+  at-bulk most true at = simp at-guard
+  at-bulk most false at = rw (le-leb 0 most zero-le)
+
   -- the magic and the message id
   pub at-start : start .dec s ≡ after (readAt (between 0xa0 0xa0 1) s 0) (λ m j. readAt vLong s j)
   unfolding start
@@ -72,9 +78,9 @@ module _ (s : List ℕ) where
   pub at-first : front .dec s
       ≡ after (start .dec s) (λ id i.
       after (readAt byte s i) (λ v i.
-      cond (isVersion v) (after (readAt byte s i) (λ o j. cond (isKnown (findCode o)) (whole (record { id = id; version = v; op = known (findCode o) }) j) (refused 4))) (refused 3)))
+      cond (isVersion v) (after (readAt byte s i) (λ o j. cond (opFits (editionAt v) o) (whole (record { id = id; version = v; op = known (findCode o) }) j) (refused 4))) (refused 3)))
   unfolding front operation
-  at-first = sym (at-front front s) ∙ rw (← (at-front start s)) (simp (at-type, at-seq, at-guard, after-after, at-cond, op-known))
+  at-first = sym (at-front front s) ∙ rw (← (at-front start s)) (simp (at-type, at-seq, at-guard, after-after, at-cond))
 
   pub in-parts : request .dec s
       ≡ after (front .dec s) (λ f i.
@@ -110,16 +116,18 @@ module _ (s : List ℕ) where
       -- each argument stands behind the one before, where the shape has it
       pub at-args : (sh : Shape) → mapped (argsAt at) (readAt (argsOf sh) s at)
           ≡ after (partIn s keyLimit (sendsOf sh .key) at) (λ k i.
-          after (timeIn s (sendsOf sh .write) i) (λ l i.
-          after (timeIn s (sendsOf sh .write) i) (λ m i.
+          after (intIn s (sendsOf sh .write) i) (λ l i.
+          after (intIn s (sendsOf sh .write) i) (λ m i.
           after (entryIn s (sendsOf sh .version) i) (λ e i.
-          after (partIn s valueLimit (sendsOf sh .write) i) (λ v n. whole (argsWith k l m e v) n)))))
-      unfolding mapped argsOf argsAt partIn timeIn entryIn spanTo
+          after (partIn s valueLimit (sendsOf sh .write) i) (λ v i.
+          after (bulkIn s (sendsOf sh .most) (sendsOf sh .bulk) i) (λ b n. whole (argsWith k l m e v b) n))))))
+      unfolding mapped argsOf argsAt partIn intIn entryIn bulkIn spanTo
       at-args keyed = simp (at-type, after-after) (after-on (readAt (limited keyLimit) s at) (λ bs n e. rw (exact bs n e)))
       at-args writes = simp (at-type, at-seq, after-after) (after-on (readAt (limited keyLimit) s at) (λ bs n e. rw (exact bs n e)))
       at-args writesIf = simp (at-type, at-seq, after-after) (after-on (readAt (limited keyLimit) s at) (λ bs n e. rw (exact bs n e)))
       at-args keyedIf = simp (at-type, at-seq, after-after) (after-on (readAt (limited keyLimit) s at) (λ bs n e. rw (exact bs n e)))
       at-args bare = simp (at-type, at-none)
+      at-args (bulk most) = simp (at-type, after-after)
 
     -- a request is its three parts
     pub at-request : mapped requestAt (request .dec s)

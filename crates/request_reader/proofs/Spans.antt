@@ -11,7 +11,7 @@ use Rattle.wire.proofs.At.{at-front, at-exact, typed, halves}
 use Rattle.wire.proofs.FieldLaws.{limited-laws}
 use Rattle.field.specs.FieldRead.{limitedText, partOf, spanTo}
 use Rattle.field.proofs.Parts.{part-read, text-read, no-part}
-use Rattle.message.specs.Request.{Shape, keyed, writes, writesIf, keyedIf, bare, shapeOf, Args, argsOf, nameLimit, keyLimit, valueLimit, Request, requestIn, request}
+use Rattle.message.specs.Request.{Shape, keyed, writes, writesIf, keyedIf, bare, bulk, shapeOf, Args, argsOf, nameLimit, keyLimit, valueLimit, Request, requestIn, request}
 use Rattle.message.proofs.RequestLaws.{text-laws}
 use Rattle.request_reader.specs.RequestRead.{asRequest, front, options, Options, requestAt}
 use Rattle.request_reader.specs.declared.RequestRead.{RequestRead}
@@ -56,6 +56,9 @@ module _ (s : List ℕ) where
         let k = halves _ _ s at _ n (x .read) in
         subst (λ (y : Args). Stand at y n) (x .same) (record { key = key-part at _ _ (k .first); value = no-part s n })
     args-stand bare at a n e =
+        let x = typed _ _ _ _ s at a n e in
+        subst (λ (y : Args). Stand at y n) (x .same) (record { key = no-part s _; value = no-part s n })
+    args-stand (bulk most) at a n e =
         let x = typed _ _ _ _ s at a n e in
         subst (λ (y : Args). Stand at y n) (x .same) (record { key = no-part s _; value = no-part s n })
 

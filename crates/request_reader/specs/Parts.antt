@@ -3,13 +3,14 @@ use mathlib.Core.List.{List}
 use mathlib.Core.Bool.{Bool, true, false, cond}
 use Prim.Native.Nat.{ℕ, _+_}
 use lib.ListN.{length}
-use Rattle.wire.specs.Codec.{Read, whole, more, refused, mapped, readAt}
+use lib.Dec.{leb}
+use Rattle.wire.specs.Codec.{Read, whole, more, refused, guard, mapped, readAt}
 use Rattle.wire.specs.Number.{vInt}
 use Rattle.wire.specs.Field.{limited, entryVersion}
 use Rattle.field.specs.FieldRead.{limitedText, nowhere, spanTo}
 use Rattle.field.specs.declared.Span.{Span}
 use Rattle.message.specs.declared.Request.{Request}
-use Rattle.message.specs.Request.{Shape, keyed, writes, writesIf, keyedIf, bare, Args, nameLimit, keyLimit}
+use Rattle.message.specs.Request.{Shape, keyed, writes, writesIf, keyedIf, bare, bulk, Args, nameLimit, keyLimit}
 use Rattle.request_reader.specs.RequestRead as a
 use Rattle.request_reader.specs.declared.Front.{Front}
 use Rattle.request_reader.specs.declared.FrontRead.{FrontRead}
@@ -47,12 +48,12 @@ optionsAt at x n =
       topology = x .1 .1 .1 .0;
     }
 
-abbrev pub argsWith : Span → (lifespan idle entry : ℕ) → Span → code-args.Args
-argsWith key l i e value = record { key = key; lifespan = l; idle = i; entry = record { 0 = e }; value = value }
+abbrev pub argsWith : Span → (lifespan idle entry : ℕ) → Span → (bulk : ℕ) → code-args.Args
+argsWith key l i e value b = record { key = key; lifespan = l; idle = i; entry = record { 0 = e }; value = value; bulk = b }
 
 unfoldable pub argsAt : ℕ → Args → ℕ → code-args.Args
 argsAt at x n =
-    argsWith (spanTo (x .key) (at + length (limited keyLimit .enc (x .key)))) (x .lifespan) (x .maxIdle) (x .entryVersion) (spanTo (x .value) n)
+    argsWith (spanTo (x .key) (at + length (limited keyLimit .enc (x .key)))) (x .lifespan) (x .maxIdle) (x .entryVersion) (spanTo (x .value) n) (x .bulk)
 
 abbrev pub togetherOf : Front → Options → code-args.Args → Request
 togetherOf f o a =
@@ -67,6 +68,7 @@ togetherOf f o a =
         lifespan = a .lifespan;
         idle = a .idle;
         entry = a .entry;
+        bulk = a .bulk;
       };
       name = o .name;
       key = a .key;
@@ -75,7 +77,10 @@ togetherOf f o a =
 
 -- which arguments each shape has
 abbrev pub sends : (key write version : Bool) → Sends
-sends k w v = record { key = k; write = w; version = v }
+sends k w v = record { key = k; write = w; version = v; bulk = false; most = 0 }
+
+abbrev pub sendsNumber : ℕ → Sends
+sendsNumber n = record { key = false; write = false; version = false; bulk = true; most = n }
 
 abbrev pub sendsOf : Shape → Sends
 sendsOf keyed = sends true false false
@@ -83,13 +88,17 @@ sendsOf writes = sends true true false
 sendsOf writesIf = sends true true true
 sendsOf keyedIf = sends true false true
 sendsOf bare = sends false false false
+sendsOf (bulk most) = sendsNumber most
 
 -- an argument that is not sent takes no bytes, and is blank: a part that stands nowhere, or 0
 unfoldable pub partIn : List ℕ → (lim : ℕ) → (sent : Bool) → ℕ → Read Span
 partIn s lim sent at = cond sent (mapped spanTo (readAt (limited lim) s at)) (whole nowhere at)
 
-unfoldable pub timeIn : List ℕ → (sent : Bool) → ℕ → Read ℕ
-timeIn s sent at = cond sent (readAt vInt s at) (whole 0 at)
+unfoldable pub intIn : List ℕ → (sent : Bool) → ℕ → Read ℕ
+intIn s sent at = cond sent (readAt vInt s at) (whole 0 at)
 
 unfoldable pub entryIn : List ℕ → (sent : Bool) → ℕ → Read ℕ
 entryIn s sent at = cond sent (readAt entryVersion s at) (whole 0 at)
+
+unfoldable pub bulkIn : List ℕ → (most : ℕ) → (sent : Bool) → ℕ → Read ℕ
+bulkIn s most sent at = cond sent (readAt (guard (λ n. leb n most) 8 vInt) s at) (whole 0 at)

@@ -64,6 +64,7 @@ headOf m =
       lifespan = m .args .lifespan;
       idle = m .args .maxIdle;
       entry = record { 0 = m .args .entryVersion };
+      bulk = m .args .bulk;
     }
 
 -- the answer of a request of n bytes: a value that is sent ends it

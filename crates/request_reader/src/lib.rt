@@ -18,7 +18,7 @@ ghost use Rattle.field.specs.FieldRead.{asNumber, asVersion, asSpan, stopped};
 ghost use Rattle.message.specs.Request.{request, shapeOf, argsOf};
 ghost use Rattle.message.specs.Start.{start, idIn};
 ghost use Rattle.request_reader.specs.RequestRead.{asRequest, requestAt, front, options};
-ghost use Rattle.request_reader.specs.Parts.{asFront, asOptions, asArgs, optionsAt, argsAt, togetherOf, sends, sendsOf, partIn, timeIn, entryIn};
+ghost use Rattle.request_reader.specs.Parts.{asFront, asOptions, asArgs, optionsAt, argsAt, togetherOf, sends, sendsNumber, sendsOf, argsWith, partIn, intIn, entryIn, bulkIn};
 
 // What reading a request finds: the request with the number of bytes it took, more needed, or a refusal by its number.
 pub enum RequestRead {
@@ -48,6 +48,7 @@ struct Args {
     idle: u64,
     entry: EntryVersion,
     value: Span,
+    bulk: u64,
 }
 
 // What reading each of them finds.
@@ -116,6 +117,9 @@ fn read_front(s: &[u8]) -> FrontRead
     let Found::Known(op) = found else {
         return FrontRead::Refused(4);
     };
+    if !rules::serves(version, op) {
+        return FrontRead::Refused(4);
+    }
     FrontRead::Whole(
         Front {
             id: id,
@@ -184,11 +188,13 @@ fn read_options(s: &[u8], c: Cursor, version: u8) -> OptionsRead
     )
 }
 
-// Which arguments an operation is sent: a key; the times and the value of a write; an entry version.
+// Which arguments an operation is sent: a key; the times and the value of a write; an entry version; a number, and the greatest one.
 struct Sends {
     key: bool,
     write: bool,
     version: bool,
+    bulk: bool,
+    most: u64,
 }
 
 fn sent_by(op: Operation) -> Sends
@@ -201,6 +207,7 @@ fn sent_by(op: Operation) -> Sends
         Shape::WritesIf => these(true, true, true),
         Shape::KeyedIf => these(true, false, true),
         Shape::Bare => these(false, false, false),
+        Shape::Bulk(most) => number(most),
     }
 }
 
@@ -211,6 +218,20 @@ fn these(key: bool, write: bool, version: bool) -> Sends
         key: key,
         write: write,
         version: version,
+        bulk: false,
+        most: 0,
+    }
+}
+
+fn number(most: u64) -> Sends
+    ensures { λ r. ⌜ r ≡ sendsNumber most ⌝ }
+{
+    Sends {
+        key: false,
+        write: false,
+        version: false,
+        bulk: true,
+        most: most,
     }
 }
 
@@ -224,9 +245,9 @@ fn read_part(s: &[u8], c: Cursor, sent: bool, lim: u64) -> SpanRead
     field::read_limited(s, c, lim)
 }
 
-// A lifespan or a max idle.
-fn read_time(s: &[u8], c: Cursor, sent: bool) -> NumberRead
-    ensures { λ r. ⌜ asNumber r ≡ timeIn (now (s .entry)) sent (c .at) ⌝ }
+// A vInt, where it is sent: a lifespan, a max idle, the number of a bulkGet or a bulkGetKeys.
+fn read_int(s: &[u8], c: Cursor, sent: bool) -> NumberRead
+    ensures { λ r. ⌜ asNumber r ≡ intIn (now (s .entry)) sent (c .at) ⌝ }
 {
     if !sent {
         return NumberRead::Whole(0, c);
@@ -243,6 +264,33 @@ fn read_entry(s: &[u8], c: Cursor, sent: bool) -> VersionRead
     field::read_version(s, c)
 }
 
+// The number of a bulkGet or a bulkGetKeys: one above the greatest is refused.
+fn read_bulk(s: &[u8], c: Cursor, sent: bool, most: u64) -> NumberRead
+    ensures { λ r. ⌜ asNumber r ≡ bulkIn (now (s .entry)) most sent (c .at) ⌝ }
+{
+    let r = read_int(s, c, sent);
+    let NumberRead::Whole(n, _) = r else {
+        return r;
+    };
+    if most < n {
+        return NumberRead::Refused(8);
+    }
+    r
+}
+
+fn args_of(key: Span, lifespan: u64, idle: u64, entry: EntryVersion, value: Span, bulk: u64) -> Args
+    ensures { λ r. ⌜ r ≡ argsWith key lifespan idle (entry .0) value bulk ⌝ }
+{
+    Args {
+        key: key,
+        lifespan: lifespan,
+        idle: idle,
+        entry: entry,
+        value: value,
+        bulk: bulk,
+    }
+}
+
 // The arguments, each where the operation's shape has it.
 fn read_args(s: &[u8], c: Cursor, op: Operation) -> ArgsRead
     ensures { λ r. ⌜ asArgs r ≡ mapped (argsAt (c .at)) (readAt (argsOf (shapeOf op)) (now (s .entry)) (c .at)) ⌝ }
@@ -252,11 +300,11 @@ fn read_args(s: &[u8], c: Cursor, op: Operation) -> ArgsRead
     let SpanRead::Whole(key, c1) = r1 else {
         return stop_args(r1.length());
     };
-    let r2 = read_time(s, c1, sent.write);
+    let r2 = read_int(s, c1, sent.write);
     let NumberRead::Whole(lifespan, c2) = r2 else {
         return stop_args(r2);
     };
-    let r3 = read_time(s, c2, sent.write);
+    let r3 = read_int(s, c2, sent.write);
     let NumberRead::Whole(idle, c3) = r3 else {
         return stop_args(r3);
     };
@@ -265,19 +313,14 @@ fn read_args(s: &[u8], c: Cursor, op: Operation) -> ArgsRead
         return ArgsRead::More;
     };
     let r5 = read_part(s, c4, sent.write, Request::VALUE);
-    let SpanRead::Whole(value, end) = r5 else {
+    let SpanRead::Whole(value, c5) = r5 else {
         return stop_args(r5.length());
     };
-    ArgsRead::Whole(
-        Args {
-            key: key,
-            lifespan: lifespan,
-            idle: idle,
-            entry: entry,
-            value: value,
-        },
-        end,
-    )
+    let r6 = read_bulk(s, c5, sent.bulk, sent.most);
+    let NumberRead::Whole(bulk, end) = r6 else {
+        return stop_args(r6);
+    };
+    ArgsRead::Whole(args_of(key, lifespan, idle, entry, value, bulk), end)
 }
 
 // The request of its three parts.
@@ -300,6 +343,7 @@ fn put_together(f: Front, o: Options, a: Args) -> Request
             lifespan: a.lifespan,
             idle: a.idle,
             entry: entry,
+            bulk: a.bulk,
         },
         name: name,
         key: key,

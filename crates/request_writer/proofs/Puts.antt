@@ -16,7 +16,7 @@ use Rattle.wire.proofs.WriteLaws.{wrote-seq, wrote-guard, wrote-type, put-wrote
 use Rattle.field.specs.FieldRead.{limitedText}
 use Rattle.message.specs.declared.Operation.{Operation}
 use Rattle.message.specs.Operation.{codeOf}
-use Rattle.message.specs.Request.{keyed, writes, writesIf, keyedIf, bare, shapeOf, Args, argsOf, opFits, operation, transaction, isVersion, editionAt, fields, Request, request, nameLimit, keyLimit, valueLimit}
+use Rattle.message.specs.Request.{keyed, writes, writesIf, keyedIf, bare, bulk, shapeOf, Args, argsOf, opFits, operation, transaction, isVersion, editionAt, fields, Request, request, nameLimit, keyLimit, valueLimit}
 use Rattle.message.proofs.Editions.{has-transaction}
 use Rattle.request_writer.specs.Parts.{Ready}
 
@@ -91,6 +91,11 @@ module _ (a : Args) {at : ℕ} {o₀ : List ℕ} where
   pub put-bare : Ready (argsOf bare) a at o₀ → Wrote (argsOf bare) a o₀ o₀ at at
   unfolding argsOf as-type empty
   put-bare x = record { next = sym (add-zero at); list = refl; long = refl }
+
+  pub put-bulk : (most : ℕ) {r : ℕ} {o₁ : List ℕ} → Ready (argsOf (bulk most)) a at o₀ → (r, o₁) ≡ putAt vInt (a .bulk) at o₀
+      → Wrote (argsOf (bulk most)) a o₀ o₁ at r
+  unfolding argsOf
+  put-bulk most x e = wrote-type _ _ _ _ (put-guard (λ n. leb n most) 8 vInt (ready-type _ _ _ _ x) e)
 
 -- the fields that are made of a byte
 put-operation : (v : ℕ) {o : Operation} {at r : ℕ} {old new : List ℕ} → Ready (operation (editionAt v)) o at old → (b : ℕ) → b ≡ codeOf o → (r, new) ≡ putAt byte b at old

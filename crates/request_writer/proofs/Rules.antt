@@ -4,7 +4,7 @@ use mathlib.Core.Bool.{Bool, true, false, _&&_}
 use Prim.Native.Nat.{ℕ, _≤_, _<_, _^_}
 use native.Mathlib.Omega.{arith}
 use lib.ListN.{length}
-use lib.Dec.{eqb, leb}
+use lib.Dec.{eqb, leb, lit≤}
 use borrow.Author.Tests.{leb-true, le-leb, eqb-true, eq-eqb, lt-ltb}
 use Rattle.wire.specs.Codec.{Codec, Valid, Bytes, empty, byte}
 use Rattle.wire.specs.Number.{vInt, vLong}
@@ -15,11 +15,13 @@ use Rattle.wire.proofs.NumberWrite.{number-good}
 use Rattle.wire.proofs.FieldLaws.{big-good, limited-valid, limited-good}
 use Rattle.text.specs.Text.{isText}
 use Rattle.field.specs.FieldRead.{limitedText}
+use Rattle.message.specs.declared.Operation.{Operation}
+use Rattle.message.specs.declared.Operation.the-variants.{Put, Get, PutIfAbsent, Replace, ReplaceIfUnmodified, Remove, RemoveIfUnmodified, ContainsKey, GetWithVersion, Clear, Stats, Ping, BulkGet, BulkGetKeys}
 use Rattle.message.specs.Operation.{codeOf}
-use Rattle.message.specs.Request.{Shape, keyed, writes, writesIf, keyedIf, bare, shapeOf, Args, argsOf, isEmpty, noTimes, noEntry, noValue, opFits, operation, isVersion, editionAt, Request, request, nameLimit, keyLimit, valueLimit}
+use Rattle.message.specs.Request.{Shape, keyed, writes, writesIf, keyedIf, bare, bulk, shapeOf, Args, argsOf, isEmpty, noTimes, noEntry, noBulk, noValue, opFits, operation, isVersion, editionAt, Request, request, nameLimit, keyLimit, valueLimit}
 use Rattle.message.proofs.RequestLaws.{code-found}
 use Rattle.message.proofs.RequestParts.{parts, whole-request}
-use Rattle.message.proofs.Editions.{op-known, flags-small, version-small, code-small}
+use Rattle.message.proofs.Editions.{flags-small, version-small, code-small}
 use Rattle.request_writer.specs.Parts.{Limits, limitsOf}
 
 -- a test of a message tells its rules
@@ -52,6 +54,7 @@ pub record Within (l : Limits) (a : Args) : Type 0 where
   pub idle : a .maxIdle ≤ l .time
   pub entry : a .entryVersion ≤ l .entry
   pub value : length (a .value) ≤ l .value
+  pub bulk : a .bulk ≤ l .bulk
 
 module _ (a : Args) where
   times : noTimes a ≡ true → (a .lifespan ≤ 0) × (a .maxIdle ≤ 0)
@@ -64,17 +67,20 @@ module _ (a : Args) where
   unfolding argsOf
   within keyed h v =
       let w = type-valid _ _ _ _ a v in
-      let b = both (noTimes a) (noEntry a && noValue a) (w .0) in
-      let d = both (noEntry a) (noValue a) (b .1) in
+      let b = both (noTimes a) (noEntry a && (noBulk a && noValue a)) (w .0) in
+      let d = both (noEntry a) (noBulk a && noValue a) (b .1) in
+      let f = both (noBulk a) (noValue a) (d .1) in
       record {
         key = limited-valid keyLimit (a .key) (w .1) .0;
         lifespan = times (b .0) .0;
         idle = times (b .0) .1;
         entry = no-number (a .entryVersion) (d .0);
-        value = no-number (length (a .value)) (d .1);
+        value = no-number (length (a .value)) (f .1);
+        bulk = no-number (a .bulk) (f .0);
       }
   within writes h v =
       let w = type-valid _ _ _ _ a v in
+      let b = both (noEntry a) (noBulk a) (w .0) in
       let k = seq-valid _ _ _ (w .1) in
       let l = seq-valid _ _ _ (k .1) in
       let m = seq-valid _ _ _ (l .1) in
@@ -82,8 +88,9 @@ module _ (a : Args) where
         key = limited-valid keyLimit (a .key) (k .0) .0;
         lifespan = int-least (a .lifespan) (l .0);
         idle = int-least (a .maxIdle) (m .0);
-        entry = no-number (a .entryVersion) (w .0);
+        entry = no-number (a .entryVersion) (b .0);
         value = limited-valid valueLimit (a .value) (m .1) .0;
+        bulk = no-number (a .bulk) (b .1);
       }
   within writesIf h v =
       let w = type-valid _ _ _ _ a v in
@@ -97,19 +104,36 @@ module _ (a : Args) where
         idle = int-least (a .maxIdle) (m .0);
         entry = omega arith;
         value = limited-valid valueLimit (a .value) (e .1) .0;
+        bulk = no-number (a .bulk) (w .0);
       }
   within keyedIf h v =
       let w = type-valid _ _ _ _ a v in
       let k = seq-valid _ _ _ (w .1) in
-      let b = both (noTimes a) (noValue a) (w .0) in
+      let b = both (noTimes a) (noBulk a && noValue a) (w .0) in
+      let d = both (noBulk a) (noValue a) (b .1) in
       record {
         key = limited-valid keyLimit (a .key) (k .0) .0;
         lifespan = times (b .0) .0;
         idle = times (b .0) .1;
         entry = omega arith;
-        value = no-number (length (a .value)) (b .1);
+        value = no-number (length (a .value)) (d .1);
+        bulk = no-number (a .bulk) (d .0);
       }
   within bare h v =
+      let w = type-valid _ _ _ _ a v in
+      let b = both (isEmpty (a .key)) (noTimes a && (noEntry a && (noBulk a && noValue a))) (w .0) in
+      let d = both (noTimes a) (noEntry a && (noBulk a && noValue a)) (b .1) in
+      let e = both (noEntry a) (noBulk a && noValue a) (d .1) in
+      let f = both (noBulk a) (noValue a) (e .1) in
+      record {
+        key = no-number (length (a .key)) (b .0);
+        lifespan = times (d .0) .0;
+        idle = times (d .0) .1;
+        entry = no-number (a .entryVersion) (e .0);
+        value = no-number (length (a .value)) (f .1);
+        bulk = no-number (a .bulk) (f .0);
+      }
+  within (bulk most) h v =
       let w = type-valid _ _ _ _ a v in
       let b = both (isEmpty (a .key)) (noTimes a && (noEntry a && noValue a)) (w .0) in
       let d = both (noTimes a) (noEntry a && noValue a) (b .1) in
@@ -120,44 +144,70 @@ module _ (a : Args) where
         idle = times (d .0) .1;
         entry = no-number (a .entryVersion) (e .0);
         value = no-number (length (a .value)) (e .1);
+        bulk = leb-true (a .bulk) most (guard-valid (λ n. leb n most) 8 vInt (a .bulk) (w .1) .0);
       }
 
-  within-good : (shape : Shape) → Bytes (a .key) → Bytes (a .value) → Within (limitsOf shape) a → Valid (argsOf shape) a
+  within-good : (shape : Shape) → limitsOf shape .bulk ≤ 0xffff_ffff → Bytes (a .key) → Bytes (a .value) → Within (limitsOf shape) a → Valid (argsOf shape) a
   unfolding argsOf empty
-  within-good keyed bk bv w =
-      type-good _ _ _ _ (and (no-times (w .lifespan) (w .idle)) (and (is-zero (a .entryVersion) (w .entry)) (is-zero (length (a .value)) (w .value))))
+  within-good keyed h bk bv w =
+      type-good _ _ _ _
+      (and (no-times (w .lifespan) (w .idle)) (and (is-zero (a .entryVersion) (w .entry)) (and (is-zero (a .bulk) (w .bulk)) (is-zero (length (a .value)) (w .value)))))
       (limited-good keyLimit (a .key) (omega arith) (w .key) bk)
-  within-good writes bk bv w =
-      type-good _ _ _ _ (is-zero (a .entryVersion) (w .entry))
+  within-good writes h bk bv w =
+      type-good _ _ _ _ (and (is-zero (a .entryVersion) (w .entry)) (is-zero (a .bulk) (w .bulk)))
       (seq-good _ _ (limited-good keyLimit (a .key) (omega arith) (w .key) bk)
       (seq-good _ _ (int-good (a .lifespan) (w .lifespan))
       (seq-good _ _ (int-good (a .maxIdle) (w .idle)) (limited-good valueLimit (a .value) (omega arith) (w .value) bv))))
-  within-good writesIf bk bv w =
-      type-good _ _ _ _ refl
+  within-good writesIf h bk bv w =
+      type-good _ _ _ _ (is-zero (a .bulk) (w .bulk))
       (seq-good _ _ (limited-good keyLimit (a .key) (omega arith) (w .key) bk)
       (seq-good _ _ (int-good (a .lifespan) (w .lifespan))
       (seq-good _ _ (int-good (a .maxIdle) (w .idle))
       (seq-good _ _ (big-good 8 (a .entryVersion) (omega (arith, w .entry))) (limited-good valueLimit (a .value) (omega arith) (w .value) bv)))))
-  within-good keyedIf bk bv w =
-      type-good _ _ _ _ (and (no-times (w .lifespan) (w .idle)) (is-zero (length (a .value)) (w .value)))
+  within-good keyedIf h bk bv w =
+      type-good _ _ _ _ (and (no-times (w .lifespan) (w .idle)) (and (is-zero (a .bulk) (w .bulk)) (is-zero (length (a .value)) (w .value))))
       (seq-good _ _ (limited-good keyLimit (a .key) (omega arith) (w .key) bk) (big-good 8 (a .entryVersion) (omega (arith, w .entry))))
-  within-good bare bk bv w =
+  within-good bare h bk bv w =
+      type-good _ _ _ _
+      (and (is-zero (length (a .key)) (w .key))
+      (and (no-times (w .lifespan) (w .idle)) (and (is-zero (a .entryVersion) (w .entry)) (and (is-zero (a .bulk) (w .bulk)) (is-zero (length (a .value)) (w .value))))))
+      refl
+  within-good (bulk most) h bk bv w =
       type-good _ _ _ _
       (and (is-zero (length (a .key)) (w .key)) (and (no-times (w .lifespan) (w .idle)) (and (is-zero (a .entryVersion) (w .entry)) (is-zero (length (a .value)) (w .value)))))
-      refl
+      (guard-good (λ n. leb n most) 8 vInt (le-leb (a .bulk) most (w .bulk)) (int-good (a .bulk) (omega (arith, w .bulk))))
 
--- the test of the arguments, by limits that are those of the shape
-module _ (shape : Shape) (a : Args) (l : Limits) (e : l ≡ limitsOf shape) where
-  pub broken-args : a .entryVersion < 256 ^ 8 → (Within l a → ⊥) → false ≡ argsOf shape .ok a
-  broken-args h n = broken-by (argsOf shape) a (λ v. n (rw e (within a shape h v)))
+-- each number that an operation sends is a vInt
+pub bulk-int : (o : Operation) → limitsOf (shapeOf o) .bulk ≤ 0xffff_ffff
+unfolding shapeOf
+bulk-int Put = lit≤ tt
+bulk-int Get = lit≤ tt
+bulk-int PutIfAbsent = lit≤ tt
+bulk-int Replace = lit≤ tt
+bulk-int ReplaceIfUnmodified = lit≤ tt
+bulk-int Remove = lit≤ tt
+bulk-int RemoveIfUnmodified = lit≤ tt
+bulk-int ContainsKey = lit≤ tt
+bulk-int GetWithVersion = lit≤ tt
+bulk-int Clear = lit≤ tt
+bulk-int Stats = lit≤ tt
+bulk-int Ping = lit≤ tt
+bulk-int BulkGet = lit≤ tt
+bulk-int BulkGetKeys = lit≤ tt
 
-  pub good-args : Bytes (a .key) → Bytes (a .value) → Within l a → true ≡ argsOf shape .ok a
-  good-args bk bv w = sym (within-good a shape bk bv (rw e at w))
+-- the test of the arguments, by limits that are those of the operation's shape
+module _ (o : Operation) (a : Args) (l : Limits) (e : l ≡ limitsOf (shapeOf o)) where
+  pub broken-args : a .entryVersion < 256 ^ 8 → (Within l a → ⊥) → false ≡ argsOf (shapeOf o) .ok a
+  broken-args h n = broken-by (argsOf (shapeOf o)) a (λ v. n (rw e (within a (shapeOf o) h v)))
+
+  pub good-args : Bytes (a .key) → Bytes (a .value) → Within l a → true ≡ argsOf (shapeOf o) .ok a
+  good-args bk bv w = sym (within-good a (shapeOf o) (bulk-int o) bk bv (rw e at w))
 
 -- the rules of a request, one by one
 pub record Rules (q : Request) : Type 0 where
   pub id : q .id < 0x8000_0000_0000_0000
   pub version : isVersion (q .version) ≡ true
+  pub serves : editionAt (q .version) .serves (q .op) ≡ true
   pub text : isText (q .name) ≡ true
   pub name : length (q .name) ≤ nameLimit
   pub flags : q .flags ≤ editionAt (q .version) .flags
@@ -165,6 +215,20 @@ pub record Rules (q : Request) : Type 0 where
   pub high : q .intelligence ≤ 3
   pub topology : q .topology ≤ 0xffff_ffff
   pub args : Valid (argsOf (shapeOf (q .op))) (q .args)
+
+-- an operation can be sent where the version has it
+module _ (q : Request) where
+  operation-serves : Valid (operation (editionAt (q .version))) (q .op) → editionAt (q .version) .serves (q .op) ≡ true
+  unfolding operation
+  operation-serves v =
+      let w = guard-valid (opFits (editionAt (q .version))) 4 byte (codeOf (q .op)) (type-valid _ _ _ _ (q .op) v .1) .0 in
+      rw (code-found (q .op)) at w
+
+  operation-good : editionAt (q .version) .serves (q .op) ≡ true → Valid (operation (editionAt (q .version))) (q .op)
+  unfolding operation byte
+  operation-good s =
+      type-good _ _ _ _ refl
+      (guard-good (opFits (editionAt (q .version))) 4 byte (rw (code-found (q .op), s)) (lt-ltb (codeOf (q .op)) 256 (omega (arith, code-small (q .op)))))
 
 pub rules : (q : Request) → Valid request q → Rules q
 unfolding limitedText vLong
@@ -175,6 +239,7 @@ rules q v =
     record {
       id = valid 2 127 8 0 (q .id) (p .id) .1;
       version = guard-valid isVersion 3 byte (q .version) (p .version) .0;
+      serves = operation-serves q (p .op);
       text = n .0;
       name = limited-valid nameLimit (q .name) (n .1) .0;
       flags = leb-true (q .flags) _ (guard-valid _ 8 vInt (q .flags) (p .flags) .0);
@@ -184,20 +249,13 @@ rules q v =
       args = p .args;
     }
 
--- the operation of every request can be sent
-operation-good : (q : Request) → Valid (operation (editionAt (q .version))) (q .op)
-unfolding operation byte
-operation-good q =
-    type-good _ _ _ _ refl
-    (guard-good (opFits (editionAt (q .version))) 4 byte (rw (op-known (q .version), code-found (q .op))) (lt-ltb (codeOf (q .op)) 256 (omega (arith, code-small (q .op)))))
-
 pub good : (q : Request) → Bytes (q .name) → Rules q → Valid request q
 unfolding limitedText vLong byte
 good q b r =
     whole-request q (record {
       id = number-good 2 127 8 0 (q .id) (omega arith) (r .id);
       version = guard-good isVersion 3 byte (r .version) (lt-ltb (q .version) 256 (version-small (q .version) (r .version)));
-      op = operation-good q;
+      op = operation-good q (r .serves);
       name = guard-good isText 7 (limited nameLimit) (r .text) (limited-good nameLimit (q .name) (omega arith) (r .name) b);
       flags = guard-good _ 8 vInt (le-leb (q .flags) _ (r .flags)) (int-good (q .flags) (omega (arith, r .flags, flags-small (q .version))));
       intelligence =

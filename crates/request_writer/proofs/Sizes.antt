@@ -8,28 +8,29 @@ use Rattle.wire.specs.Number.{vInt, vLong}
 use Rattle.wire.proofs.NumberWrite.{int-long}
 use Rattle.wire.proofs.FieldLaws.{big-length, limited-length}
 use Rattle.field.specs.FieldRead.{limitedText}
-use Rattle.message.specs.Request.{Shape, keyed, writes, writesIf, keyedIf, bare, shapeOf, Args, argsOf, operation, transaction, editionAt, fields, Request, request, nameLimit, keyLimit, valueLimit}
+use Rattle.message.specs.Request.{Shape, keyed, writes, writesIf, keyedIf, bare, bulk, shapeOf, Args, argsOf, operation, transaction, editionAt, fields, Request, request, nameLimit, keyLimit, valueLimit}
 use Rattle.message.proofs.Editions.{has-transaction, flags-small}
 use Rattle.request_writer.specs.Parts.{limitsOf, sizeOf, argsSize}
-use Rattle.request_writer.proofs.Rules.{Within, within, Rules}
+use Rattle.request_writer.proofs.Rules.{Within, within, bulk-int, Rules}
 
 int-size : (v : ℕ) → v ≤ 0xffff_ffff → length (vInt .enc v) ≡ length (vLong .enc v)
 int-size v h = ap length (int-long v (omega arith))
 
 module _ (a : Args) where
-  args-size : (shape : Shape) → Within (limitsOf shape) a → length (argsOf shape .enc a) ≡ argsSize shape a
-  unfolding argsOf argsSize as-type seq empty
-  args-size keyed w = limited-length keyLimit (a .key) (omega (arith, w .key))
-  args-size writes w =
+  args-size : (shape : Shape) → limitsOf shape .bulk ≤ 0xffff_ffff → Within (limitsOf shape) a → length (argsOf shape .enc a) ≡ argsSize shape a
+  unfolding argsOf argsSize as-type seq guard empty
+  args-size keyed h w = limited-length keyLimit (a .key) (omega (arith, w .key))
+  args-size writes h w =
       simp length-append
       (omega
       (arith, limited-length keyLimit (a .key) (omega (arith, w .key)), int-size (a .lifespan) (w .lifespan), int-size (a .maxIdle) (w .idle), limited-length valueLimit (a .value) (omega (arith, w .value))))
-  args-size writesIf w =
+  args-size writesIf h w =
       simp length-append
       (omega
       (arith, limited-length keyLimit (a .key) (omega (arith, w .key)), int-size (a .lifespan) (w .lifespan), int-size (a .maxIdle) (w .idle), big-length 8 (a .entryVersion), limited-length valueLimit (a .value) (omega (arith, w .value))))
-  args-size keyedIf w = simp length-append (omega (arith, limited-length keyLimit (a .key) (omega (arith, w .key)), big-length 8 (a .entryVersion)))
-  args-size bare w = refl
+  args-size keyedIf h w = simp length-append (omega (arith, limited-length keyLimit (a .key) (omega (arith, w .key)), big-length 8 (a .entryVersion)))
+  args-size bare h w = refl
+  args-size (bulk most) h w = int-size (a .bulk) (omega (arith, w .bulk))
 
   -- no shape sends more than the greatest key and value
   pub args-small : (shape : Shape) → Within (limitsOf shape) a → (length (a .key) ≤ keyLimit) × (length (a .value) ≤ valueLimit)
@@ -38,6 +39,7 @@ module _ (a : Args) where
   args-small writesIf w = (omega (arith, w .key), omega (arith, w .value))
   args-small keyedIf w = (omega (arith, w .key), omega (arith, w .value))
   args-small bare w = (omega (arith, w .key), omega (arith, w .value))
+  args-small (bulk most) w = (omega (arith, w .key), omega (arith, w .value))
 
 transaction-size : (v : ℕ) → length (transaction (editionAt v .transaction) .enc tt) ≡ 1
 unfolding transaction as-type guard byte
@@ -49,4 +51,4 @@ unfolding request fields operation limitedText as-type seq guard byte
 request-size q h r =
     simp length-append
     (omega
-    (arith, limited-length nameLimit (q .name) (omega (arith, r .name)), int-size (q .flags) (omega (arith, r .flags, flags-small (q .version))), int-size (q .topology) (r .topology), transaction-size (q .version), args-size (q .args) (shapeOf (q .op)) (within (q .args) (shapeOf (q .op)) h (r .args))))
+    (arith, limited-length nameLimit (q .name) (omega (arith, r .name)), int-size (q .flags) (omega (arith, r .flags, flags-small (q .version))), int-size (q .topology) (r .topology), transaction-size (q .version), args-size (q .args) (shapeOf (q .op)) (bulk-int (q .op)) (within (q .args) (shapeOf (q .op)) h (r .args))))

@@ -11,7 +11,7 @@ ghost use lib.ListN.{length};
 ghost use Rattle.wire.specs.Codec.{Valid};
 ghost use Rattle.wire.specs.Write.{Wrote};
 ghost use Rattle.message.specs.Request.{request, requestOf, argsOf, shapeOf, writes, writesIf, keyedIf, keyLimit, valueLimit};
-ghost use Rattle.request_writer.specs.Parts.{argsWith, asLimits, limitsOf, sizeOf, argsSize, Ready};
+ghost use Rattle.request_writer.specs.Parts.{argsWith, asLimits, limits, limitsOf, sizeOf, argsSize, Ready};
 
 // The greatest length or number of each argument: 0 where it is not sent.
 pub(crate) struct Limits {
@@ -19,6 +19,19 @@ pub(crate) struct Limits {
     time: u64,
     entry: u64,
     value: u64,
+    bulk: u64,
+}
+
+fn at_most(key: u64, time: u64, entry: u64, value: u64, bulk: u64) -> Limits
+    ensures { λ r. ⌜ asLimits r ≡ limits key time entry value bulk ⌝ }
+{
+    Limits {
+        key: key,
+        time: time,
+        entry: entry,
+        value: value,
+        bulk: bulk,
+    }
 }
 
 fn limits_of(op: Operation) -> Limits
@@ -26,36 +39,18 @@ fn limits_of(op: Operation) -> Limits
 {
     let shape = rules::shape_of(op);
     match shape {
-        Shape::Keyed => Limits {
-            key: Request::KEY,
-            time: 0,
-            entry: 0,
-            value: 0,
-        },
-        Shape::Writes => Limits {
-            key: Request::KEY,
-            time: 0xffff_ffff,
-            entry: 0,
-            value: Request::VALUE,
-        },
-        Shape::WritesIf => Limits {
-            key: Request::KEY,
-            time: 0xffff_ffff,
-            entry: 0xffff_ffff_ffff_ffff,
-            value: Request::VALUE,
-        },
-        Shape::KeyedIf => Limits {
-            key: Request::KEY,
-            time: 0,
-            entry: 0xffff_ffff_ffff_ffff,
-            value: 0,
-        },
-        Shape::Bare => Limits {
-            key: 0,
-            time: 0,
-            entry: 0,
-            value: 0,
-        },
+        Shape::Keyed => at_most(Request::KEY, 0, 0, 0, 0),
+        Shape::Writes => at_most(Request::KEY, 0xffff_ffff, 0, Request::VALUE, 0),
+        Shape::WritesIf => at_most(
+            Request::KEY,
+            0xffff_ffff,
+            0xffff_ffff_ffff_ffff,
+            Request::VALUE,
+            0,
+        ),
+        Shape::KeyedIf => at_most(Request::KEY, 0, 0xffff_ffff_ffff_ffff, 0, 0),
+        Shape::Bare => at_most(0, 0, 0, 0, 0),
+        Shape::Bulk(most) => at_most(0, 0, 0, 0, most),
     }
 }
 
@@ -80,6 +75,9 @@ fn keeps_args(h: Head, key: &[u8], value: &[u8]) -> bool
     if l.value < value.len() as u64 {
         return false;
     }
+    if l.bulk < h.bulk {
+        return false;
+    }
     true
 }
 
@@ -91,6 +89,10 @@ pub(crate) fn keeps_rules(h: Head, name: &[u8], key: &[u8], value: &[u8]) -> boo
         return false;
     }
     if !rules::is_served(h.version) {
+        return false;
+    }
+    let op = h.op;
+    if !rules::serves(h.version, op) {
         return false;
     }
     if rules::greatest_flags(h.version) < h.flags {
@@ -139,6 +141,7 @@ fn args_len(h: Head, key: &[u8], value: &[u8]) -> usize
         Shape::WritesIf => k + times + 8 + v,
         Shape::KeyedIf => k + 8,
         Shape::Bare => 0,
+        Shape::Bulk(_) => put::number_len(h.bulk),
     }
 }
 
@@ -195,6 +198,7 @@ fn put_args(out: &mut [u8], at: usize, h: Head, key: &[u8], value: &[u8]) -> usi
     ensures { λ r. ⌜ Wrote (argsOf (shapeOf (h .op))) (argsWith h (now (key .entry)) (now (value .entry))) (now (out .entry)) (now (out .exit)) at r ⌝ }
 {
     let op = h.op;
+    let bulk = h.bulk;
     let shape = rules::shape_of(op);
     match shape {
         Shape::Keyed => put::put_limited(out, at, key, Request::KEY),
@@ -202,6 +206,7 @@ fn put_args(out: &mut [u8], at: usize, h: Head, key: &[u8], value: &[u8]) -> usi
         Shape::WritesIf => put_writes_if(out, at, h, key, value),
         Shape::KeyedIf => put_keyed_if(out, at, h, key, value),
         Shape::Bare => at,
+        Shape::Bulk(_) => put::put_number(out, at, bulk, Kind::VInt),
     }
 }
 

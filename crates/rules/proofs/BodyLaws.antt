@@ -63,7 +63,7 @@ module _ (s : ℕ) where
         ne-eqb s 0x86 (n 0x86 (lit≤ tt) (lit≤ tt)),
       )
 
-pub is-listed : (x : Body) → OneOf (0 ∷ 1 ∷ 2 ∷ 3 ∷ 4 ∷ 5 ∷ 6 ∷ []) (tagOf body.the-type x) → true ≡ isAllowed (asBody x)
+pub is-listed : (x : Body) → OneOf (0 ∷ 1 ∷ 2 ∷ 3 ∷ 4 ∷ 5 ∷ 6 ∷ 7 ∷ 8 ∷ []) (tagOf body.the-type x) → true ≡ isAllowed (asBody x)
 is-listed b.Nothing k = refl
 is-listed b.Old k = refl
 is-listed b.OldNone k = refl
@@ -71,4 +71,6 @@ is-listed b.Value k = refl
 is-listed b.Versioned k = refl
 is-listed b.Text k = refl
 is-listed b.Statistics k = refl
-is-listed b.NotAllowed k = absurd (miss (0 ∷ 1 ∷ 2 ∷ 3 ∷ 4 ∷ 5 ∷ 6 ∷ []) 7 tt k)
+is-listed b.Entries k = refl
+is-listed b.Keys k = refl
+is-listed b.NotAllowed k = absurd (miss (0 ∷ 1 ∷ 2 ∷ 3 ∷ 4 ∷ 5 ∷ 6 ∷ 7 ∷ 8 ∷ []) 9 tt k)

@@ -13,4 +13,6 @@ asBody b.Value = some m.value
 asBody b.Versioned = some m.versioned
 asBody b.Text = some m.text
 asBody b.Statistics = some m.statistics
+asBody b.Entries = some m.entries
+asBody b.Keys = some m.keys
 asBody b.NotAllowed = none

@@ -1,5 +1,5 @@
 -- What the code's shapes of arguments stand for.
-use Rattle.message.specs.Request.{Shape, keyed, writes, writesIf, keyedIf, bare}
+use Rattle.message.specs.Request.{Shape, keyed, writes, writesIf, keyedIf, bare, bulk}
 use Rattle.rules.specs.declared.Shape as code
 use Rattle.rules.specs.declared.Shape.the-variants as s
 
@@ -9,3 +9,4 @@ asShape s.Writes = writes
 asShape s.WritesIf = writesIf
 asShape s.KeyedIf = keyedIf
 asShape s.Bare = bare
+asShape (s.Bulk most) = bulk most

@@ -1,4 +1,5 @@
-// The tables of the protocol: the served versions and their flags, the arguments of each operation, and the reply table with the fields of each body.
+// The tables of the protocol: the served versions with their flags and operations, the arguments of each operation, and the reply table with the fields
+// of each body.
 use message::Form;
 use message::Operation;
 use message::Reply;
@@ -6,6 +7,7 @@ ghost use mathlib.Core.Path.{_≡_};
 ghost use mathlib.Core.Bool.{cond};
 ghost use mathlib.Core.Option.{none};
 ghost use lib.Dec.{eqb};
+ghost use Rattle.message.specs.Edition.{early};
 ghost use Rattle.message.specs.Request.{shapeOf, isVersion, editionAt};
 ghost use Rattle.message.specs.Reply.{bodyAt, table, errors, rowsOf, isAwaited, isAllowed, allowed, formOf, oldForm};
 ghost use Rattle.rules.specs.Body.{asBody};
@@ -18,6 +20,8 @@ pub enum Shape {
     WritesIf,
     KeyedIf,
     Bare,
+    // A number, up to a greatest one.
+    Bulk(u64),
 }
 
 pub fn shape_of(op: Operation) -> Shape
@@ -36,6 +40,8 @@ pub fn shape_of(op: Operation) -> Shape
         Operation::Clear => Shape::Bare,
         Operation::Stats => Shape::Bare,
         Operation::Ping => Shape::Bare,
+        Operation::BulkGet => Shape::Bulk(0xffff_ffff),
+        Operation::BulkGetKeys => Shape::Bulk(2),
     }
 }
 
@@ -62,6 +68,24 @@ pub fn greatest_flags(version: u8) -> u64
     }
 }
 
+// "bulkGetKeys (0x1D) from 12 on": every other operation is in all served versions.
+fn is_early(op: Operation) -> bool
+    ensures { λ r. ⌜ r ≡ early op ⌝ }
+{
+    message::code(op) != 0x1d
+}
+
+// Does a version have an operation?
+pub fn serves(version: u8, op: Operation) -> bool
+    ensures { λ r. ⌜ r ≡ editionAt version .serves op ⌝ }
+{
+    match version {
+        10 => is_early(op),
+        11 => is_early(op),
+        _ => true,
+    }
+}
+
 // What a reply carries behind its marker.
 pub enum Body {
     Nothing,
@@ -71,6 +95,8 @@ pub enum Body {
     Versioned,
     Text,
     Statistics,
+    Entries,
+    Keys,
     NotAllowed,
 }
 
@@ -113,6 +139,8 @@ fn in_table(o: Operation, status: u8) -> Body
         Operation::Clear => row(status, Body::Nothing, Body::NotAllowed, Body::NotAllowed),
         Operation::Stats => row(status, Body::Statistics, Body::NotAllowed, Body::NotAllowed),
         Operation::Ping => row(status, Body::Nothing, Body::NotAllowed, Body::NotAllowed),
+        Operation::BulkGet => row(status, Body::Entries, Body::NotAllowed, Body::NotAllowed),
+        Operation::BulkGetKeys => row(status, Body::Keys, Body::NotAllowed, Body::NotAllowed),
     }
 }
 
@@ -160,6 +188,8 @@ pub fn form_of(flag: bool, b: Body) -> Form
         Body::Versioned => Form::Versioned,
         Body::Text => Form::Text,
         Body::Statistics => Form::Statistics,
+        Body::Entries => Form::Listed(true),
+        Body::Keys => Form::Listed(false),
         Body::NotAllowed => Form::Nothing,
     }
 }

@@ -1,7 +1,8 @@
 -- What a loop of calls knows between two of them. Assumes nothing.
 use mathlib.Core.Path.{_≡_, refl, sym, ap, subst, subst₂, _∙_}
-use mathlib.Core.List.{List, _++_, append-assoc}
+use mathlib.Core.List.{List, [], _∷_, _++_, append-assoc}
 use mathlib.Core.Bool.{Bool, true, false, _&&_, _||_}
+use mathlib.Core.Option.{none}
 use Prim.Native.Nat.{ℕ, _+_, _-_, _≤_, _<_}
 use lib.Dec.{ltb}
 use borrow.Author.Tests.{lt-ltb, le-ltb, ltb-true, ltb-false}
@@ -9,19 +10,24 @@ use native.Mathlib.Nat.{zero-add, add-zero, add-assoc}
 use native.Mathlib.Omega.{arith}
 use lib.ListN.{length, take, drop, length-drop, length-append, take-append-drop}
 use lib.Seq.{drop-drop, length-take-le, take-append-add, drop-append-add, length-sets}
+use types.Run.{OneOf, miss}
+use denote.Enum.Declared.{tagOf}
 use Rattle.wire.specs.Codec.{Bytes}
-use Rattle.wire.proofs.Laws.{bytes-drop}
+use Rattle.wire.proofs.Laws.{bytes-drop, both}
 use Rattle.map.specs.Step.{Context}
 use Rattle.service.specs.Serve.{room}
 use Rattle.map.specs.Reply.{flat}
 use Rattle.service.specs.Stream.{Done, Serves}
 use Rattle.service.specs.Serve as serving
-use Rattle.service.specs.Many.{goesOn, isShort, Total, only, behind, at, nothing, Streams, waits, last, then}
+use Rattle.service.specs.Many.{isShort, Total, only, behind, at, nothing, Streams, waits, last, then}
 use Rattle.table.specs.Memory.{Sound}
 use Rattle.table.proofs.Lists.{says-no}
 use Rattle.service.proofs.Decides.{isSound}
 use Rattle.service.proofs.Sounds.{tells-sound, effectIn, does-in}
 use Rattle.service.proofs.Bounds.{Facts, facts, stays-sound}
+use Rattle.server.specs.declared.Verdict.{Verdict}
+use Rattle.server.specs.declared.Verdict.the-variants as v
+use Rattle.server.proofs.Verdict as verdict-code
 use Rattle.server.specs.declared.Answer.{Answer}
 use Rattle.server.specs.CallDone.{asVerdict, doneOf, CallsAt}
 use Rattle.server.proofs.SendLaws.{id-small}
@@ -33,6 +39,21 @@ both-some a b = go (ltb 0 a) (ltb 0 b) refl refl
     go true y e f = sym (lt-ltb 0 (a + b) (omega (arith, ltb-true 0 a e)))
     go false true e f = sym (lt-ltb 0 (a + b) (omega (arith, ltb-true 0 b f)))
     go false false e f = sym (le-ltb 0 (a + b) (omega (arith, ltb-false 0 a e, ltb-false 0 b f)))
+
+-- whether a call waits, by the tests that the code makes
+pub no-wait : (short : Bool) (size : ℕ) → size ≡ 0 → false ≡ (short && ltb 0 size)
+no-wait true size e = sym (le-ltb 0 size (omega arith))
+no-wait false size e = refl
+
+pub wait-any : (short : Bool) (size : ℕ) → (size ≡ 0 → ⊥) → short ≡ (short && ltb 0 size)
+wait-any true size n = sym (lt-ltb 0 size (omega arith))
+wait-any false size n = refl
+
+pub wait-tags : (v : Verdict) (size : ℕ) → OneOf (0 ∷ 1 ∷ 3 ∷ []) (tagOf verdict-code.the-type v) → false ≡ (isShort (asVerdict v) && ltb 0 size)
+wait-tags v.Served size k = refl
+wait-tags v.More size k = refl
+wait-tags (v.Refused n) size k = absurd (miss (0 ∷ 1 ∷ 3 ∷ []) 2 tt k)
+wait-tags v.Full size k = refl
 
 module _ (c : Context) (input table lent : List ℕ) where
   -- so many bytes are taken and sent by so many calls, and whatever the calls behind them make, they make it of the whole
@@ -66,7 +87,7 @@ module _ (c : Context) (input table lent : List ℕ) where
 
   module _ (b : Bytes input) (l : c .second < 0x1_0000_0000) (taken size calls : ℕ) (now out : List ℕ) (g : Between taken size calls now out) (d : Done)
       (x : Serves (drop taken input) now (at c (drop size out)) d) (h : room ≤ length (drop size out)) where
-    known : Facts (drop taken input) (effectIn (drop taken input) now (at c (drop size out)))
+    known : Facts (drop taken input) (length (drop size out)) (effectIn (drop taken input) now (at c (drop size out)))
     known = facts (drop taken input) (bytes-drop taken input b) (id-small (drop taken input) (bytes-drop taken input b)) now (at c (drop size out)) d l (g .sound) h x
 
     pub takes : taken + d .answer .taken ≤ length input
@@ -102,10 +123,6 @@ module _ (c : Context) (input table lent : List ℕ) where
     rest : drop (size + d .size) filled ≡ drop (d .size) (d .buffer)
     rest = subst (λ (n : ℕ). drop (n + d .size) filled ≡ drop (d .size) (d .buffer)) front (drop-append-add (take size out) (d .buffer) (d .size))
 
-    -- there is room, so it is not refused 12
-    roomy : isShort (d .answer .verdict) && ltb 0 size ≡ false
-    roomy = let k = known in rw (does-in x .answer, k .roomy)
-
     used : (ltb 0 size || ltb 0 (d .size)) ≡ ltb 0 (size + d .size)
     used = both-some size (d .size)
 
@@ -116,13 +133,13 @@ module _ (c : Context) (input table lent : List ℕ) where
     table-kept = after-sound .form .long ∙ (sym (g .sound .form .long) ∙ g .kept)
 
     -- a call that goes on
-    pub on : 0 < d .answer .taken → Between (taken + d .answer .taken) (size + d .size) (calls + 1) (d .table) filled
-    on v =
+    pub on : isShort (d .answer .verdict) && ltb 0 size ≡ false → 0 < d .answer .taken → Between (taken + d .answer .taken) (size + d .size) (calls + 1) (d .table) filled
+    on w v =
         record {
           whole = λ t y.
               subst (Streams c false input table lent) (joins t)
               (g .whole _
-              (then x roomy (lt-ltb 0 (d .answer .taken) v) (rw used
+              (then x w (lt-ltb 0 (d .answer .taken) v) (rw used
               (subst₂ (λ (i l : List ℕ). Streams c (ltb 0 (size + d .size)) i (d .table) l t) (sym (drop-drop (d .answer .taken) taken input)) rest y))));
           sound = after-sound;
           within = takes;
@@ -133,9 +150,9 @@ module _ (c : Context) (input table lent : List ℕ) where
         }
 
     -- the last call
-    pub ends : d .answer .taken ≡ 0
+    pub ends : isShort (d .answer .verdict) && ltb 0 size ≡ false → d .answer .taken ≡ 0
         → Streams c false input table lent (record { taken = taken + d .answer .taken; size = size + d .size; calls = calls + 1; verdict = d .answer .verdict; buffer = filled; table = d .table })
-    ends v = g .whole (only d) (last x roomy (le-ltb 0 (d .answer .taken) (omega arith)))
+    ends w v = g .whole (only d) (last x w (le-ltb 0 (d .answer .taken) (omega arith)))
 
   -- the same of a call of the code, whose buffer is new
   module _ (b : Bytes input) (l : c .second < 0x1_0000_0000) (taken size calls : ℕ) (now out : List ℕ) (g : Between taken size calls now out) (a : Answer) (new after : List ℕ)
@@ -155,36 +172,71 @@ module _ (c : Context) (input table lent : List ℕ) where
     pub call-kept : length after ≡ length table
     call-kept = table-kept b l taken size calls now out g d (x .serves) h
 
-    pub call-on : 0 < a .taken → Between (taken + a .taken) (size + a .size) (calls + 1) after new
-    call-on v = subst (Between (taken + a .taken) (size + a .size) (calls + 1) after) same (on b l taken size calls now out g d (x .serves) h v)
+    pub call-on : isShort (asVerdict (a .verdict)) && ltb 0 size ≡ false → 0 < a .taken → Between (taken + a .taken) (size + a .size) (calls + 1) after new
+    call-on w v = subst (Between (taken + a .taken) (size + a .size) (calls + 1) after) same (on b l taken size calls now out g d (x .serves) h w v)
 
-    pub call-ends : a .taken ≡ 0
+    pub call-ends : isShort (asVerdict (a .verdict)) && ltb 0 size ≡ false → a .taken ≡ 0
         → Streams c false input table lent (record { taken = taken + a .taken; size = size + a .size; calls = calls + 1; verdict = asVerdict (a .verdict); buffer = new; table = after })
-    call-ends v =
+    call-ends w v =
         subst
         (λ (l : List ℕ). Streams c false input table lent (record { taken = taken + a .taken; size = size + a .size; calls = calls + 1; verdict = asVerdict (a .verdict); buffer = l; table = after }))
-        same (ends b l taken size calls now out g d (x .serves) h v)
+        same (ends b l taken size calls now out g d (x .serves) h w v)
 
-  -- no room for a further call, in a buffer that had room
-  pub no-room : (taken size calls : ℕ) (now out : List ℕ) → Between taken size calls now out → room ≤ length lent → length out - size < room
-      → Streams c false input table lent (record { taken = taken; size = size; calls = calls; verdict = serving.full; buffer = out; table = now })
-  unfolding serving.still serving.serve flat
-  no-room taken size calls now out g l h =
-      let s : length (drop size out) < room = simp length-drop (omega arith) in
-      let d : Done = record { answer = record { taken = 0; verdict = serving.refused 12 }; size = 0; buffer = drop size out; table = now } in
-      let x : Serves (drop taken input) now (at c (drop size out)) d =
-      record { ok = isSound now; tells = tells-sound now; does = rw (lt-ltb (length (drop size out)) room s) (record { answer = refl; size = refl; buffer = refl; table = refl }) } in
-      let y = g .whole (nothing (drop size out) now) (waits x (lt-ltb 0 size (omega (arith, g .long)))) in
-      subst (Streams c false input table lent) (settled taken size calls now out) y
-    where
-      settled : (taken size calls : ℕ) (now out : List ℕ)
-          → behind taken size calls out (nothing (drop size out) now) ≡ record { taken = taken; size = size; calls = calls; verdict = serving.full; buffer = out; table = now }
-      settled taken size calls now out =
-          let p = add-zero taken in
-          let q = add-zero size in
-          let n = add-zero calls in
-          let r = take-append-drop size out in
-          λ i. record { taken = p i; size = q i; calls = n i; verdict = serving.full; buffer = r i; table = now }
+  -- the stream ends before a call that would be refused 12
+  module _ (taken size calls : ℕ) (now out : List ℕ) (g : Between taken size calls now out) where
+    abbrev stopped : List ℕ → List ℕ → Total
+    stopped buffer left = record { taken = taken; size = size; calls = calls; verdict = serving.full; buffer = buffer; table = left }
+
+    settled : behind taken size calls out (nothing (drop size out) now) ≡ stopped out now
+    settled =
+        let p = add-zero taken in
+        let q = add-zero size in
+        let n = add-zero calls in
+        let r = take-append-drop size out in
+        λ i. record { taken = p i; size = q i; calls = n i; verdict = serving.full; buffer = r i; table = now }
+
+    full-at : (d : Done) → Serves (drop taken input) now (at c (drop size out)) d → isShort (d .answer .verdict) && ltb 0 size ≡ true
+        → Streams c false input table lent (stopped out now)
+    full-at d x w = subst (Streams c false input table lent) settled (g .whole (nothing (drop size out) now) (waits x w))
+
+    -- since there is no room for any call, in a buffer that had room
+    pub no-room : room ≤ length lent → length out - size < room → Streams c false input table lent (stopped out now)
+    unfolding serving.still serving.serve flat
+    no-room l h =
+        let s : length (drop size out) < room = simp length-drop (omega arith) in
+        let d : Done = record { answer = record { taken = 0; verdict = serving.refused 12 }; size = 0; buffer = drop size out; table = now } in
+        full-at d
+        (record { ok = isSound now; tells = tells-sound now; does = rw (lt-ltb (length (drop size out)) room s) (record { answer = refl; size = refl; buffer = refl; table = refl }) })
+        (lt-ltb 0 size (omega (arith, g .long)))
+
+    -- or none for the request that comes: the code has made the call, which sent nothing and changed nothing
+    module _ (b : Bytes input) (l : c .second < 0x1_0000_0000) (a : Answer) (new after : List ℕ) (x : CallsAt c input taken now out size a new after)
+        (h : room ≤ length (drop size out)) (w : isShort (asVerdict (a .verdict)) && ltb 0 size ≡ true) where
+      abbrev done : Done
+      done = doneOf a (drop size new) after
+
+      abbrev made : serving.Effect
+      made = effectIn (drop taken input) now (at c (drop size out))
+
+      still : (made .sent ≡ []) × (made .next ≡ none)
+      still =
+          known b l taken size calls now out g done (x .serves) h .short
+          (rw (ap (λ (e : serving.Answer). e .verdict) (does-in (x .serves) .answer)) at (both (isShort (asVerdict (a .verdict))) (ltb 0 size) w .0))
+
+      as-sent : drop size new ≡ drop size out
+      unfolding flat
+      as-sent = does-in (x .serves) .buffer ∙ rw (still .0)
+
+      out-same : out ≡ new
+      out-same =
+          sym (take-append-drop size out)
+          ∙ (ap (λ (l : List ℕ). take size out ++ l) (sym as-sent) ∙ same b l taken size calls now out g a new after x h)
+
+      now-same : now ≡ after
+      now-same = sym (rw (still .1) at (does-in (x .serves) .table))
+
+      pub call-waits : Streams c false input table lent (stopped new after)
+      call-waits = subst₂ (λ (o t : List ℕ). Streams c false input table lent (stopped o t)) out-same now-same (full-at done (x .serves) w)
 
   -- one call that is refused for want of room, or because the table is not sound
   pub short : length lent < room → Streams c false input table lent (record { taken = 0; size = 0; calls = 1; verdict = serving.refused 12; buffer = lent; table = table })

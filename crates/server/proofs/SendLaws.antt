@@ -1,12 +1,12 @@
 -- Replies that fit are written, and the reply to a request is the one that the map gives. Assumes nothing.
-use mathlib.Core.Path.{_≡_, refl, sym, ap, _∙_}
-use mathlib.Core.List.{List, [], _∷_, _++_, append-nil}
+use mathlib.Core.Path.{_≡_, refl, sym, ap, ap₂, _∙_}
+use mathlib.Core.List.{List, [], _∷_, _++_, map, append-nil}
 use mathlib.Core.Bool.{Bool, true, false, cond}
 use mathlib.Core.Option.{Option, none, some}
-use Prim.Native.Nat.{ℕ, _+_, _≤_, _<_}
+use Prim.Native.Nat.{ℕ, _+_, _*_, _≤_, _<_}
 use native.Mathlib.Nat.{zero-add}
 use native.Mathlib.Omega.{arith}
-use lib.ListN.{length, drop, List·getD-eq-default}
+use lib.ListN.{length, take, drop, List·getD-eq-default}
 use lib.Seq.{sets, sets-eq}
 use lib.Dec.{eqb}
 use types.Run.{OneOf, miss}
@@ -21,20 +21,26 @@ use Rattle.wire.proofs.Laws.{never, after-whole, seq-valid, seq-laws, guard-law
 use Rattle.wire.proofs.NumberLaws.{valid, vLong-laws}
 use Rattle.wire.proofs.WriteLaws.{send-room}
 use Rattle.message.specs.declared.Operation.{Operation}
-use Rattle.message.specs.declared.Operation.the-variants.{Put, Get, PutIfAbsent, Replace, ReplaceIfUnmodified, Remove, RemoveIfUnmodified, ContainsKey, GetWithVersion, Clear, Stats, Ping}
+use Rattle.message.specs.declared.Operation.the-variants.{Put, Get, PutIfAbsent, Replace, ReplaceIfUnmodified, Remove, RemoveIfUnmodified, ContainsKey, GetWithVersion, Clear, Stats, Ping, BulkGet, BulkGetKeys}
 use Rattle.message.specs.Operation.{codeOf}
 use Rattle.message.specs.Request.{Request, valueLimit}
-use Rattle.message.specs.Reply.{asked, Reply, payload, oldForm, formOf, table, bodyAt, allowed, rowsOf, reply, errorReply, statisticsReply}
+use Rattle.message.specs.Reply.{asked, Reply, payload, oldForm, formOf, table, bodyAt, allowed, rowsOf, reply, errorReply, statisticsReply, bulkOperation, bulkReply}
 use Rattle.message.specs.Refusal.{refusal}
 use Rattle.message.proofs.ErrorLaws.{refusal-good}
 use Rattle.message.proofs.ReplySize.{error-most}
 use Rattle.map.specs.State.{Entry}
-use Rattle.map.specs.Step.{mostKeys, Context, Plan, plans, plan, noValue, value, shows, wantsOld, held, versionOf, planned, statistics, answer}
-use Rattle.map.specs.Reply.{Piece, flat, pieces, payloadOf, replyTo, askedBy}
-use Rattle.map.proofs.Format.{pieces-reply, reply-valid, answer-under}
+use Rattle.map.specs.Plan.{Plan, plans, plan}
+use Rattle.map.specs.Shown.{noValue, value, shows, wanted, lowest, listedBy}
+use Rattle.map.specs.Step.{mostKeys, Context, wantsOld, held, versionOf, planned, statistics, answer}
+use Rattle.map.specs.Reply.{Piece, flat, pieces, payloadOf, pairOf, replyTo, askedBy}
+use Rattle.map.proofs.Format.{pieces-reply, reply-valid, bulk-reply, answer-most}
+use Rattle.map.proofs.ListedLaws.{listed-is}
 use Rattle.table.specs.Memory as memory
 use Rattle.table.specs.Memory.{stateOf, Sound}
 use Rattle.table.specs.Found.{entryAt}
+use Rattle.table.specs.List.{listRoom, listAt}
+use Rattle.table.proofs.Listed.{list-most, list-is}
+use Rattle.listing.specs.EntryWrite.{listedIn}
 use Rattle.message.specs.Start.{start, idFound, idIn}
 use Rattle.message.specs.declared.Form.{Form}
 use Rattle.message.specs.declared.Form.the-variants as f
@@ -42,19 +48,19 @@ use Rattle.message.proofs.Form as form-code
 use Rattle.message.proofs.Operation as operation-code
 use Rattle.message.proofs.Editions.{code-small}
 use Rattle.service.specs.Serve as stream
-use Rattle.service.specs.Serve.{room, errorPieces}
+use Rattle.service.specs.Serve.{room, roomOf, errorPieces}
+use Rattle.service.proofs.Bounds.{reply-room}
 use Rattle.plan.specs.declared.Held.{Held}
 use Rattle.plan.specs.Plan.{heldAt}
 use Rattle.server.specs.declared.Answer.{Answer}
 use Rattle.server.specs.CallDone.{Says, Sends}
-use Rattle.server.specs.Act.{valueShown, entryShown, sentTo, Planned}
+use Rattle.server.specs.Act.{isPlain, valueShown, entryShown, sentTo, sentListed, Planned}
 
 -- a message that fits is written, and its bytes are the pieces sent
 module _ {A : Type 0} (c : Codec A) (a : A) {x : wire.Sent} {old new : List ℕ} {ps : List Piece} {n : ℕ} {v : stream.Verdict} {r : Answer} where
-  pub sent : (x, new) ≡ send c a old → Valid c a → length (c .enc a) ≤ room → room ≤ length old → flat ps ≡ c .enc a
+  pub sent : (x, new) ≡ send c a old → Valid c a → length (c .enc a) ≤ length old → flat ps ≡ c .enc a
       → ((m : ℕ) → x ≡ written m → Says n m v r) → Sends ps n v old new r
-  sent s g l o f h =
-      let b : length (c .enc a) ≤ length old = omega arith in
+  sent s g b f h =
       let e : _≡_ {A = wire.Sent × List ℕ} (x, new) (written (length (c .enc a)), c .enc a ++ drop (length (c .enc a)) old) = s ∙ send-room c a old g (omega arith) in
       let p : x ≡ written (length (c .enc a)) = ap (λ (z : wire.Sent × List ℕ). z .0) e in
       let q : new ≡ c .enc a ++ drop (length (c .enc a)) old = ap (λ (z : wire.Sent × List ℕ). z .1) e in
@@ -68,7 +74,7 @@ pub error-sent : (k id : ℕ) {x : wire.Sent} {old new : List ℕ} {n : ℕ} {v 
 unfolding flat
 error-sent k id l u i o s h =
     let g = refusal-good k id l u i in
-    sent errorReply (refusal k id) s g (omega (arith, error-most (refusal k id) g)) o (append-nil (errorReply .enc (refusal k id))) h
+    sent errorReply (refusal k id) s g (omega (arith, error-most (refusal k id) g)) (append-nil (errorReply .enc (refusal k id))) h
 
 -- a row that no table holds has no value
 pub past-rows : (t : List ℕ) → Sound t → entryAt t mostKeys .value ≡ []
@@ -76,46 +82,49 @@ unfolding entryAt memory.entry
 past-rows t s = rw (List·getD-eq-default (stateOf t .entries) (memory.entry [] [] 0 0) (s .table .few))
 
 -- a form that is not `Versioned` shows no version
-pub no-version : (g : Form) → OneOf (0 ∷ 1 ∷ 3 ∷ 4 ∷ []) (tagOf form-code.the-type g) → (o : Option Entry) → 0 ≡ entryShown g o
+pub no-version : (g : Form) → OneOf (0 ∷ 1 ∷ 3 ∷ 4 ∷ 5 ∷ []) (tagOf form-code.the-type g) → (o : Option Entry) → 0 ≡ entryShown g o
 no-version g k none = refl
 no-version f.Nothing k (some e) = refl
 no-version (f.Value lim) k (some e) = refl
-no-version f.Versioned k (some e) = absurd (miss (0 ∷ 1 ∷ 3 ∷ 4 ∷ []) 2 tt k)
+no-version f.Versioned k (some e) = absurd (miss (0 ∷ 1 ∷ 3 ∷ 4 ∷ 5 ∷ []) 2 tt k)
 no-version f.Text k (some e) = refl
 no-version f.Statistics k (some e) = refl
+no-version (f.Listed values) k (some e) = refl
 
--- a form that is no statistics
+-- a form that is neither statistics nor entries
 abbrev plain : Form → Bool
 plain f.Nothing = true
 plain (f.Value lim) = true
 plain f.Versioned = true
 plain f.Text = true
 plain f.Statistics = false
+plain (f.Listed values) = false
 
 -- what it shows is what the map shows
-shown-same : (g : Form) (ns : List ℕ) (o : Option Entry) → plain g ≡ true → payload (entryShown g o) (valueShown g o) [] ≡ payloadOf (shows g ns o)
+shown-same : (g : Form) (ns : List ℕ) (es : List Entry) (o : Option Entry) → plain g ≡ true → payload (entryShown g o) (valueShown g o) [] ≡ payloadOf (shows g ns es o)
 unfolding shows
-shown-same f.Nothing ns none p = refl
-shown-same f.Nothing ns (some e) p = refl
-shown-same (f.Value lim) ns none p = refl
-shown-same (f.Value lim) ns (some e) p = go (eqb lim 0)
+shown-same f.Nothing ns es none p = refl
+shown-same f.Nothing ns es (some e) p = refl
+shown-same (f.Value lim) ns es none p = refl
+shown-same (f.Value lim) ns es (some e) p = go (eqb lim 0)
   where
     go : (t : Bool) → payload 0 (cond t [] (e .value)) [] ≡ payloadOf (cond t noValue (value e))
     go true = refl
     go false = refl
-shown-same f.Versioned ns none p = refl
-shown-same f.Versioned ns (some e) p = refl
-shown-same f.Text ns none p = refl
-shown-same f.Text ns (some e) p = refl
-shown-same f.Statistics ns o p = never (cc)
+shown-same f.Versioned ns es none p = refl
+shown-same f.Versioned ns es (some e) p = refl
+shown-same f.Text ns es none p = refl
+shown-same f.Text ns es (some e) p = refl
+shown-same f.Statistics ns es o p = never (cc)
+shown-same (f.Listed values) ns es o p = never (cc)
 
--- the reply to any operation but stats is of such a form, by the rows of the reply table
+-- the reply to such an operation is of such a form, by the rows of the reply table
 plain-old : (t : Bool) (lim : ℕ) → plain (oldForm t lim) ≡ true
 plain-old true lim = refl
 plain-old false lim = refl
 
-plain-form : (o : Operation) (t : Bool) (v : ℕ) (h : Option ℕ) → (o ≡ Stats → ⊥) → plain (formOf t (allowed (bodyAt (plan o v h .status) (table o)))) ≡ true
-unfolding plan plans bodyAt
+plain-form : (o : Operation) (t : Bool) (v : ℕ) (h : Option ℕ) → isPlain o ≡ true → plain (formOf t (allowed (bodyAt (plan o v h .status) (table o)))) ≡ true
+unfolding plan plans bodyAt isPlain
 plain-form Put t v h n = plain-old t valueLimit
 plain-form PutIfAbsent t v none n = plain-old t 0
 plain-form PutIfAbsent t v (some w) n = plain-old t valueLimit
@@ -136,12 +145,51 @@ plain-form GetWithVersion t v (some w) n = refl
 plain-form ContainsKey t v none n = refl
 plain-form ContainsKey t v (some w) n = refl
 plain-form Clear t v h n = refl
-plain-form Stats t v h n = absurd (n refl)
+plain-form Stats t v h n = never (cc)
 plain-form Ping t v h n = refl
+plain-form BulkGet t v h n = never (cc)
+plain-form BulkGetKeys t v h n = never (cc)
 
--- the tags of the operations but stats
-pub not-stats : (o : Operation) → OneOf (0 ∷ 1 ∷ 2 ∷ 3 ∷ 4 ∷ 5 ∷ 6 ∷ 7 ∷ 8 ∷ 9 ∷ 11 ∷ []) (tagOf operation-code.the-type o) → o ≡ Stats → ⊥
-not-stats o k e = miss (0 ∷ 1 ∷ 2 ∷ 3 ∷ 4 ∷ 5 ∷ 6 ∷ 7 ∷ 8 ∷ 9 ∷ 11 ∷ []) 10 tt (rw e at k)
+-- the tags of the operations whose replies show at most one entry, and of those that ask for no more room than any call has
+abbrev plainTags : List ℕ
+plainTags = 0 ∷ 1 ∷ 2 ∷ 3 ∷ 4 ∷ 5 ∷ 6 ∷ 7 ∷ 8 ∷ 9 ∷ 11 ∷ []
+
+pub plain-tags : (o : Operation) → OneOf plainTags (tagOf operation-code.the-type o) → isPlain o ≡ true
+unfolding isPlain
+plain-tags Put k = refl
+plain-tags Get k = refl
+plain-tags PutIfAbsent k = refl
+plain-tags Replace k = refl
+plain-tags ReplaceIfUnmodified k = refl
+plain-tags Remove k = refl
+plain-tags RemoveIfUnmodified k = refl
+plain-tags ContainsKey k = refl
+plain-tags GetWithVersion k = refl
+plain-tags Clear k = refl
+plain-tags Stats k = absurd (miss plainTags 10 tt k)
+plain-tags Ping k = refl
+plain-tags BulkGet k = absurd (miss plainTags 12 tt k)
+plain-tags BulkGetKeys k = absurd (miss plainTags 13 tt k)
+
+abbrev shortTags : List ℕ
+shortTags = 0 ∷ 1 ∷ 2 ∷ 3 ∷ 4 ∷ 5 ∷ 6 ∷ 7 ∷ 8 ∷ 9 ∷ 10 ∷ 11 ∷ []
+
+pub room-tags : (o : Operation) → OneOf shortTags (tagOf operation-code.the-type o) → room ≡ roomOf o
+unfolding roomOf
+room-tags Put k = refl
+room-tags Get k = refl
+room-tags PutIfAbsent k = refl
+room-tags Replace k = refl
+room-tags ReplaceIfUnmodified k = refl
+room-tags Remove k = refl
+room-tags RemoveIfUnmodified k = refl
+room-tags ContainsKey k = refl
+room-tags GetWithVersion k = refl
+room-tags Clear k = refl
+room-tags Stats k = refl
+room-tags Ping k = refl
+room-tags BulkGet k = absurd (miss shortTags 12 tt k)
+room-tags BulkGetKeys k = absurd (miss shortTags 13 tt k)
 
 -- the rows of a reply to an operation are the operation's
 rows-are : (o : Operation) → rowsOf o (codeOf o + 1) ≡ table o
@@ -152,16 +200,16 @@ abbrev pub form : Request → ℕ → Form
 form q s = formOf (wantsOld q) (allowed (bodyAt s (rowsOf (q .op) (codeOf (q .op) + 1))))
 
 module _ (c : Context) {t : List ℕ} {q : Request} {y : Held} {s : ℕ} (g : Planned t q y s) where
-  -- the reply to any request but stats, of an operation's code, a version and a value
+  -- the reply to a request of such an operation, of its code, a version and a value
   abbrev made : ℕ → ℕ → List ℕ → Reply
   made code e v = record { id = q .id; op = code + 1; status = s; payload = payload e v [] }
 
-  pub held-sent : {code e : ℕ} {v : List ℕ} {x : wire.Sent} (old : List ℕ) {new : List ℕ} → (q .op ≡ Stats → ⊥) → code ≡ codeOf (q .op)
+  pub held-sent : {code e : ℕ} {v : List ℕ} {x : wire.Sent} (old : List ℕ) {new : List ℕ} → isPlain (q .op) ≡ true → code ≡ codeOf (q .op)
       → e ≡ entryShown (form q s) (heldAt t (q .args .key)) → v ≡ valueShown (form q s) (heldAt t (q .args .key))
       → (x, new) ≡ send (reply (asked code (wantsOld q))) (made code e v) old → (x, new) ≡ sentTo c q (stateOf t) old
   unfolding answer held planned
   held-sent old n o e w z =
-      let f = shown-same (formOf (wantsOld q) (allowed (bodyAt (planned q (stateOf t) .status) (table (q .op))))) (statistics c (stateOf t)) (heldAt t (q .args .key)) (plain-form (q .op) (wantsOld q) (q .args .entryVersion) (versionOf (heldAt t (q .args .key))) n) in
+      let f = shown-same (formOf (wantsOld q) (allowed (bodyAt (planned q (stateOf t) .status) (table (q .op))))) (statistics c (stateOf t)) (listedBy q (stateOf t)) (heldAt t (q .args .key)) (plain-form (q .op) (wantsOld q) (q .args .entryVersion) (versionOf (heldAt t (q .args .key))) n) in
       z ∙ rw (o, e, w, rows-are (q .op), ← (g .status), f)
 
   -- the reply to stats
@@ -170,13 +218,30 @@ module _ (c : Context) {t : List ℕ} {q : Request} {y : Held} {s : ℕ} (g : Pl
   unfolding answer planned plan plans bodyAt shows
   stats-sent old o e z = rw (o, ← e) (z (wantsOld q))
 
+  -- the reply to bulkGet and to bulkGetKeys: a table's entries ascend
+  pub bulk-sent : (values : Bool) {x : wire.Sent} {n : ℕ} (old : List ℕ) {new : List ℕ} → q .op ≡ bulkOperation values → n ≡ wanted q
+      → ((flag : Bool) → (x, new) ≡ sentListed flag values (q .id) n (stateOf t) old) → (x, new) ≡ sentTo c q (stateOf t) old
+  bulk-sent values old o e z =
+      let l = listed-is q (stateOf t) (g .sound .form .order) ∙ ap (λ (n : ℕ). lowest n (stateOf t .entries)) (sym e) in
+      let r = bulk-reply c q (stateOf t) values o ∙ ap (λ (es : List Entry). bulkReply values (q .id) (map (pairOf values) es)) l in
+      z (wantsOld q) ∙ sym (ap₂ (λ (k : ℕ) (a : Reply). send (reply (asked k (wantsOld q))) a old) (ap codeOf o) r)
+
   -- the map's reply to a request is sent
-  pub reply-sent : {x : wire.Sent} (old : List ℕ) {new : List ℕ} {n : ℕ} {d : stream.Verdict} {r : Answer} → c .second < 0x1_0000_0000 → room ≤ length old
+  pub reply-sent : {x : wire.Sent} (old : List ℕ) {new : List ℕ} {n : ℕ} {d : stream.Verdict} {r : Answer} → c .second < 0x1_0000_0000 → roomOf (q .op) ≤ length old
       → (x, new) ≡ sentTo c q (stateOf t) old → ((m : ℕ) → x ≡ written m → Says n m d r) → Sends (pieces q (answer c q (stateOf t))) n d old new r
   reply-sent old k l z h =
-      let p = pieces-reply c q (stateOf t) in
-      let b = answer-under c q (stateOf t) (g .valid) (g .sound .table) k in
-      sent (reply (askedBy q)) (replyTo q (answer c q (stateOf t))) z (reply-valid c q (stateOf t) (g .valid) (g .sound .table) k) (omega (arith, ap length p)) l p h
+      let p = pieces-reply c q (stateOf t) (g .sound .table .few) in
+      let b = answer-most c q (stateOf t) (g .valid) (g .sound .table) k in
+      sent (reply (askedBy q)) (replyTo q (answer c q (stateOf t))) z (reply-valid c q (stateOf t) (g .valid) (g .sound .table) k)
+      (omega (arith, ap length p, b, reply-room (q .op), l)) p h
+
+-- the entries that the table names by numbers are those that a bulk reply lists
+pub listed-named : (values : Bool) (n : ℕ) (t numbers : List ℕ) {r : ℕ} {new : List ℕ} → (r, new) ≡ listAt values n t numbers → listRoom ≤ length numbers
+    → (r ≤ mostKeys) × (listedIn t (take (4 * r) new) ≡ map (pairOf values) (lowest n (stateOf t .entries)))
+listed-named values n t numbers e h =
+    let p = ap (λ (z : ℕ × List ℕ). z .0) e in
+    let q = ap (λ (z : ℕ × List ℕ). z .1) e in
+    rw (p, q) (list-most values n t numbers, list-is values n t numbers h)
 
 -- a message id is small
 found-small : (s : List ℕ) → Bytes s → (r : Read ℕ) → start .dec s ≡ r → idFound r < 0x8000_0000_0000_0000

@@ -14,7 +14,8 @@ use Rattle.message.specs.Request.{Request, request, isEmpty}
 use Rattle.message.proofs.Sizes.{small}
 use Rattle.map.specs.State.{Entry, State, without, hasKey}
 use Rattle.map.specs.Step as map
-use Rattle.map.specs.Step.{Context, Change, Outcome, answered, lastVersion, deadline, entry, stored, isNone, held, versionOf, full, planned, answer, act, core, arrive, step}
+use Rattle.map.specs.Plan.{Change, keep, store, drop, empty}
+use Rattle.map.specs.Step.{Context, Outcome, answered, lastVersion, deadline, entry, stored, isNone, held, versionOf, full, planned, answer, act, core, arrive, step}
 use Rattle.map.specs.Table.{IsTable}
 use Rattle.map.specs.Reply.{flat, pieces}
 use Rattle.table.specs.Memory as memory
@@ -31,12 +32,12 @@ use Rattle.service.specs.Stream as stream-of
 use Rattle.service.specs.Stream.{Done, Does, Serves}
 use Rattle.service.proofs.Decides.{isSound}
 use Rattle.service.proofs.Sounds.{tells-sound}
-use Rattle.service.proofs.Calls.{roomy-within}
+use Rattle.service.proofs.Calls.{within-fits, within-short}
 use Rattle.plan.specs.declared.Held.{Held}
 use Rattle.plan.specs.Plan.{isFull, refusalOf, Holds}
 use Rattle.server.specs.declared.Answer.{Answer}
 use Rattle.server.specs.CallDone.{callOf, doneOf, Says, Sends}
-use Rattle.server.specs.Act.{at, less, replaced, Storable, after}
+use Rattle.server.specs.Act.{at, less, replaced, Storable, after, Performs, PerformsWithin}
 
 -- what is sent, with the table that is left
 pub does : {ps : _} {n : ℕ} {v : stream.Verdict} {old new : List ℕ} {a : Answer} {o : _} {t t′ : List ℕ}
@@ -99,10 +100,10 @@ module _ (c : Context) (q : Request) (st : State) where
 
     act-refused : (d : Change) (k : ℕ) → refusalOf st o d ≡ some k → (act c q st (answer c q st) d ≡ map.refused k) × ((1 ≤ k) × (k ≤ 11))
     unfolding refusalOf act
-    act-refused map.keep k h = never (cc)
-    act-refused map.drop k h = never (cc)
-    act-refused map.empty k h = never (cc)
-    act-refused map.store k h = go (full q st) (ltb (st .last) lastVersion) (rw full-same at h)
+    act-refused keep k h = never (cc)
+    act-refused drop k h = never (cc)
+    act-refused empty k h = never (cc)
+    act-refused store k h = go (full q st) (ltb (st .last) lastVersion) (rw full-same at h)
       where
         go : (x y : Bool) → number x y ≡ some k
             → (cond x (map.refused 10) (cond y (answered (answer c q st) (stored c q st)) (map.refused 11)) ≡ map.refused k) × ((1 ≤ k) × (k ≤ 11))
@@ -112,10 +113,10 @@ module _ (c : Context) (q : Request) (st : State) where
 
     act-made : (d : Change) → refusalOf st o d ≡ none → act c q st (answer c q st) d ≡ answered (answer c q st) (after c q st d)
     unfolding refusalOf act
-    act-made map.keep e = refl
-    act-made map.drop e = refl
-    act-made map.empty e = refl
-    act-made map.store e = go (full q st) (ltb (st .last) lastVersion) (rw full-same at e)
+    act-made keep e = refl
+    act-made drop e = refl
+    act-made empty e = refl
+    act-made store e = go (full q st) (ltb (st .last) lastVersion) (rw full-same at e)
       where
         go : (x y : Bool) → number x y ≡ none
             → cond x (map.refused 10) (cond y (answered (answer c q st) (stored c q st)) (map.refused 11)) ≡ answered (answer c q st) (stored c q st)
@@ -140,10 +141,10 @@ module _ (c : Context) (q : Request) (st : State) where
 
   pub refusal-arrived : (o : Option ℕ) (d : Change) → refusalOf (arrive c q st) o d ≡ refusalOf st o d
   unfolding refusalOf isFull arrive
-  refusal-arrived o map.keep = refl
-  refusal-arrived o map.store = refl
-  refusal-arrived o map.drop = refl
-  refusal-arrived o map.empty = refl
+  refusal-arrived o keep = refl
+  refusal-arrived o store = refl
+  refusal-arrived o drop = refl
+  refusal-arrived o empty = refl
 
   -- so a step goes by what the code finds before the call is counted
   pub step-named : isEmpty (q .name) ≡ false → step c q st ≡ map.refused 9
@@ -168,7 +169,7 @@ module _ (c : Context) (q : Request) (st : State) where
     step-made h = step-acts ∙ act-made c q come o same-held d (refusal-arrived o d ∙ h)
 
 -- a store that is not refused has a version left
-pub version-left : (st : State) (o : Option ℕ) → refusalOf st o map.store ≡ none → st .last < lastVersion
+pub version-left : (st : State) (o : Option ℕ) → refusalOf st o store ≡ none → st .last < lastVersion
 unfolding refusalOf
 version-left st o e = go (isFull st o) (ltb (st .last) lastVersion) refl e
   where
@@ -201,11 +202,11 @@ pub replaced-is : (c : Context) (q : Request) (st : State) {d : ℕ} → d ≡ d
 unfolding stored entry memory.entry
 replaced-is c q st e = rw e
 
--- a call on a sound table, with room for any reply: what is read says what it does
+-- a call on a sound table, with room for an error reply: what is read says what it does
 pub serves-read : (input t out : List ℕ) (second : ℕ) {d : Done} {x : Read Request} → Sound t → stream.room ≤ length out → request .dec input ≡ x
-    → Does (stream.onRead input (at second) (stateOf t) x) t out d → Serves input t (callOf second out) d
+    → Does (stream.within (length out) x (stream.onRead input (at second) (stateOf t) x)) t out d → Serves input t (callOf second out) d
 unfolding stream.serve
-serves-read input t out second s l e d = record { ok = true; tells = says-yes s; does = rw (le-ltb (length out) stream.room l, roomy-within (length out) (request .dec input) (stream.onRead input (at second) (stateOf t) (request .dec input)) l, e) d }
+serves-read input t out second s l e d = record { ok = true; tells = says-yes s; does = rw (le-ltb (length out) stream.room l, e) d }
 
 -- and one that is refused before it is read
 pub serves-short : (input t out : List ℕ) (second : ℕ) {a : Answer} → length out < stream.room → Says 0 0 (stream.refused 12) a → Serves input t (callOf second out) (doneOf a out t)
@@ -218,3 +219,12 @@ pub serves-unsound : (input t out : List ℕ) (second : ℕ) {a : Answer} → st
 unfolding stream.serve
 serves-unsound input t out second l e s =
     record { ok = false; tells = says-no e; does = rw (le-ltb (length out) stream.room l) (does-still s) }
+
+-- a request, by whether there is the room that it asks for
+module _ (t : List ℕ) (q : Request) (second n : ℕ) (out : List ℕ) where
+  pub performs-short : length out < stream.roomOf (q .op) → {a : Answer} → Says n 0 (stream.refused 12) a → PerformsWithin t q second n out (doneOf a out t)
+  unfolding flat
+  performs-short l s = rw (within-short (length out) q n (onStep q n (step (at second) q (stateOf t))) l) (does (record { says = s; buffer = refl }) refl)
+
+  pub performs-fits : {d : Done} → stream.roomOf (q .op) ≤ length out → Performs t q second n out d → PerformsWithin t q second n out d
+  performs-fits l e = rw (within-fits (length out) q n (onStep q n (step (at second) q (stateOf t))) l) e

@@ -1,25 +1,32 @@
 -- What a request is given to be served with, and what a reply shows by the form of its body.
 use mathlib.Core.Path.{_≡_}
-use mathlib.Core.List.{List, []}
-use mathlib.Core.Bool.{cond}
+use mathlib.Core.List.{List, [], map}
+use mathlib.Core.Bool.{Bool, cond, not, _||_}
 use mathlib.Core.Option.{Option, none, some}
 use Prim.Native.Nat.{ℕ, _<_, _≤_}
 use lib.ListN.{length}
 use lib.Dec.{eqb}
+use Rattle.wire.specs.Codec as wire
 use Rattle.wire.specs.Codec.{Valid}
 use Rattle.wire.specs.Write.{Sent, send}
+use Rattle.message.specs.declared.Operation.{Operation}
+use Rattle.message.specs.declared.Operation.the-variants.{Stats, BulkGet, BulkGetKeys}
 use Rattle.message.specs.Request.{keyLimit, valueLimit, Request, request}
+use Rattle.map.specs.History.{is}
+use Rattle.map.specs.Plan.{Change, keep, store, drop, empty}
 use Rattle.map.specs.State.{Entry, State, withEntries, without, hasKey}
-use Rattle.map.specs.Step as map
+use Rattle.map.specs.Shown.{lowest}
+use Rattle.map.specs.Step as step
 use Rattle.map.specs.Step.{Context}
 use Rattle.map.specs.Table.{IsTable}
-use Rattle.map.specs.Reply.{pieces, askedBy, replyTo}
-use Rattle.message.specs.Reply.{reply}
+use Rattle.map.specs.Reply.{pieces, askedBy, pairOf, replyTo}
+use Rattle.message.specs.Operation.{codeOf}
+use Rattle.message.specs.Reply.{asked, reply, bulkOperation, bulkReply}
 use Rattle.message.specs.declared.Form.{Form}
 use Rattle.message.specs.declared.Form.the-variants as f
 use Rattle.table.specs.Memory.{stateOf, Sound}
 use Rattle.table.specs.Change.{grown}
-use Rattle.service.specs.Serve.{room, served, onStep}
+use Rattle.service.specs.Serve.{served, onStep, within}
 use Rattle.service.specs.Stream.{Done, Does}
 use Rattle.plan.specs.declared.Held.{Held}
 use Rattle.plan.specs.Plan.{Holds, heldVersion, refusalOf}
@@ -37,6 +44,7 @@ valueShown (f.Value lim) (some e) = cond (eqb lim 0) [] (e .value)
 valueShown f.Versioned (some e) = e .value
 valueShown f.Text (some e) = []
 valueShown f.Statistics (some e) = []
+valueShown (f.Listed values) (some e) = []
 
 abbrev pub entryShown : Form → Option Entry → ℕ
 entryShown g none = 0
@@ -45,10 +53,20 @@ entryShown (f.Value lim) (some e) = 0
 entryShown f.Versioned (some e) = e .version
 entryShown f.Text (some e) = 0
 entryShown f.Statistics (some e) = 0
+entryShown (f.Listed values) (some e) = 0
+
+-- replies to the operation show the entry held, or nothing: the statistics and the entries listed are shown to the others
+unfoldable pub isPlain : Operation → Bool
+isPlain o = not (is Stats o || (is BulkGet o || is BulkGetKeys o))
 
 -- the map's reply to the request, as a writer sends it into a buffer
 abbrev pub sentTo : Context → Request → State → List ℕ → Sent × List ℕ
-sentTo c q st old = send (reply (askedBy q)) (replyTo q (map.answer c q st)) old
+sentTo c q st old = send (reply (askedBy q)) (replyTo q (step.answer c q st)) old
+
+-- the reply to bulkGet, or to bulkGetKeys where values are not asked for, with the first n entries
+abbrev pub sentListed : Bool → Bool → ℕ → ℕ → State → List ℕ → Sent × List ℕ
+sentListed flag values id n st old =
+    send (reply (asked (codeOf (bulkOperation values)) flag)) (bulkReply values id (map (pairOf values) (lowest n (st .entries)))) old
 
 -- the state without the entry that has the key
 abbrev pub less : List ℕ → State → State
@@ -64,31 +82,31 @@ pub record Storable (t k v : List ℕ) (held : Held) : Type 0 where
   pub holds : Holds t k held
   pub key : length k ≤ keyLimit
   pub value : length v ≤ valueLimit
-  pub room : length (less k (stateOf t) .entries) < map.mostKeys
-  pub version : stateOf t .last < map.lastVersion
+  pub room : length (less k (stateOf t) .entries) < step.mostKeys
+  pub version : stateOf t .last < step.lastVersion
 
 -- a well-formed request on a sound table, with what is held and the status planned
 pub record Planned (t : List ℕ) (q : Request) (held : Held) (s : ℕ) : Type 0 where
   pub sound : Sound t
   pub valid : Valid request q
   pub holds : Holds t (q .args .key) held
-  pub status : map.planned q (stateOf t) .status ≡ s
+  pub status : step.planned q (stateOf t) .status ≡ s
 
--- what a call has beside its request
-pub record Given (t out : List ℕ) (now : ℕ) : Type 0 where
+-- what a call has beside its request, and so much room at least
+pub record Given (t out : List ℕ) (least now : ℕ) : Type 0 where
   pub sound : Sound t
-  pub room : room ≤ length out
+  pub room : least ≤ length out
   pub second : now < 0x1_0000_0000
 
 -- the state that a change leaves which is not refused
-abbrev pub after : Context → Request → State → map.Change → State
-after c q st map.keep = st
-after c q st map.store = map.stored c q st
-after c q st map.drop = map.dropped q st
-after c q st map.empty = map.emptied st
+abbrev pub after : Context → Request → State → Change → State
+after c q st keep = st
+after c q st store = step.stored c q st
+after c q st drop = step.dropped q st
+after c q st empty = step.emptied st
 
 -- the change of a well-formed request on a sound table is not refused, and leaves a table
-pub record Agreed (t : List ℕ) (q : Request) (second : ℕ) (held : Held) (d : map.Change) : Type 0 where
+pub record Agreed (t : List ℕ) (q : Request) (second : ℕ) (held : Held) (d : Change) : Type 0 where
   pub sound : Sound t
   pub valid : Valid request q
   pub holds : Holds t (q .args .key) held
@@ -98,8 +116,12 @@ pub record Agreed (t : List ℕ) (q : Request) (second : ℕ) (held : Held) (d :
 
 -- the map's reply to the request is sent
 abbrev pub Replies : List ℕ → Request → ℕ → ℕ → List ℕ → List ℕ → Answer → Type 0
-Replies t q second n old new a = Sends (pieces q (map.answer (at second) q (stateOf t))) n served old new a
+Replies t q second n old new a = Sends (pieces q (step.answer (at second) q (stateOf t))) n served old new a
 
 -- the request is performed, of which n bytes are taken
 abbrev pub Performs : List ℕ → Request → ℕ → ℕ → List ℕ → Done → Type 0
-Performs t q second n old d = Does (onStep q n (map.step (at second) q (stateOf t))) t old d
+Performs t q second n old d = Does (onStep q n (step.step (at second) q (stateOf t))) t old d
+
+-- the same in the room that there is: a request that asks for more is taken and refused 12
+abbrev pub PerformsWithin : List ℕ → Request → ℕ → ℕ → List ℕ → Done → Type 0
+PerformsWithin t q second n old d = Does (within (length old) (wire.whole q n) (onStep q n (step.step (at second) q (stateOf t)))) t old d

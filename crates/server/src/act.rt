@@ -1,4 +1,4 @@
-// Serving a request on a table that is sound, with room for any reply.
+// Serving a request on a table that is sound, with room for an error reply at least.
 use crate::Answer;
 use crate::Verdict;
 use field::EntryVersion;
@@ -17,15 +17,14 @@ use request_reader::RequestRead;
 use table::Table;
 ghost use mathlib.Core.Path.{_≡_};
 ghost use mathlib.Core.List.{List};
+ghost use mathlib.Core.Bool.{Bool, true};
 ghost use mathlib.Core.Option.{some};
 ghost use Prim.Native.Nat.{ℕ, _+_, _≤_, _<_};
 ghost use lib.ListN.{length};
 ghost use Rattle.wire.specs.Codec.{Valid};
 ghost use Rattle.wire.specs.Write.{written};
 ghost use Rattle.message.specs.Sent.{asSent};
-ghost use Rattle.message.specs.Request as message;
 ghost use Rattle.message.specs.Request.{request, requestOf, requestIn};
-ghost use Rattle.message.specs.declared.Operation.the-variants.{Stats};
 ghost use Rattle.map.specs.Step as map;
 ghost use Rattle.table.specs.Memory.{stateOf, Sound};
 ghost use Rattle.table.specs.Found.{entryAt};
@@ -34,14 +33,14 @@ ghost use Rattle.service.specs.Serve as stream;
 ghost use Rattle.service.specs.Stream.{Becomes, Serves};
 ghost use Rattle.plan.specs.Plan.{asChange, Holds, heldAt};
 ghost use Rattle.server.specs.CallDone.{asVerdict, callOf, doneOf, Says, Sends};
-ghost use Rattle.server.specs.Act.{at, valueShown, entryShown, sentTo, less, replaced, Storable, after, Planned, Agreed, Given, Replies, Performs};
+ghost use Rattle.server.specs.Act.{at, isPlain, valueShown, entryShown, sentTo, sentListed, less, replaced, Storable, after, Planned, Agreed, Given, Replies, Performs, PerformsWithin};
 
-// Nothing taken and nothing sent.
-pub(crate) fn still(v: Verdict) -> Answer
-    ensures { λ r. ⌜ Says 0 0 (asVerdict v) r ⌝ }
+// Nothing sent.
+pub(crate) fn unsent(taken: usize, v: Verdict) -> Answer
+    ensures { λ r. ⌜ Says taken 0 (asVerdict v) r ⌝ }
 {
     Answer {
-        taken: 0,
+        taken: taken,
         size: 0,
         verdict: v,
     }
@@ -87,6 +86,7 @@ fn shown_row(f: Form, held: Held) -> usize
         Form::Versioned => i,
         Form::Text => Table::KEYS,
         Form::Statistics => Table::KEYS,
+        Form::Listed(_) => Table::KEYS,
     }
 }
 
@@ -103,9 +103,9 @@ fn shown_version(f: Form, held: Held) -> EntryVersion
     }
 }
 
-// Writes the reply of a status to any operation but stats, with what it shows of the entry held.
+// Writes the reply of a status, with what it shows of the entry held. Replies to stats, bulkGet and bulkGetKeys show something else.
 fn write_held(out: &mut [u8], t: &[u8], h: Head, status: u8, held: Held) -> Sent
-    ensures { λ r. ⌜ ((c : map.Context) (name key value : List ℕ) → (h .op ≡ Stats → ⊥) → Planned (now (t .entry)) (requestOf h name key value) held status → (asSent r, now (out .exit)) ≡ sentTo c (requestOf h name key value) (stateOf (now (t .entry))) (now (out .entry))) ⌝ }
+    ensures { λ r. ⌜ ((c : map.Context) (name key value : List ℕ) → isPlain (h .op) ≡ true → Planned (now (t .entry)) (requestOf h name key value) held status → (asSent r, now (out .exit)) ≡ sentTo c (requestOf h name key value) (stateOf (now (t .entry))) (now (out .entry))) ⌝ }
 {
     let op = h.op;
     let code = message::code(op);
@@ -131,7 +131,31 @@ fn write_held(out: &mut [u8], t: &[u8], h: Head, status: u8, held: Held) -> Sent
     )
 }
 
-// The reply of a status: the statistics at the second, or what it shows of the entry held.
+// Writes the reply to bulkGet, or to bulkGetKeys where values are not asked for, with the first n entries, or with all where n is 0.
+fn write_listed(out: &mut [u8], t: &[u8], id: u64, n: u64, values: bool) -> Sent
+    ensures { λ r. ⌜ ((flag : Bool) → (asSent r, now (out .exit)) ≡ sentListed flag values id n (stateOf (now (t .entry))) (now (out .entry))) ⌝ }
+{
+    let mut numbers: [u64; 512] = [0; 512];
+    let many = table::list(t, n, values, &mut numbers);
+    let end = 4 * many;
+    reply_writer::write_entries(out, id, values, t, &numbers[..end])
+}
+
+// Writes the reply of a status: the statistics at the second, the entries listed, or what it shows of the entry held.
+fn write(out: &mut [u8], t: &[u8], h: Head, status: u8, held: Held, second: Second) -> Sent
+    requires { ⌜ second .0 < 0x1_0000_0000 ⌝ }
+    ensures { λ r. ⌜ ((name key value : List ℕ) → Planned (now (t .entry)) (requestOf h name key value) held status → (asSent r, now (out .exit)) ≡ sentTo (at (second .0)) (requestOf h name key value) (stateOf (now (t .entry))) (now (out .entry))) ⌝ }
+{
+    let op = h.op;
+    match op {
+        Operation::Stats => reply_writer::write_statistics(out, h.id, table::statistics(t, second)),
+        Operation::BulkGet => write_listed(out, t, h.id, h.bulk, true),
+        Operation::BulkGetKeys => write_listed(out, t, h.id, 0, false),
+        _ => write_held(out, t, h, status, held),
+    }
+}
+
+// The reply of a status.
 fn respond(
     out: &mut [u8],
     t: &[u8],
@@ -141,16 +165,11 @@ fn respond(
     second: Second,
     taken: usize,
 ) -> Answer
-    requires { ⌜ stream.room ≤ length (now out) ⌝ }
+    requires { ⌜ stream.roomOf (h .op) ≤ length (now out) ⌝ }
     requires { ⌜ second .0 < 0x1_0000_0000 ⌝ }
     ensures { λ r. ⌜ ((name key value : List ℕ) → Planned (now (t .entry)) (requestOf h name key value) held status → Replies (now (t .entry)) (requestOf h name key value) (second .0) taken (now (out .entry)) (now (out .exit)) r) ⌝ }
 {
-    let op = h.op;
-    let Operation::Stats = op else {
-        let w = write_held(out, t, h, status, held);
-        return ended(w, taken, Verdict::Served);
-    };
-    let w = reply_writer::write_statistics(out, h.id, table::statistics(t, second));
+    let w = write(out, t, h, status, held, second);
     ended(w, taken, Verdict::Served)
 }
 
@@ -230,8 +249,8 @@ fn change(input: &[u8], r: Request, t: &mut [u8], second: Second, c: Change, hel
     }
 }
 
-// A request that was read, which took n bytes. A call that is refused is not counted. The reply comes before the change, since an old value stands in
-// the table.
+// A request that was read, which took n bytes, with the room that it asks for. A call that is refused is not counted. The reply comes before the change,
+// since an old value stands in the table.
 pub(crate) fn perform(
     input: &[u8],
     r: Request,
@@ -240,7 +259,7 @@ pub(crate) fn perform(
     second: Second,
     out: &mut [u8],
 ) -> Answer
-    requires { ⌜ Given (now t) (now out) (second .0) ⌝ }
+    requires { ⌜ Given (now t) (now out) (stream.roomOf (r .head .op)) (second .0) ⌝ }
     requires { ⌜ Valid request (requestIn (now input) r) ⌝ }
     ensures { λ a. ⌜ Performs (now (t .entry)) (requestIn (now (input .entry)) r) (second .0) n (now (out .entry)) (doneOf a (now (out .exit)) (now (t .exit))) ⌝ }
 {
@@ -265,6 +284,38 @@ pub(crate) fn perform(
     }
 }
 
+// The reply room that an operation asks for.
+fn room_of(op: Operation) -> usize
+    ensures { λ r. ⌜ r ≡ stream.roomOf op ⌝ }
+{
+    match op {
+        Operation::BulkGet => Answer::BULK_ROOM,
+        Operation::BulkGetKeys => Answer::BULK_ROOM,
+        _ => Answer::ROOM,
+    }
+}
+
+// A request that was read: one that asks for more room than there is takes its bytes and is refused 12, before all that its call would be refused for.
+fn perform_within(
+    input: &[u8],
+    r: Request,
+    n: usize,
+    t: &mut [u8],
+    second: Second,
+    out: &mut [u8],
+) -> Answer
+    requires { ⌜ Given (now t) (now out) stream.room (second .0) ⌝ }
+    requires { ⌜ Valid request (requestIn (now input) r) ⌝ }
+    ensures { λ a. ⌜ PerformsWithin (now (t .entry)) (requestIn (now (input .entry)) r) (second .0) n (now (out .entry)) (doneOf a (now (out .exit)) (now (t .exit))) ⌝ }
+{
+    let h = r.head;
+    let op = h.op;
+    if out.len() < room_of(op) {
+        return unsent(n, Verdict::Refused(12));
+    }
+    perform(input, r, n, t, second, out)
+}
+
 // The request at the front of the input.
 pub(crate) fn serve_sound(input: &[u8], t: &mut [u8], second: Second, out: &mut [u8]) -> Answer
     requires { ⌜ Sound (now t) ⌝ }
@@ -274,8 +325,8 @@ pub(crate) fn serve_sound(input: &[u8], t: &mut [u8], second: Second, out: &mut 
 {
     let q = request_reader::read_request(input);
     match q {
-        RequestRead::Whole(r, n) => perform(input, r, n, t, second, out),
-        RequestRead::More => still(Verdict::More),
+        RequestRead::Whole(r, n) => perform_within(input, r, n, t, second, out),
+        RequestRead::More => unsent(0, Verdict::More),
         RequestRead::Refused(k) => refuse(out, request_reader::read_id(input), k, 0),
     }
 }

@@ -4,10 +4,11 @@ mod lines;
 
 use field::Second;
 ghost use mathlib.Core.Path.{_≡_};
-ghost use mathlib.Core.Bool.{false};
+ghost use mathlib.Core.Bool.{false, _&&_};
+ghost use lib.Dec.{ltb};
 ghost use Rattle.service.specs.Stream.{Serves};
-ghost use Rattle.service.specs.Many.{Streams};
-ghost use Rattle.server.specs.CallDone.{callOf, doneOf, contextOf, totalOf, Ready, CallsAt};
+ghost use Rattle.service.specs.Many.{isShort, Streams};
+ghost use Rattle.server.specs.CallDone.{asVerdict, callOf, doneOf, contextOf, totalOf, Ready, CallsAt};
 ghost use Rattle.server.specs.Lines.{ServesLine, ServesLines};
 
 // How a call ended, or a stream: full is a stream that needs an emptied reply buffer.
@@ -26,8 +27,10 @@ pub struct Answer {
 }
 
 impl Answer {
-    // The least room of a reply buffer.
+    // The least room of a reply buffer, and that of one which bulk requests are answered in.
     pub const ROOM: usize = 512;
+
+    pub const BULK_ROOM: usize = 41_600;
 }
 
 // Serves the request at the front of the input.
@@ -35,10 +38,10 @@ pub fn serve(input: &[u8], table: &mut [u8], second: u32, reply: &mut [u8]) -> A
     ensures { λ r. ⌜ Serves (now (input .entry)) (now (table .entry)) (callOf second (now (reply .entry))) (doneOf r (now (reply .exit)) (now (table .exit))) ⌝ }
 {
     if reply.len() < Answer::ROOM {
-        return act::still(Verdict::Refused(12));
+        return act::unsent(0, Verdict::Refused(12));
     }
     if !table::is_table(table) {
-        return act::still(Verdict::Refused(13));
+        return act::unsent(0, Verdict::Refused(13));
     }
     act::serve_sound(input, table, Second(second as u64), reply)
 }
@@ -82,8 +85,21 @@ fn call_at(
     )
 }
 
+// Whether a call that ended so is refused because what is sent already has left too little room.
+fn waits(v: Verdict, size: usize) -> bool
+    ensures { λ r. ⌜ r ≡ (isShort (asVerdict v) && ltb 0 size) ⌝ }
+{
+    if size == 0 {
+        return false;
+    }
+    match v {
+        Verdict::Refused(k) => k == 12,
+        _ => false,
+    }
+}
+
 // Calls one after the other at one second, each on what the last one left, with one check of the table. "After 1 to 8 a stream is closed. After 9 to 11
-// it goes on": it goes on behind a call that took bytes.
+// it goes on": it goes on behind a call that took bytes. A call that waits for an emptied buffer has changed nothing, and counts as not made.
 pub fn serve_stream(input: &[u8], table: &mut [u8], second: u32, reply: &mut [u8]) -> Streamed
     ensures { λ r. ⌜ Streams (contextOf second) false (now (input .entry)) (now (table .entry)) (now (reply .entry)) (totalOf r (now (reply .exit)) (now (table .exit))) ⌝ }
 {
@@ -98,11 +114,14 @@ pub fn serve_stream(input: &[u8], table: &mut [u8], second: u32, reply: &mut [u8
     let mut calls: usize = 0;
     while Answer::ROOM <= reply.len() - size {
         let a = call_at(input, taken, table, second, reply, size);
+        let v = a.verdict;
+        if waits(v, size) {
+            return all_calls(taken, size, calls, Verdict::Full);
+        }
         taken = taken + a.taken;
         size = size + a.size;
         calls = calls + 1;
         if a.taken == 0 {
-            let v = a.verdict;
             return all_calls(taken, size, calls, v);
         }
     }
@@ -124,7 +143,7 @@ pub struct Fed {
 
 impl Fed {
     // The least room for the output of a line, and the longest line.
-    pub const ROOM: usize = 615;
+    pub const ROOM: usize = 83_201;
 
     pub const LONGEST: usize = 1024;
 }

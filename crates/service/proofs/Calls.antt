@@ -1,26 +1,26 @@
 -- One call on a row that begins with a written request. Assumes nothing.
-use mathlib.Core.Path.{_≡_, refl}
+use mathlib.Core.Path.{_≡_, refl, _∙_}
 use mathlib.Core.List.{List, [], _∷_, _++_}
-use mathlib.Core.Bool.{Bool, true, false, cond}
+use mathlib.Core.Bool.{Bool, true, false, cond, _||_}
 use mathlib.Core.Option.{none}
-use Prim.Native.Nat.{ℕ, _≤_}
+use Prim.Native.Nat.{ℕ, _≤_, _<_}
 use native.Mathlib.Omega.{arith}
 use lib.ListN.{length}
 use lib.Dec.{eqb, ltb}
-use borrow.Author.Tests.{ne-eqb, le-ltb}
+use borrow.Author.Tests.{ne-eqb, eqb-false, le-ltb, lt-ltb}
 use Rattle.wire.specs.Codec as wire
 use Rattle.wire.specs.Codec.{Read, Valid}
+use Rattle.wire.proofs.Basics.{pick}
 use Rattle.message.specs.declared.Operation.{Operation}
+use Rattle.message.specs.declared.Operation.the-variants.{BulkGet, BulkGetKeys}
 use Rattle.message.specs.Request.{Request, request}
-use Rattle.message.specs.Written.{written}
 use Rattle.message.proofs.RequestLaws.{request-laws}
 use Rattle.message.proofs.Lists.{some-byte}
+use Rattle.map.specs.History.{is}
 use Rattle.map.specs.State.{State}
-use Rattle.map.specs.Step as map-step
 use Rattle.map.specs.Step.{Context, Outcome, step}
-use Rattle.map.proofs.Sent as sent
-use Rattle.service.specs.Serve.{Effect, effect, refused, still, onStep, onRead, serve, room, roomOf, within}
-use Rattle.service.specs.Demand3.{call}
+use Rattle.service.specs.Serve.{Effect, effect, refused, still, onStep, onRead, serve, room, bulkRoom, roomOf, within}
+use Rattle.service.specs.Many.{goesOn}
 
 -- a whole request, by the room that it asks for
 abbrev pub onWhole : ℕ → Request → ℕ → Outcome → Effect
@@ -28,12 +28,26 @@ onWhole space r n o = cond (ltb space (roomOf (r .op))) (effect n (refused 12) [
 
 pub room-least : (o : Operation) → room ≤ roomOf o
 unfolding roomOf
-room-least o = omega arith
+room-least o = pick (λ (n : ℕ). room ≤ n) (is BulkGet o || is BulkGetKeys o) (λ e. omega arith) (omega arith)
+
+pub room-most : (o : Operation) → roomOf o ≤ bulkRoom
+unfolding roomOf
+room-most o = pick (λ (n : ℕ). n ≤ bulkRoom) (is BulkGet o || is BulkGetKeys o) (λ e. omega arith) (omega arith)
+
+-- a request, by whether there is the room that it asks for
+module _ (space : ℕ) (r : Request) (n : ℕ) (e : Effect) where
+  pub within-fits : roomOf (r .op) ≤ space → within space (wire.whole r n) e ≡ e
+  unfolding within
+  within-fits h = rw (le-ltb space (roomOf (r .op)) h)
+
+  pub within-short : space < roomOf (r .op) → within space (wire.whole r n) e ≡ effect n (refused 12) [] none
+  unfolding within
+  within-short h = rw (lt-ltb space (roomOf (r .op)) h)
 
 -- where there is room for any reply
-pub roomy-within : (space : ℕ) (x : Read Request) (e : Effect) → room ≤ space → within space x e ≡ e
-unfolding within roomOf
-roomy-within space (wire.whole r n) e h = rw (le-ltb space room h)
+pub roomy-within : (space : ℕ) (x : Read Request) (e : Effect) → bulkRoom ≤ space → within space x e ≡ e
+unfolding within
+roomy-within space (wire.whole r n) e h = within-fits space r n e (omega (arith, room-most (r .op)))
 roomy-within space wire.more e h = refl
 roomy-within space (wire.refused k) e h = refl
 
@@ -61,3 +75,11 @@ no-length (x ∷ l) e = absurd (omega arith)
 
 pub some-taken : (r : Request) → Valid request r → eqb (length (request .enc r)) 0 ≡ false
 some-taken r v = ne-eqb (length (request .enc r)) 0 (λ q. some-byte r v [] (no-length (request .enc r) q))
+
+-- a request that asks for more room than there is, where there are 512 bytes: it is taken, nothing is sent or changed, and the stream goes on
+module _ (r : Request) (v : Valid request r) (t : List ℕ) (st : State) (c : Context) (space : ℕ) (h : room ≤ space) (l : space < roomOf (r .op)) where
+  pub short-serve : serve (request .enc r ++ t) true st c space ≡ effect (length (request .enc r)) (refused 12) [] none
+  short-serve = serve-at r v t true st c space ∙ rw (le-ltb space room h, lt-ltb space (roomOf (r .op)) l)
+
+  pub short-goes : goesOn (serve (request .enc r ++ t) true st c space .answer) ≡ true
+  short-goes = rw short-serve (lt-ltb 0 (length (request .enc r)) (omega (arith, eqb-false (length (request .enc r)) 0 (some-taken r v))))

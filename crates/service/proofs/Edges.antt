@@ -14,7 +14,9 @@ use Rattle.message.specs.Reply.{bodyAt, textBody, fieldsOf, fields, message, er
 use Rattle.message.specs.Request.{shapeOf, argsOf, operation, transaction, fields as request-fields, request}
 use Rattle.message.specs.Start.{start, idIn}
 use Rattle.map.specs.Reply.{flat, shownPieces, pieces}
-use Rattle.map.specs.Step.{plans, plan, shows, entry, stored, held, full, planned, answer, act, core, arrive, step}
+use Rattle.map.specs.Plan.{plans, plan}
+use Rattle.map.specs.Shown.{shows}
+use Rattle.map.specs.Step.{entry, stored, held, full, planned, answer, act, core, arrive, step}
 use Rattle.service.specs.Line.{asks, onFrame, lineStep}
 use Rattle.service.specs.Serve.{onStep, onRead}
 use Rattle.service.specs.Edges.{All, cases}

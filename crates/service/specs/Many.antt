@@ -10,7 +10,8 @@ use Rattle.map.specs.Step.{Context}
 use Rattle.service.specs.Serve.{Answer, Verdict, served, more, refused, full}
 use Rattle.service.specs.Stream.{Call, Done, Serves}
 
--- "After 1 to 8 a stream is closed: nothing behind it is read. After 9 to 11 it goes on." It goes on behind a call that took bytes.
+-- "After 1 to 8 a stream is closed: nothing behind it is read. After 9 to 11 it goes on", and after a bulk request that is refused 12. It goes on behind a
+-- call that took bytes.
 abbrev pub goesOn : Answer → Bool
 goesOn a = ltb 0 (a .taken)
 

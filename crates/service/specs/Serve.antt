@@ -1,16 +1,18 @@
 -- One call to the server: what it answers, what it sends, and the state that it leaves (document 01, 'The refusal numbers').
 use mathlib.Core.List.{List, [], _∷_}
-use mathlib.Core.Bool.{Bool, true, false, cond}
+use mathlib.Core.Bool.{Bool, cond, _||_}
 use mathlib.Core.Option.{Option, none, some}
 use Prim.Native.Nat.{ℕ}
 use lib.Dec.{ltb}
 use Rattle.wire.specs.Codec as wire
 use Rattle.wire.specs.Codec.{Read}
 use Rattle.message.specs.declared.Operation.{Operation}
+use Rattle.message.specs.declared.Operation.the-variants.{BulkGet, BulkGetKeys}
 use Rattle.message.specs.Request.{Request, request}
 use Rattle.message.specs.Reply.{errorReply}
 use Rattle.message.specs.Refusal.{refusal}
 use Rattle.message.specs.Start.{idIn}
+use Rattle.map.specs.History.{is}
 use Rattle.map.specs.State.{State}
 use Rattle.map.specs.Step as map
 use Rattle.map.specs.Step.{Context, Outcome, answered, step}
@@ -45,7 +47,7 @@ errorPieces k id = fixed (errorReply .enc (refusal k id)) ∷ []
 unfoldable pub still : Verdict → Effect
 still v = effect 0 v [] none
 
--- "Refusals 9 to 11 take the whole request, all others none."
+-- "Refusals 9 to 11 take the whole request, all others none", but for the bulk requests' 12 (`within`).
 unfoldable pub onStep : Request → ℕ → Outcome → Effect
 onStep r n (map.refused k) = effect n (refused k) (errorPieces k (r .id)) none
 onStep r n (answered a st) = effect n served (pieces r a) (some st)
@@ -60,11 +62,16 @@ onRead input c st (wire.refused k) = effect 0 (refused k) (errorPieces k (idIn i
 abbrev pub room : ℕ
 room = 512
 
+-- "12 at these two when the room is under 41,600"
+abbrev pub bulkRoom : ℕ
+bulkRoom = 41_600
+
 -- the reply room that a request of an operation asks for
 unfoldable pub roomOf : Operation → ℕ
-roomOf o = room
+roomOf o = cond (is BulkGet o || is BulkGetKeys o) bulkRoom room
 
--- a whole request that asks for more room than there is: it is taken, and nothing else is done
+-- a whole request that asks for more room than there is: "given after the request is read and before 9; there it takes the whole request, and the stream
+-- goes on"
 unfoldable pub within : ℕ → Read Request → Effect → Effect
 within space (wire.whole r n) e = cond (ltb space (roomOf (r .op))) (effect n (refused 12) [] none) e
 within space wire.more e = e

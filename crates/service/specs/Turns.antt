@@ -9,9 +9,9 @@ use Rattle.map.specs.State.{State}
 use Rattle.service.specs.Line.{stateLeft, later}
 use Rattle.service.specs.Feed.{Turn, turn, turnOf}
 
--- the room for the longest line that a line gives: the 307 bytes of a stats reply in digits, and the line end
+-- the room for any line that a line gives: the 41,600 bytes that a bulk request asks for, in digits, and the line end
 abbrev pub lineRoom : ℕ
-lineRoom = 615
+lineRoom = 83_201
 
 -- what a turn and the turns behind it make together
 abbrev pub both : Turn → Turn → Turn

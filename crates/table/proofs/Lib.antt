@@ -17,3 +17,4 @@ pub mod SoundLaws
 pub mod Behind
 pub mod Restores
 pub mod HasForm
+pub mod Listed

@@ -7,9 +7,10 @@ use native.Mathlib.Omega.{arith}
 use native.Mathlib.Decide.{decLt}
 use native.Mathlib.Numerals.{add-one}
 use lib.ListN.{length, take, drop, getD, length-append, length-take, length-drop, List·getD-append}
-use lib.Seq.{getD-take, getD-drop, getD-append-add, getD-append-seam, ext-getD, length-take-le}
+use lib.Seq.{getD-take, getD-drop, getD-append-add, ext-getD, length-take-le}
 use mathlib.Core.Bool.{Bool, true, false}
-use Rattle.table.specs.Bytes.{upto}
+use Rattle.wire.specs.Upto.{upto}
+pub use Rattle.wire.proofs.UptoLaws.{length-upto, getD-upto}
 use Rattle.table.specs.Found.{Tells}
 
 pub says-yes : {P : Type 0} → P → Tells true P
@@ -29,21 +30,6 @@ abbrev pub removeAt : {A : Type 0} → ℕ → List A → List A
 removeAt i xs = take i xs ++ drop (suc i) xs
 
 module _ {A : Type 0} where
-  pub length-upto : (f : ℕ → A) (n : ℕ) → length (upto f n) ≡ n
-  unfolding upto
-  length-upto f zero = refl
-  length-upto f (suc n) = length-append (upto f n) (f n ∷ []) ∙ omega (arith, length-upto f n)
-
-  pub getD-upto : (f : ℕ → A) (n k : ℕ) (d : A) → k < n → getD (upto f n) k d ≡ f k
-  unfolding upto
-  getD-upto f zero k d h = absurd (omega arith)
-  getD-upto f (suc n) k d h =
-      ⊎-elim
-      (λ l. List·getD-append (upto f n) (f n ∷ []) d k (omega (arith, length-upto f n)) ∙ getD-upto f n k d l)
-      (λ l. let e : k ≡ length (upto f n) = omega (arith, length-upto f n) in
-      ap (λ (j : ℕ). getD (upto f n ++ (f n ∷ [])) j d) e ∙ getD-append-seam (upto f n) (f n) [] d ∙ ap f (sym (e ∙ length-upto f n)))
-      (lt-or-ge k n)
-
   -- two lists of the same length are equal by their elements
   pub upto-ext : (f g : ℕ → A) (n : ℕ) → ((k : ℕ) → k < n → g k ≡ f k) → upto g n ≡ upto f n
   unfolding upto

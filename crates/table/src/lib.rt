@@ -2,6 +2,7 @@
 mod check;
 mod history;
 mod mark;
+mod named;
 mod number;
 mod rows;
 
@@ -17,6 +18,7 @@ ghost use Rattle.map.specs.Step as map;
 ghost use Rattle.statistics.specs.Statistics.{listOf};
 ghost use Rattle.table.specs.Compare.{compared};
 ghost use Rattle.table.specs.Found.{entryAt, FoundIs, NumberAt, Tells};
+ghost use Rattle.table.specs.List.{listAt};
 ghost use Rattle.table.specs.Change.{doneOr, Answers, AnswersBy, made, started, added, restored, renewed, removed, cleared, arrived};
 
 // What a search for a key finds: its entry, or that no entry has it.
@@ -48,6 +50,9 @@ impl Table {
     pub const SIZE: usize = 45264;
 
     pub const KEYS: usize = 128;
+
+    // How many numbers name the entries that it holds at most, four for each.
+    pub const LISTED: usize = 512;
 
     pub const LAST_VERSION: u64 = 0x7fff_ffff_ffff_ffff;
 
@@ -276,6 +281,23 @@ pub fn deadline_at(t: &[u8], i: usize) -> Second
     ensures { λ r. ⌜ r .0 ≡ entryAt (now (t .entry)) i .deadline ⌝ }
 {
     Second(number_at(t, i, Row::DEADLINE_START))
+}
+
+// Where the first n entries stand in the memory, all where n is 0, ascending by version: for each of them four numbers, the start and the length of its
+// key, and those of its value, 0 and 0 where values are not asked for. It answers how many entries there are. A list shorter than 512 numbers, and
+// memory of another length, tell of none.
+pub fn list(t: &[u8], n: u64, values: bool, numbers: &mut [u64]) -> usize
+    ensures { λ r. ⌜ (r, now (numbers .exit)) ≡ listAt values n (now (t .entry)) (now (numbers .entry)) ⌝ }
+{
+    if t.len() != Table::SIZE {
+        return 0;
+    }
+    if numbers.len() < Table::LISTED {
+        return 0;
+    }
+    let many = named::asked(t, n);
+    named::put_entries(t, many, values, numbers);
+    many
 }
 
 // Adds an entry behind the last, of the next version, where there is room for it and a version is left.

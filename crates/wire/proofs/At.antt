@@ -10,7 +10,7 @@ use lib.ListN.{length, take, drop, length-drop, drop-of-length-le}
 use lib.Seq.{drop-drop, length-take-le}
 use lib.Dec.{leb}
 use Rattle.wire.specs.Codec.{Read, whole, more, refused, after, Codec, Bytes, raw, guard, seq, as-type, readAt}
-use Rattle.wire.proofs.Laws.{Laws, never, after-same, after-after, after-whole, sized, same-read, bytes-drop}
+use Rattle.wire.proofs.Laws.{Exact, Laws, moved, never, after-same, after-after, after-whole, sized, same-read, bytes-drop}
 
 -- at the front
 pub at-front : {A : Type 0} (c : Codec A) (s : List ℕ) → readAt c s 0 ≡ c .dec s
@@ -76,6 +76,15 @@ at-within c l z s at a j e = go (decLt at (length s))
         let q : drop at s ≡ [] = drop-of-length-le s {i = at} (omega arith) in
         let f : more ≡ whole a j = rw (q, z) at e in
         never (cc)
+
+-- what is read whole is what is written so, at its place
+pub at-read : {A : Type 0} (c : Codec A) → Laws c → (s : List ℕ) (at : ℕ) (a : A) (j : ℕ) → Bytes s → readAt c s at ≡ whole a j → Exact c (drop at s) a (j - at)
+unfolding readAt
+at-read c l s at a j b e =
+    let x = after-whole (c .dec (drop at s)) _ a j e in
+    let q : at + x .len ≡ j = sized (x .then) in
+    let n : j - at ≡ x .len = omega arith in
+    moved (l .exact (drop at s) (x .val) (x .len) (bytes-drop at s b) (x .first)) (rw (same-read (x .then), n))
 
 -- what is read whole ends behind the bytes that are written so
 pub at-exact : {A : Type 0} (c : Codec A) → Laws c → (s : List ℕ) (at : ℕ) (a : A) (j : ℕ) → Bytes s → readAt c s at ≡ whole a j → j ≡ at + length (c .enc a)

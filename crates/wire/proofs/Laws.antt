@@ -291,7 +291,7 @@ bytes-are [] e i = omega arith
 bytes-are (b ∷ s) e zero = ltb-true b 256 (both (ltb b 256) (isBytes s) e .0)
 bytes-are (b ∷ s) e (suc i) = bytes-are s (both (ltb b 256) (isBytes s) e .1) i
 
-bytes-take : (n : ℕ) (s : List ℕ) → Bytes s → Bytes (take n s)
+pub bytes-take : (n : ℕ) (s : List ℕ) → Bytes s → Bytes (take n s)
 bytes-take n s h i = go (decLt i n)
   where
     go : Dec (i < n) → getD (take n s) i 0 < 256

@@ -7,3 +7,7 @@ pub mod At
 pub mod FieldLaws
 pub mod WriteLaws
 pub mod SameLaws
+pub mod ListedLaws
+pub mod UptoLaws
+pub mod ListedEnc
+pub mod ListedWrite

@@ -9,7 +9,7 @@ use native.Mathlib.Omega.{arith}
 use lib.ListN.{length, take, drop, set, length-append, length-drop, drop-of-length-le}
 use lib.Seq.{sets, set-set, set-comm, sets-eq, length-sets, drop-drop, drop-at, take-at, take-all, take-length, length-take-le}
 use lib.Dec.{leb}
-use borrow.Author.Tests.{le-leb, lt-leb}
+use borrow.Author.Tests.{le-leb, lt-leb, leb-true, leb-false}
 use Rattle.wire.specs.Codec.{whole, Codec, Valid, raw, guard, seq, as-type, readAt}
 use Rattle.wire.specs.Write.{Room, Wrote, laid, putAt, Sent, written, kept, send}
 use Rattle.wire.proofs.Laws.{Laws, never}
@@ -24,6 +24,12 @@ pub sets-after : (vs l : List ℕ) (i j b : ℕ) → j < i → set (sets l i vs)
 sets-after [] l i j b h = refl
 sets-after (x ∷ vs) l i j b h =
     sets-after vs (set l i x) (suc i) j b (omega arith) ∙ ap (λ (m : List ℕ). sets m (suc i) vs) (set-comm l i j x b (λ e. omega arith))
+
+-- and so for more bytes
+sets-before : (a b l : List ℕ) (i j : ℕ) → i + length a ≤ j → sets (sets l j b) i a ≡ sets (sets l i a) j b
+sets-before [] b l i j h = refl
+sets-before (x ∷ a) b l i j h =
+    ap (λ (m : List ℕ). sets m (suc i) a) (sets-after b l j i x (omega arith)) ∙ sets-before a b (set l i x) (suc i) j (omega arith)
 
 -- a write is covered by one at the same place that is not shorter
 pub sets-over : (a b l : List ℕ) (i : ℕ) → length a ≤ length b → sets (sets l i a) i b ≡ sets l i b
@@ -74,6 +80,19 @@ pub wrote-type : {A B : Type 0} (test : B → Bool) (to : A → B) (from : B →
 unfolding as-type
 wrote-type test to from c w = record { next = w .next; list = w .list; long = w .long }
 
+-- what is written before the bytes behind it is written as if it came first
+module _ {A B : Type 0} (c : Codec A) (d : Codec B) {a : A} {b : B} {old mid new : List ℕ} {at n r : ℕ} (x : Wrote d b old mid n r) (y : Wrote c a mid new at n) where
+  pub wrote-first : Wrote c a old (sets old at (c .enc a)) at n
+  wrote-first = record { next = y .next; list = refl; long = length-sets old at (c .enc a) }
+
+  pub wrote-second : Wrote d b (sets old at (c .enc a)) new n r
+  wrote-second =
+      record {
+        next = x .next;
+        list = y .list ∙ rw (x .list) (sets-before (c .enc a) (d .enc b) old at n (omega (arith, y .next)));
+        long = y .long ∙ x .long ∙ sym (length-sets old at (c .enc a));
+      }
+
 -- the writer of a field
 module _ {A : Type 0} (c : Codec A) (a : A) (at : ℕ) (old : List ℕ) where
   pub put-broken : c .ok a ≡ false → (at, old) ≡ putAt c a at old
@@ -98,6 +117,30 @@ module _ {A : Type 0} (c : Codec A) (a : A) (at : ℕ) (old : List ℕ) where
         list = q;
         long = ap length q ∙ length-sets old at (c .enc a);
       }
+
+  -- another place tells that it was written
+  pub put-moved : (new : List ℕ) (r : ℕ) → (r, new) ≡ putAt c a at old → (r ≡ at → ⊥) → Valid c a × Room c a at old
+  unfolding putAt
+  put-moved new r e h = go (c .ok a) (leb (at + length (c .enc a)) (length old)) refl refl e
+    where
+      go : (t u : Bool) → c .ok a ≡ t → leb (at + length (c .enc a)) (length old) ≡ u
+          → _≡_ {A = ℕ × List ℕ} (r, new) (cond t (cond u (at + length (c .enc a), sets old at (c .enc a)) (at, old)) (at, old)) → Valid c a × Room c a at old
+      go true true v l e = (v, leb-true (at + length (c .enc a)) (length old) l)
+      go true false v l e = absurd (h (ap (λ (p : ℕ × List ℕ). p .0) e))
+      go false u v l e = absurd (h (ap (λ (p : ℕ × List ℕ). p .0) e))
+
+  -- and the same place that nothing was
+  module _ (some : 1 ≤ length (c .enc a)) (new : List ℕ) (e : (at, new) ≡ putAt c a at old) where
+    pub put-kept : (new ≡ old) × (Valid c a → length old < at + length (c .enc a))
+    unfolding putAt
+    put-kept = go (c .ok a) (leb (at + length (c .enc a)) (length old)) refl refl e
+      where
+        go : (t u : Bool) → c .ok a ≡ t → leb (at + length (c .enc a)) (length old) ≡ u
+            → _≡_ {A = ℕ × List ℕ} (at, new) (cond t (cond u (at + length (c .enc a), sets old at (c .enc a)) (at, old)) (at, old))
+            → (new ≡ old) × (Valid c a → length old < at + length (c .enc a))
+        go true true v l e = absurd (omega (arith, some, ap (λ (p : ℕ × List ℕ). p .0) e))
+        go true false v l e = (ap (λ (p : ℕ × List ℕ). p .1) e, λ w. leb-false (at + length (c .enc a)) (length old) l)
+        go false u v l e = (ap (λ (p : ℕ × List ℕ). p .1) e, λ w. never (cc))
 
 -- the writer of a message
 kept-none : {X : Type 0} {k n : ℕ} → kept k ≡ written n → X

@@ -42,7 +42,7 @@ fn joined(parts: &[&[u8]]) -> Vec<u8> {
 
 fn hot_rod(operation: u8, key: &[u8], value: &[u8]) -> Vec<u8> {
     let mut out = vec![0; LONGEST_REQUEST];
-    let numbers = [1, 12, u64::from(operation), 0, 1, 0, 0, 0, 0];
+    let numbers = [1, 12, u64::from(operation), 0, 1, 0, 0, 0, 0, 0];
     let size = write_request(&mut out, &numbers, key, value).expect("the request is good");
     out.truncate(size);
     out

@@ -5,8 +5,8 @@
 use std::ops::Range;
 
 use crate::limits::{
-    DONE, LONGEST_FILE, REPLY_FULL, REPLY_GIVEN, REPLY_TOLD, REQUEST_GIVEN, REQUEST_TOLD,
-    STATISTICS, STREAM_TOLD, TABLE_SIZE,
+    DONE, ENTRY_TOLD, LONGEST_FILE, REPLY_FULL, REPLY_GIVEN, REPLY_TOLD, REQUEST_GIVEN,
+    REQUEST_TOLD, STATISTICS, STREAM_TOLD, TABLE_SIZE,
 };
 
 extern "C" {
@@ -16,6 +16,14 @@ extern "C" {
         len: usize,
         op: u8,
         flag: bool,
+        answer: *mut u64,
+        told: usize,
+    ) -> u64;
+    fn fq_next_entry(
+        input: *const u8,
+        len: usize,
+        at: u64,
+        values: bool,
         answer: *mut u64,
         told: usize,
     ) -> u64;
@@ -71,6 +79,8 @@ pub struct Request {
     pub size: usize,
     pub operation: u8,
     pub flags: u64,
+    /// How many entries a bulkGet asks for, 0 for all; the scope of bulkGetKeys.
+    pub bulk: u64,
     pub key: Range<usize>,
 }
 
@@ -85,6 +95,8 @@ pub struct Reply {
     pub text: Range<usize>,
     /// Those of a stats reply, in the order of the protocol; 0 in any other.
     pub statistics: [u64; STATISTICS],
+    /// Where the entries of a bulk reply begin.
+    entries: usize,
 }
 
 /// The range that a start and a length tell.
@@ -105,7 +117,8 @@ pub fn read_request(input: &[u8]) -> Found<Request> {
             size: told[0] as usize,
             operation: told[3] as u8,
             flags: told[4],
-            key: range(&told[12..14]),
+            bulk: told[10],
+            key: range(&told[13..15]),
         }),
     }
 }
@@ -145,7 +158,40 @@ fn reply_of(told: &[u64; REPLY_TOLD]) -> Reply {
         value: range(&told[5..7]),
         text: range(&told[7..9]),
         statistics,
+        entries: told[19] as usize,
     }
+}
+
+/// An entry of a bulk reply: its key and its value.
+pub type Entry<'a> = (&'a [u8], &'a [u8]);
+
+/// The entries of a bulk reply that was read from these bytes: with their
+/// values, as in the reply to bulkGet, or with empty ones.
+pub fn entries<'a>(bytes: &'a [u8], reply: &Reply, values: bool) -> Vec<Entry<'a>> {
+    let mut entries = Vec::new();
+    let mut at = reply.entries;
+    while let Some(told) = next_entry(bytes, at, values) {
+        entries.push((&bytes[range(&told[2..4])], &bytes[range(&told[4..6])]));
+        at += told[0] as usize;
+    }
+    entries
+}
+
+/// What is told of the entry at this place, if there is one.
+fn next_entry(bytes: &[u8], at: usize, values: bool) -> Option<[u64; ENTRY_TOLD]> {
+    let mut told = [0; ENTRY_TOLD];
+    // SAFETY: both slices are lent for the call, with their lengths.
+    let code = unsafe {
+        fq_next_entry(
+            bytes.as_ptr(),
+            bytes.len(),
+            at as u64,
+            values,
+            told.as_mut_ptr(),
+            told.len(),
+        )
+    };
+    (code >= DONE && told[1] == 1).then_some(told)
 }
 
 /// The count in a code, or the refusal's number.

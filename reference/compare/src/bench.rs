@@ -6,17 +6,20 @@ use std::hint::black_box;
 use std::time::{Duration, Instant};
 
 use reference::hex::to_digits;
-use reference::operation::{GET, PUT, STATS};
+use reference::operation::{BULK_GET, BULK_GET_KEYS, GET, PUT, STATS};
+use reference::serve::BULK_ROOM;
 use reference::{Entry, Read, Reply, Request, Table};
 
 use crate::chance::Chance;
 use crate::fields::{join, of_reply, of_request};
+use crate::lines::LEAST;
 use crate::memory::{self, SIZE};
 use crate::messages::{reply_numbers, request_numbers};
 use crate::subject::{
     Asked, Piece, ReplyParts, RequestParts, ServesLines, Subject, GOOD, LINES_WORDS, REPLY_WORDS,
     REQUEST_WORDS, SERVE_WORDS, STREAM_WORDS,
 };
+use crate::writers::EntriesDraft;
 
 /// The rounds whose median is told.
 const ROUNDS: usize = 21;
@@ -43,7 +46,8 @@ caches of the processor, so all is warm. Reading of the reference copies name,
 key and value, that of the library does not. serve_stream of the library checks
 the table once a stream, that of the reference at each request; serve of both
 checks it at each call. `copy` is a memory copy of the same bytes: those read
-and those written.";
+and those written; where 128 entries are sent at once, it is one of the reply
+alone.";
 
 /// One line of the results, in nanoseconds for one unit.
 pub struct Row {
@@ -218,6 +222,15 @@ pub fn rows<S: Subject>(subject: &mut S) -> Vec<Row> {
         calls(subject, &mut setup, "serve, get", 0),
         calls(subject, &mut setup, "serve, put over a held key", 10),
         calls(subject, &mut setup, "serve, nine gets to one put", 1),
+        bulk(subject, &setup, "serve, bulkGet of 128 entries", BULK_GET),
+        bulk(
+            subject,
+            &setup,
+            "serve, bulkGetKeys of 128 keys",
+            BULK_GET_KEYS,
+        ),
+        read_bulk(subject, &setup),
+        write_bulk(subject, &setup),
         check(subject, &setup),
     ]
 }
@@ -449,6 +462,150 @@ fn calls<S: Subject>(subject: &mut S, setup: &mut Setup, name: &'static str, put
     measured(task, library, reference)
 }
 
+/// A request for all entries of the table, and the reply to it.
+fn bulk_messages(setup: &Setup, operation: u8) -> (Vec<u8>, Vec<u8>) {
+    let request = Request {
+        id: 1000,
+        version: 12,
+        operation,
+        intelligence: 1,
+        ..Request::default()
+    };
+    let input = join(&of_request(&request));
+    let mut reply = vec![0; BULK_ROOM];
+    let mut table = setup.table.clone();
+    let answer = reference::serve(&input, &mut table, SECOND, &mut reply);
+    reply.truncate(answer.reply_len);
+    (input, reply)
+}
+
+/// All entries of the table, one request a call.
+fn bulk<S: Subject>(subject: &mut S, setup: &Setup, name: &'static str, operation: u8) -> Row {
+    let (input, copied) = bulk_messages(setup, operation);
+    let mut memory = setup.memory.clone();
+    let mut reply = vec![0; BULK_ROOM];
+    let mut other = vec![0; BULK_ROOM];
+    let task = Task {
+        name,
+        units: CALLED,
+        copied: &copied,
+        copies: 1,
+    };
+    let library = || {
+        memory.copy_from_slice(&setup.memory);
+        reply.fill(0);
+        let mut answer = [0; SERVE_WORDS];
+        let mut codes = 0;
+        let time = timed(|| {
+            for _ in 0..CALLED {
+                codes += subject.serve(&input, &mut memory, SECOND, &mut reply, &mut answer);
+            }
+        });
+        assert_eq!(codes, GOOD * CALLED as u64, "a request is not served");
+        assert_eq!(reply[..copied.len()], copied, "the reply is another one");
+        time
+    };
+    let reference = || {
+        let mut table = setup.table.clone();
+        other.fill(0);
+        timed(|| {
+            for _ in 0..CALLED {
+                black_box(reference::serve(&input, &mut table, SECOND, &mut other).taken);
+            }
+        })
+    };
+    measured(task, library, reference)
+}
+
+fn read_bulk<S: Subject>(subject: &mut S, setup: &Setup) -> Row {
+    let (_, reply) = bulk_messages(setup, BULK_GET);
+    let asked = Asked {
+        op: BULK_GET,
+        flag: false,
+    };
+    let mut answer = [0; REPLY_WORDS];
+    let task = Task {
+        name: "read_reply, to that bulkGet",
+        units: CALLED,
+        copied: &reply,
+        copies: 1,
+    };
+    let library = || {
+        timed(|| {
+            for _ in 0..CALLED {
+                black_box(subject.read_reply(black_box(&reply), asked, &mut answer));
+            }
+        })
+    };
+    let reference = || {
+        timed(|| {
+            for _ in 0..CALLED {
+                let read = reference::read_reply(BULK_GET, false, black_box(&reply));
+                black_box(matches!(read, Read::Whole(_, _)));
+            }
+        })
+    };
+    measured(task, library, reference)
+}
+
+/// The entries of the table as parts of one row of bytes.
+fn entries_of(setup: &Setup) -> EntriesDraft {
+    let mut draft = EntriesDraft {
+        id: 1000,
+        values: true,
+        bytes: Vec::new(),
+        numbers: Vec::new(),
+    };
+    for key in &setup.keys {
+        for part in [key, &setup.table.entries[key].value] {
+            draft.numbers.push(draft.bytes.len() as u64);
+            draft.numbers.push(part.len() as u64);
+            draft.bytes.extend_from_slice(part);
+        }
+    }
+    draft
+}
+
+fn write_bulk<S: Subject>(subject: &mut S, setup: &Setup) -> Row {
+    let (_, bytes) = bulk_messages(setup, BULK_GET);
+    let draft = entries_of(setup);
+    let parts = draft.parts();
+    let reply = Reply {
+        id: draft.id,
+        operation: BULK_GET + 1,
+        entries: draft.entries(),
+        ..Reply::default()
+    };
+    let mut out = vec![0; BULK_ROOM];
+    let mut other = vec![0; BULK_ROOM];
+    let task = Task {
+        name: "write_entries, 128 entries",
+        units: CALLED,
+        copied: &bytes,
+        copies: 1,
+    };
+    let library = || {
+        out.fill(0);
+        let time = timed(|| {
+            for _ in 0..CALLED {
+                black_box(subject.write_entries(black_box(&mut out), draft.id, parts));
+            }
+        });
+        assert_eq!(out[..bytes.len()], bytes, "the reply is another one");
+        time
+    };
+    let reference = || {
+        other.fill(0);
+        timed(|| {
+            for _ in 0..CALLED {
+                let written = reference::write_reply(BULK_GET, false, &reply, &mut other);
+                black_box(written.is_ok());
+            }
+        })
+    };
+    measured(task, library, reference)
+}
+
 fn check<S: Subject>(subject: &mut S, setup: &Setup) -> Row {
     let task = Task {
         name: "the check of the table alone",
@@ -497,7 +654,7 @@ pub fn lines_row<S: ServesLines>(subject: &mut S) -> Row {
     let _ = reference::serve_reader(&mut &file[..], &mut output, &mut setup.table.clone());
     let copied = [&file[..], &output].concat();
     let mut memory = vec![0; SIZE];
-    let mut out = vec![0; output.len() + 2 * 1024];
+    let mut out = vec![0; output.len() + LEAST];
     let task = Task {
         name: "serve_lines, nine gets to one put",
         units: REQUESTS,

@@ -1,7 +1,9 @@
 //! One call to the server, compared with the reference: the answer, every
 //! byte of the reply buffer, the input, and the table.
 
-use reference::{serve, Answer, Table, Verdict};
+use reference::operation::greatest_bulk;
+use reference::serve::BULK_ROOM;
+use reference::{read_request, serve, Answer, Read, Table, Verdict};
 
 use crate::chance::Chance;
 use crate::difference::{hold, same, Difference, Outcome};
@@ -53,8 +55,23 @@ pub fn room(chance: &mut Chance) -> usize {
         0 => chance.pick(&[0, 1, 279, 511]),
         1 => chance.below(512),
         2 => 513 + chance.below(200),
+        3 => BULK_ROOM - 1 + chance.below(3),
         _ => 512,
     }
+}
+
+/// The same, for the request at the front of the input: for a bulk request
+/// mostly enough or one byte less.
+pub fn room_for(chance: &mut Chance, input: &[u8]) -> usize {
+    let bulk = match read_request(input) {
+        Read::Whole(request, _) => greatest_bulk(request.operation).is_some(),
+        _ => false,
+    };
+    if bulk && !chance.one_in(4) {
+        let more = BULK_ROOM + chance.below(200);
+        return chance.pick(&[BULK_ROOM - 1, BULK_ROOM, BULK_ROOM, more]);
+    }
+    room(chance)
 }
 
 /// Makes the call on both and compares. The answer is the reference's.
@@ -63,6 +80,16 @@ pub fn compared<S: Subject>(
     world: &mut World,
     call: Call,
 ) -> Result<Answer, Difference> {
+    let (answer, _) = replied(trial, world, call)?;
+    Ok(answer)
+}
+
+/// The same, with the bytes of the reply.
+pub fn replied<S: Subject>(
+    trial: &mut Trial<S>,
+    world: &mut World,
+    call: Call,
+) -> Result<(Answer, Vec<u8>), Difference> {
     let before = world.memory.clone();
     made(trial, world, call, &before).map_err(|found| {
         found
@@ -80,7 +107,7 @@ fn made<S: Subject>(
     world: &mut World,
     call: Call,
     before: &Lent,
-) -> Result<Answer, Difference> {
+) -> Result<(Answer, Vec<u8>), Difference> {
     let input = Lent::of(call.input);
     let mut reply = Lent::random(&mut trial.chance, call.room);
     let mut expected = reply.clone();
@@ -118,7 +145,8 @@ fn made<S: Subject>(
     reply.same("the reply buffer, with a margin on both sides", &expected)?;
     input.same("the input is changed", &Lent::of(call.input))?;
     table_is(trial, world, before, answer.verdict == Verdict::Served)?;
-    Ok(answer)
+    let sent = reply.slice()[..answer.reply_len].to_vec();
+    Ok((answer, sent))
 }
 
 /// After a request that was served the memory stands for the reference's

@@ -80,8 +80,8 @@ fn stretched(good: &[u8]) -> Vec<u8> {
 fn odd_length(chance: &mut Chance, good: &[u8], limit: usize) -> Vec<u8> {
     let length = match chance.below(7) {
         0 => limit as u64,
-        1 => limit as u64 + 1,
-        2 => 2 * limit as u64,
+        1 => (limit as u64 + 1).min(u64::from(u32::MAX)),
+        2 => (2 * limit as u64).min(u64::from(u32::MAX)),
         3 => u64::from(u32::MAX),
         4 => chance.below(600) as u64,
         5 => limit.saturating_sub(1) as u64,
@@ -95,12 +95,17 @@ fn odd_length(chance: &mut Chance, good: &[u8], limit: usize) -> Vec<u8> {
 /// Gives one field another content.
 pub fn break_field(chance: &mut Chance, fields: &mut [Field]) {
     let at = chance.below(fields.len());
+    break_at(chance, fields, at);
+}
+
+/// Gives the field at this place another content.
+pub fn break_at(chance: &mut Chance, fields: &mut [Field], at: usize) {
     let field = &mut fields[at];
     match field.kind {
-        Kind::Byte => field.bytes = vec![odd_byte(chance, field.bytes[0])],
+        Kind::Byte | Kind::More => field.bytes = vec![odd_byte(chance, field.bytes[0])],
         Kind::Long => field.bytes = odd_number(chance, &field.bytes, 9),
         Kind::Int => field.bytes = odd_number(chance, &field.bytes, 5),
-        Kind::Just(limit) | Kind::Length(limit) => {
+        Kind::Just(limit) | Kind::UpTo(limit) | Kind::Length(limit) => {
             field.bytes = odd_length(chance, &field.bytes, limit);
         }
         Kind::Eight | Kind::Key | Kind::Value => chance.fill(&mut field.bytes),

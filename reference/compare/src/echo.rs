@@ -2,29 +2,33 @@
 //! slices, the table in the same memory. The tests of the harness put one
 //! fault at a time into it, and the harness has to find it.
 
+mod bulk;
+
 use reference::history::{COUNTS, RETRIEVALS, STORES};
 use reference::lines::{LINE_END, LINE_LIMIT};
 use reference::map::{LARGEST_DEADLINE, LARGEST_VERSION, LONGEST_SPAN, MOST_KEYS};
 use reference::number::LARGEST_VLONG;
 use reference::operation::{
-    sends_entry_version, sends_value, CLEAR, GET, GET_WITH_VERSION, PUT, REMOVE, STATS,
+    greatest_bulk, sends_entry_version, sends_value, BULK_GET, CLEAR, GET, GET_WITH_VERSION, PUT,
+    REMOVE, STATS,
 };
 use reference::serve::{answer_request, error_id, LEAST_ROOM};
 use reference::{
-    is_text, load, read_reply, read_request, same_key, serve_line, store, write_reply,
-    write_request, History, Read, Reply, Request, Statistics, Table, Verdict,
+    is_text, load, read_reply, same_key, serve_line, store, write_reply, write_request, History,
+    Read, Reply, Request, Statistics, Table, Verdict,
 };
 
 use crate::fields::{of_reply, of_request, place, Kind};
+use crate::lines::LEAST;
 use crate::memory::{
     self, number, put_history, put_number, row_at, COUNT, COUNTED, DEADLINE, LAST, PLACES, ROWS,
     SIZE,
 };
 use crate::messages::{reply_numbers, request_numbers};
 use crate::subject::{
-    read_code, verdict_code, write_code, Asked, ComparesKeys, Piece, ReplyParts, RequestParts,
-    ServesLines, Stores, Subject, FULL, GOOD, KEYS_WORDS, REPLY_WORDS, REQUEST_WORDS, SERVE_WORDS,
-    STREAM_WORDS, UNTOLD,
+    read_code, verdict_code, write_code, Asked, ComparesKeys, EntryParts, Piece, ReplyParts,
+    RequestParts, ServesLines, Stores, Subject, ENTRY_WORDS, FULL, GOOD, KEYS_WORDS, REPLY_WORDS,
+    REQUEST_WORDS, SERVE_WORDS, STREAM_WORDS, UNTOLD,
 };
 
 /// What is wrong with an `Echo`.
@@ -114,6 +118,38 @@ pub enum Fault {
     ValueSteersCount,
     LoadKeepsCounts,
     GreatCount,
+    // Bulk requests and replies.
+    BulkCountIgnored,
+    BulkHighest,
+    BulkByKey,
+    BulkHidesDated,
+    KeysInEleven,
+    ScopeThree,
+    BulkFits,
+    BulkRoomOneMore,
+    BulkTwelveTakesNothing,
+    BulkTwelveIsFirst,
+    NineBeforeBulkTwelve,
+    BulkCounts,
+    BulkNoEnd,
+    BulkTwelveInStream,
+    BulkTwelveEndsStream,
+    SixForMoreByte,
+    Reads129,
+    SixBehind129,
+    EntriesOneLess,
+    EntriesWithoutEnd,
+    EntryPlacesFromPart,
+    EntryNotAtEnd,
+    EntrySkipsValue,
+    EntryRefusedIsMore,
+    Writes129,
+    PartsRefused,
+    FewNumbersRefused,
+    ValueWithKeys,
+    EntriesRoomFirst,
+    EntriesNeedOneMore,
+    ValueLeaksToEntry,
     // Keys.
     ComparesFromFront,
     OnePairTooFew,
@@ -178,6 +214,7 @@ fn request_from(numbers: &[u64], parts: RequestParts) -> Option<Request> {
         lifespan: int(number(6)?)?,
         max_idle: int(number(7)?)?,
         entry_version: number(8)?,
+        bulk: int(number(9)?)?,
         name: parts.name.to_vec(),
         key: parts.key.to_vec(),
         value: parts.value.to_vec(),
@@ -295,7 +332,7 @@ impl Echo {
         let Some(table) = self.table(memory) else {
             return (13, 0, 0);
         };
-        let (code, taken, message) = self.answer(input, memory, second, table);
+        let (code, taken, message) = self.answer(input, memory, second, table, reply.len());
         let sent = message.len();
         reply[..sent].copy_from_slice(&message);
         if self.has(Fault::ReplyTouchesBehind) && sent > 0 {
@@ -313,8 +350,9 @@ impl Echo {
         memory: &mut [u8],
         second: u32,
         mut table: Table,
+        room: usize,
     ) -> (u64, usize, Vec<u8>) {
-        match read_request(input) {
+        match self.read(input) {
             Read::More => {
                 let taken = if self.has(Fault::MoreTakes) {
                     input.len()
@@ -327,6 +365,14 @@ impl Echo {
                 let id = error_id(refusal, input);
                 let message = reference::reply::error_bytes(id, refusal);
                 (u64::from(refusal), 0, message)
+            }
+            Read::Whole(request, taken) if self.lacks_room(&request, &table, room) => {
+                if self.has(Fault::BulkTwelveIsFirst) {
+                    table.history.first.get_or_insert(u64::from(second));
+                    self.put_back(&table, memory);
+                }
+                let nothing = self.has(Fault::BulkTwelveTakesNothing);
+                (12, if nothing { 0 } else { taken }, Vec::new())
             }
             Read::Whole(request, taken) => {
                 let (message, verdict) = self.step(request, second, &mut table);
@@ -362,7 +408,10 @@ impl Echo {
         }
         self.change_request(&mut request, table);
         let before = table.clone();
-        let answer = answer_request(&request, second, table);
+        let mut answer = answer_request(&request, second, table);
+        if greatest_bulk(request.operation).is_some() && answer.1 == Verdict::Served {
+            self.change_listing(&request, &before, &mut answer.0);
+        }
         self.change_table(&request, second, &before, table);
         self.change_history(&request, second, &before, table);
         answer
@@ -440,6 +489,7 @@ impl Echo {
         match (self.fault, request.operation) {
             (Some(Fault::RefusedPutCounts), PUT) if !wrote => once_more(history, STORES),
             (Some(Fault::GetWithVersionCounts), GET_WITH_VERSION) => once_more(history, RETRIEVALS),
+            (Some(Fault::BulkCounts), BULK_GET) => once_more(history, RETRIEVALS),
             (Some(Fault::RefusedCallIsFirst), _) => {
                 history.first.get_or_insert(u64::from(second));
             }
@@ -457,9 +507,42 @@ impl Echo {
         }
     }
 
-    fn stream_goes_on(&self, code: u64) -> bool {
-        let first = if self.has(Fault::StopsAtNine) { 10 } else { 9 };
-        code == GOOD || (first..=11).contains(&code)
+    /// Whether a stream goes on behind a call that took its request.
+    fn stream_goes_on(&self, code: u64, taken: usize) -> bool {
+        match self.fault {
+            Some(Fault::StopsAtNine) if code == 9 => false,
+            Some(Fault::BulkTwelveEndsStream) if code == 12 => false,
+            _ => taken > 0,
+        }
+    }
+
+    /// A wrong code for a reply that is read.
+    fn wrong_reply(&self, asked: Asked, input: &[u8], code: u64) -> Option<u64> {
+        let stats = asked.op == STATS && code == 8;
+        let again = |input: &[u8]| read_code(&read_reply(asked.op, asked.flag, input));
+        match self.fault? {
+            Fault::SevenForName if stats && !is_text(input.get(6..).unwrap_or(&[])) => Some(7),
+            Fault::AnyNumberOfStatistics if stats => Some(again(&with_nine(input))),
+            Fault::ReadsLeadingZero if code == 8 => Some(again(&without_zero(input))),
+            Fault::ReplyTextUnchecked if code == 7 => Some(0),
+            Fault::LooksBeforeOperation if code == 4 && input.is_empty() => Some(0),
+            _ => None,
+        }
+    }
+
+    fn reply_words(&self, asked: Asked, reply: &Reply, taken: usize) -> Vec<u64> {
+        let fields = of_reply(asked, reply);
+        let spans = [
+            span(place(&fields, Kind::Value), &reply.value),
+            span(place(&fields, Kind::Text), &reply.text),
+        ];
+        let numbers = reply_numbers(reply, taken);
+        let entries = self.entries_words(&fields, reply);
+        let mut words = [&numbers[..], &spans.concat(), &reply.statistics, &entries].concat();
+        if self.has(Fault::TellsStatisticsAlways) {
+            words[9] += 1;
+        }
+        words
     }
 
     fn line_limit(&self) -> usize {
@@ -547,12 +630,12 @@ fn mend_places(memory: &mut [u8], count: usize) {
 impl Subject for Echo {
     fn read_request(&mut self, input: &[u8], answer: &mut [u64]) -> u64 {
         if answer.len() < REQUEST_WORDS {
-            if self.has(Fault::AnswersInShortBuffer) && answer.len() == 15 {
+            if self.has(Fault::AnswersInShortBuffer) && answer.len() == REQUEST_WORDS - 1 {
                 answer[0] = input.len() as u64;
             }
             return UNTOLD;
         }
-        let read = read_request(input);
+        let read = self.read(input);
         let code = self.faulty_read(read_code(&read), input);
         let Read::Whole(request, taken) = read else {
             if self.has(Fault::AnswersMore) && code == 0 {
@@ -603,36 +686,14 @@ impl Subject for Echo {
         let flag = asked.flag || self.has(Fault::IgnoresFlag);
         let read = read_reply(asked.op, flag, input);
         let code = read_code(&read);
-        let wrong_text = asked.op == STATS && code == 8 && !is_text(input.get(6..).unwrap_or(&[]));
-        if self.has(Fault::SevenForName) && wrong_text {
-            return 7;
-        }
-        if self.has(Fault::AnyNumberOfStatistics) && asked.op == STATS && code == 8 {
-            return read_code(&read_reply(asked.op, flag, &with_nine(input)));
-        }
-        if self.has(Fault::ReadsLeadingZero) && code == 8 {
-            return read_code(&read_reply(asked.op, flag, &without_zero(input)));
-        }
-        if self.has(Fault::ReplyTextUnchecked) && code == 7 {
-            return 0;
-        }
-        if self.has(Fault::LooksBeforeOperation) && code == 4 && input.is_empty() {
-            return 0;
-        }
-        let Read::Whole(reply, taken) = read else {
+        let asked = Asked { flag, ..asked };
+        let wrong = self.wrong_reply(asked, input, code);
+        if let Some(code) = wrong.or_else(|| self.wrong_bulk_reply(asked, input, code)) {
             return code;
-        };
-        let fields = of_reply(asked, &reply);
-        let spans = [
-            span(place(&fields, Kind::Value), &reply.value),
-            span(place(&fields, Kind::Text), &reply.text),
-        ];
-        let numbers = reply_numbers(&reply, taken);
-        let mut words = [&numbers[..], &spans.concat(), &reply.statistics].concat();
-        if self.has(Fault::TellsStatisticsAlways) {
-            words[9] += 1;
         }
-        fill(answer, &words);
+        if let Read::Whole(reply, taken) = read {
+            fill(answer, &self.reply_words(asked, &reply, taken));
+        }
         code
     }
 
@@ -670,6 +731,18 @@ impl Subject for Echo {
         self.after_writing(code, out)
     }
 
+    fn next_entry(&mut self, input: &[u8], at: usize, values: bool, answer: &mut [u64]) -> u64 {
+        if answer.len() < ENTRY_WORDS {
+            return UNTOLD;
+        }
+        self.entry_at(input, at, values, answer)
+    }
+
+    fn write_entries(&mut self, out: &mut [u8], id: u64, entries: EntryParts) -> u64 {
+        let code = self.entries_to(out, id, entries);
+        self.after_writing(code, out)
+    }
+
     fn serve(
         &mut self,
         input: &[u8],
@@ -701,11 +774,12 @@ impl Subject for Echo {
         loop {
             let (code, more, length) =
                 self.one_call(&input[taken..], table, second, &mut reply[sent..]);
-            let full = code == 12 && sent > 0;
-            taken += more;
+            let taken_bulk = self.has(Fault::BulkTwelveInStream) && more > 0;
+            let full = code == 12 && sent > 0 && !taken_bulk;
+            taken += if full { 0 } else { more };
             sent += length;
             calls += u64::from(!full && (length > 0 || !self.has(Fault::CountsReplies)));
-            if self.stream_goes_on(code) {
+            if !full && self.stream_goes_on(code, more) {
                 continue;
             }
             fill(answer, &[taken as u64, sent as u64, calls]);
@@ -729,9 +803,6 @@ impl Subject for Echo {
     }
 }
 
-/// The most bytes of an output line, its end included.
-const OUTPUT_LINE: usize = 2 * 307 + 1;
-
 impl ServesLines for Echo {
     fn serve_lines(
         &mut self,
@@ -741,14 +812,14 @@ impl ServesLines for Echo {
         piece: Piece,
         answer: &mut [u64],
     ) -> u64 {
-        if out.len() < OUTPUT_LINE {
+        if out.len() < LEAST {
             return 12;
         }
         if self.table(table).is_none() && !self.has(Fault::ChecksNoTable) {
             return 13;
         }
         let (mut taken, mut written, mut passing) = (0, 0, piece.passing);
-        while taken < input.len() && out.len() - written >= OUTPUT_LINE {
+        while taken < input.len() && out.len() - written >= LEAST {
             let rest = &input[taken..];
             let next = self.next_line(rest, piece.last);
             if passing {

@@ -10,8 +10,8 @@ use reference::hex::to_string;
 #[cfg(feature = "stored")]
 use crate::subject::Stores;
 use crate::subject::{
-    Asked, ComparesKeys, ReplyParts, RequestParts, Subject, GOOD, KEYS_WORDS, REPLY_WORDS,
-    REQUEST_WORDS, SERVE_WORDS, STREAM_WORDS,
+    Asked, ComparesKeys, EntryParts, ReplyParts, RequestParts, Subject, ENTRY_WORDS, GOOD,
+    KEYS_WORDS, REPLY_WORDS, REQUEST_WORDS, SERVE_WORDS, STREAM_WORDS,
 };
 #[cfg(feature = "lines")]
 use crate::subject::{Piece, ServesLines, LINES_WORDS};
@@ -65,6 +65,26 @@ extern "C" {
         id: u64,
         statistics: *const u64,
         statistics_len: usize,
+    ) -> u64;
+
+    fn fq_next_entry(
+        input: *const u8,
+        input_len: usize,
+        at: u64,
+        values: bool,
+        answer: *mut u64,
+        answer_len: usize,
+    ) -> u64;
+
+    fn fq_write_entries(
+        out: *mut u8,
+        out_len: usize,
+        id: u64,
+        values: bool,
+        bytes: *const u8,
+        bytes_len: usize,
+        numbers: *const u64,
+        numbers_len: usize,
     ) -> u64;
 
     fn fq_serve(
@@ -186,7 +206,7 @@ impl Subject for Library {
         };
         check_code("fq_read_request", code, input.len(), input);
         if code >= GOOD && answer.len() >= REQUEST_WORDS {
-            check_spans("fq_read_request", &answer[10..REQUEST_WORDS], input);
+            check_spans("fq_read_request", &answer[11..REQUEST_WORDS], input);
         }
         code
     }
@@ -226,6 +246,7 @@ impl Subject for Library {
         check_code("fq_read_reply", code, input.len(), input);
         if code >= GOOD && answer.len() >= REPLY_WORDS {
             check_spans("fq_read_reply", &answer[5..9], input);
+            check_spans("fq_read_reply", &answer[19..REPLY_WORDS], input);
         }
         code
     }
@@ -268,6 +289,45 @@ impl Subject for Library {
             )
         };
         check_code("fq_write_statistics", code, out.len(), &[]);
+        code
+    }
+
+    fn next_entry(&mut self, input: &[u8], at: usize, values: bool, answer: &mut [u64]) -> u64 {
+        // SAFETY: both slices are lent for the call, with their lengths.
+        let code = unsafe {
+            fq_next_entry(
+                input.as_ptr(),
+                input.len(),
+                at as u64,
+                values,
+                answer.as_mut_ptr(),
+                answer.len(),
+            )
+        };
+        check_code("fq_next_entry", code, input.len(), input);
+        if code >= GOOD && answer.len() >= ENTRY_WORDS {
+            check_words("fq_next_entry", answer, &[input.len(), 1], input);
+            check_spans("fq_next_entry", &answer[2..ENTRY_WORDS], input);
+        }
+        code
+    }
+
+    fn write_entries(&mut self, out: &mut [u8], id: u64, entries: EntryParts) -> u64 {
+        // SAFETY: all slices are lent for the call, with their lengths, and
+        // the buffer overlaps none of the others.
+        let code = unsafe {
+            fq_write_entries(
+                out.as_mut_ptr(),
+                out.len(),
+                id,
+                entries.values,
+                entries.bytes.as_ptr(),
+                entries.bytes.len(),
+                entries.numbers.as_ptr(),
+                entries.numbers.len(),
+            )
+        };
+        check_code("fq_write_entries", code, out.len(), &[]);
         code
     }
 

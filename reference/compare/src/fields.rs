@@ -1,8 +1,10 @@
 //! A message as a list of fields, so that one of them can be found or broken.
 
 use reference::fields::{KEY_LIMIT, NAME_LIMIT, TEXT_LIMIT, VALUE_LIMIT};
-use reference::operation::{body, sends_entry_version, sends_key, sends_value, Body, ERROR};
-use reference::{statistics, write_number, Reply, Request, Statistics};
+use reference::operation::{
+    body, greatest_bulk, sends_entry_version, sends_key, sends_value, Body, ERROR,
+};
+use reference::{statistics, write_number, Listed, Reply, Request, Statistics};
 
 use crate::subject::Asked;
 
@@ -15,6 +17,8 @@ pub enum Kind {
     Int,
     /// A vInt that has to be this number.
     Just(usize),
+    /// A vInt up to this number.
+    UpTo(usize),
     /// A vInt that is the length of the field behind it, with its limit.
     Length(usize),
     /// An entry version.
@@ -27,6 +31,8 @@ pub enum Kind {
     Title,
     /// The value of a statistic.
     Decimal,
+    /// The byte before an entry and behind the last.
+    More,
 }
 
 #[derive(Clone, Debug)]
@@ -71,6 +77,10 @@ pub fn of_request(request: &Request) -> Vec<Field> {
     if sends_value(op) {
         limited(&mut fields, Kind::Value, VALUE_LIMIT, &request.value);
     }
+    if let Some(greatest) = greatest_bulk(op) {
+        let kind = Kind::UpTo(greatest as usize);
+        fields.push(number(kind, u64::from(request.bulk)));
+    }
     fields
 }
 
@@ -111,6 +121,8 @@ pub fn of_reply(asked: Asked, reply: &Reply) -> Vec<Field> {
             limited(&mut fields, Kind::Value, VALUE_LIMIT, &reply.value);
         }
         Body::Statistics => of_statistics(&mut fields, &reply.statistics),
+        Body::Entries => of_entries(&mut fields, &reply.entries, true),
+        Body::Keys => of_entries(&mut fields, &reply.entries, false),
     }
     fields
 }
@@ -129,11 +141,27 @@ fn of_statistics(fields: &mut Vec<Field>, numbers: &Statistics) {
     }
 }
 
+fn of_entries(fields: &mut Vec<Field>, entries: &[Listed], values: bool) {
+    for entry in entries {
+        fields.push(field(Kind::More, &[1]));
+        limited(fields, Kind::Key, KEY_LIMIT, &entry.key);
+        if values {
+            limited(fields, Kind::Value, VALUE_LIMIT, &entry.value);
+        }
+    }
+    fields.push(field(Kind::More, &[0]));
+}
+
 pub fn join(fields: &[Field]) -> Vec<u8> {
     fields
         .iter()
         .flat_map(|field| field.bytes.clone())
         .collect()
+}
+
+/// The bytes of all fields.
+pub fn length(fields: &[Field]) -> usize {
+    fields.iter().map(|field| field.bytes.len()).sum()
 }
 
 /// Where the first field of this kind begins, and 0 if there is none.
@@ -153,6 +181,7 @@ mod tests {
     use super::*;
     use crate::chance::Chance;
     use crate::make;
+    use reference::serve::BULK_ROOM;
     use reference::{write_reply, write_request};
 
     #[test]
@@ -161,7 +190,7 @@ mod tests {
         for _ in 0..2000 {
             let request = make::request(&mut chance);
             let bytes = join(&of_request(&request));
-            let mut out = [0; 512];
+            let mut out = [0; BULK_ROOM];
             assert_eq!(write_request(&request, &mut out), Ok(bytes.len()));
             assert_eq!(out[..bytes.len()], bytes);
             let (asked, reply) = make::reply(&mut chance);

@@ -9,6 +9,9 @@ use crate::difference::{hold, same_bytes, Outcome};
 /// The bytes of a margin.
 pub const MARGIN: usize = 32;
 
+/// Random bytes come again after so many.
+const PERIOD: usize = 8209;
+
 #[derive(Clone)]
 pub struct Lent {
     bytes: Vec<u8>,
@@ -17,9 +20,14 @@ pub struct Lent {
 impl Lent {
     /// So many random bytes.
     pub fn random(chance: &mut Chance, length: usize) -> Lent {
-        Lent {
-            bytes: chance.bytes(length + 2 * MARGIN),
+        let length = length + 2 * MARGIN;
+        let period = chance.bytes(length.min(PERIOD));
+        let mut bytes = Vec::with_capacity(length);
+        while bytes.len() < length {
+            let rest = period.len().min(length - bytes.len());
+            bytes.extend_from_slice(&period[..rest]);
         }
+        Lent { bytes }
     }
 
     /// These bytes.

@@ -8,7 +8,7 @@
 //!
 //! The parts: `messages` (a), `serving` (b), `streams` (c), `tables` (d),
 //! `values` (e), `lines` (f), `stored` (g), `edges` (h), `dates` (i),
-//! `keys` (j), `statistics` (k).
+//! `keys` (j), `statistics` (k), `bulk` (l).
 //!
 //! `cargo test --offline` tests the harness without the library. With it:
 //! `cargo run --release --offline --features library,lines,stored -- quick`;
@@ -17,6 +17,7 @@
 //! it that is target/staticlib of the repository.
 
 pub mod bench;
+pub mod bulk;
 pub mod calls;
 pub mod chance;
 pub mod damage;
@@ -24,6 +25,7 @@ pub mod dates;
 pub mod difference;
 pub mod echo;
 pub mod edges;
+pub mod entries;
 #[cfg(feature = "library")]
 pub mod ffi;
 pub mod fields;

@@ -23,8 +23,10 @@ use crate::subject::{Piece, ServesLines, Subject, GOOD, LINES_WORDS};
 use crate::tables;
 use crate::trial::Trial;
 
+/// The least room: that of the longest reply in digits, and the line end.
+pub const LEAST: usize = 83_201;
 /// Room that is always enough for a line's output.
-const AMPLE: usize = 8192;
+const AMPLE: usize = LEAST + 8192;
 
 pub fn round<S: ServesLines>(trial: &mut Trial<S>) -> Outcome {
     unsound(trial)?;
@@ -286,9 +288,9 @@ impl Feed<'_> {
 fn small_room(chance: &mut Chance) -> usize {
     match chance.below(7) {
         0 => chance.pick(&[0, 1, 10, 11, 12]),
-        1 => 550 + chance.below(20),
-        2 => 605 + chance.below(20),
-        3 => chance.below(2500),
+        1 => chance.below(2500),
+        2 => LEAST - 10 + chance.below(20),
+        3 => chance.below(AMPLE),
         _ => AMPLE,
     }
 }

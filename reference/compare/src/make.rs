@@ -5,10 +5,11 @@ use reference::history::COUNTS;
 use reference::map::{LARGEST_DEADLINE, LARGEST_VERSION, LONGEST_SPAN, MOST_KEYS};
 use reference::number::LARGEST_VLONG;
 use reference::operation::{
-    body, may_answer, sends_entry_version, sends_key, sends_value, Body, CLEAR, ERROR, PUT,
-    PUT_IF_ABSENT, REMOVE, REMOVE_IF_UNMODIFIED, SERVED,
+    body, greatest_bulk, may_answer, sends_entry_version, sends_key, sends_value, serves, Body,
+    BULK_GET, BULK_GET_KEYS, CLEAR, ERROR, PUT, PUT_IF_ABSENT, REMOVE, REMOVE_IF_UNMODIFIED,
+    SERVED,
 };
-use reference::{Entry, History, Reply, Request, Statistics, Table};
+use reference::{Entry, History, Listed, Reply, Request, Statistics, Table};
 
 use crate::chance::Chance;
 use crate::subject::Asked;
@@ -124,7 +125,10 @@ pub fn operation(chance: &mut Chance) -> u8 {
 
 /// A request of this operation that sends no name, with edge numbers.
 pub fn request_of(chance: &mut Chance, operation: u8) -> Request {
-    let version = 10 + chance.below(3) as u8;
+    let mut version = 10 + chance.below(3) as u8;
+    if !serves(version, operation) {
+        version = 12;
+    }
     let greatest_flags = if version == 12 { 7 } else { 1 };
     let mut request = Request {
         id: long(chance),
@@ -139,7 +143,25 @@ pub fn request_of(chance: &mut Chance, operation: u8) -> Request {
         request.lifespan = lifespan(chance);
         request.max_idle = int(chance);
     }
+    if let Some(greatest) = greatest_bulk(operation) {
+        request.bulk = bulk(chance, greatest);
+    }
     request
+}
+
+/// An entry count about the numbers of entries that a table may hold, or a
+/// scope.
+fn bulk(chance: &mut Chance, greatest: u32) -> u32 {
+    let number = match chance.below(4) {
+        0 => 0,
+        1 => chance.pick(&[1, 2, 127, 128, 129, u32::MAX]),
+        2 => chance.below(140) as u32,
+        _ => int(chance),
+    };
+    match greatest {
+        u32::MAX => number,
+        _ => number % (greatest + 1),
+    }
 }
 
 /// Any well-formed request.
@@ -206,7 +228,24 @@ pub fn reply(chance: &mut Chance) -> (Asked, Reply) {
     if body == Body::Statistics {
         reply.statistics = statistics(chance);
     }
+    if body == Body::Entries || body == Body::Keys {
+        let count = chance.pick(&[0, 1, 2, 3, 5]);
+        reply.entries = entries(chance, count, body == Body::Entries);
+    }
     (asked, reply)
+}
+
+/// So many entries of a bulk reply; keys may come twice.
+pub fn entries(chance: &mut Chance, count: usize, values: bool) -> Vec<Listed> {
+    let mut entries = Vec::new();
+    for _ in 0..count {
+        let (key, value) = (length(chance, KEY_LIMIT), length(chance, VALUE_LIMIT));
+        entries.push(Listed {
+            key: chance.bytes(key),
+            value: chance.bytes(if values { value } else { 0 }),
+        });
+    }
+    entries
 }
 
 /// Nine numbers that a stats reply may tell.
@@ -356,13 +395,15 @@ fn entry_version(chance: &mut Chance, table: &Table, key: &[u8]) -> u64 {
 }
 
 /// An operation by chance. Clear comes rarely, and removals too where many
-/// keys are held, so that tables stay full for a while.
+/// keys are held, so that tables stay full for a while. The long replies to
+/// bulk requests come not so often.
 fn operation_for(chance: &mut Chance, table: &Table) -> u8 {
     let many = table.entries.len() > 100;
     let operation = operation(chance);
     let rare = match operation {
         CLEAR => !chance.one_in(if many { 80 } else { 10 }),
         REMOVE | REMOVE_IF_UNMODIFIED => many && !chance.one_in(8),
+        BULK_GET | BULK_GET_KEYS => !chance.one_in(3),
         _ => false,
     };
     if rare {

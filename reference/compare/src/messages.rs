@@ -8,7 +8,7 @@ use reference::{read_reply, read_request, Read, Reply, Request};
 
 use crate::damage::variants;
 use crate::difference::{hold, same, Difference, Outcome};
-use crate::fields::{join, of_reply, of_request, place, Field, Kind};
+use crate::fields::{join, length, of_reply, of_request, place, Field, Kind};
 use crate::lent::{Lent, Words};
 use crate::make;
 use crate::subject::{read_code, Asked, Subject, REPLY_WORDS, REQUEST_WORDS, UNTOLD};
@@ -22,6 +22,7 @@ pub fn round<S: Subject>(trial: &mut Trial<S>) -> Outcome {
         writers::requests(trial)?;
         writers::replies(trial)?;
         writers::statistics(trial)?;
+        writers::entries(trial)?;
     }
     Ok(())
 }
@@ -98,7 +99,7 @@ fn request_is(request: &Request, taken: usize, answer: &Words, input: &[u8]) -> 
     answer.kept_behind(REQUEST_WORDS)?;
     let numbers = request_numbers(request, taken);
     let names = "count, id, version, operation, flags, intelligence, topology, lifespan, \
-                 max idle, entry version";
+                 max idle, entry version, bulk";
     numbers_are(&numbers, answer.slice(), names)?;
     let fields = of_request(request);
     let spans = &answer.slice()[numbers.len()..];
@@ -108,7 +109,7 @@ fn request_is(request: &Request, taken: usize, answer: &Words, input: &[u8]) -> 
 }
 
 /// The first words of the answer to a whole request.
-pub fn request_numbers(request: &Request, taken: usize) -> [u64; 10] {
+pub fn request_numbers(request: &Request, taken: usize) -> [u64; 11] {
     [
         taken as u64,
         request.id,
@@ -120,10 +121,12 @@ pub fn request_numbers(request: &Request, taken: usize) -> [u64; 10] {
         u64::from(request.lifespan),
         u64::from(request.max_idle),
         request.entry_version,
+        u64::from(request.bulk),
     ]
 }
 
-fn check_reply<S: Subject>(trial: &mut Trial<S>, asked: Asked, input: &[u8]) -> Outcome {
+/// The reply read by both.
+pub fn check_reply<S: Subject>(trial: &mut Trial<S>, asked: Asked, input: &[u8]) -> Outcome {
     let lent = Lent::of(input);
     let expected = read_reply(asked.op, asked.flag, input);
     let mut answer = Words::about(&mut trial.chance, REPLY_WORDS);
@@ -151,7 +154,19 @@ fn reply_is(asked: Asked, reply: &Reply, taken: usize, answer: &Words, input: &[
     let spans = &answer.slice()[numbers.len()..];
     span_is(&fields, Kind::Value, &reply.value, &spans[0..2], input)?;
     span_is(&fields, Kind::Text, &reply.text, &spans[2..4], input)?;
-    numbers_are(&reply.statistics, &spans[4..], &NAMES.join(", "))
+    numbers_are(&reply.statistics, &spans[4..13], &NAMES.join(", "))?;
+    let (count, part) = (spans[13], &spans[14..16]);
+    same("the number of entries", reply.entries.len() as u64, count)?;
+    let start = place(&fields, Kind::More);
+    let listed = &input[start..start + entries_length(&fields)];
+    span_is(&fields, Kind::More, listed, part, input)
+}
+
+/// The bytes of the entries, from the first byte 1 or 0 on; none where it is no
+/// bulk reply.
+pub fn entries_length(fields: &[Field]) -> usize {
+    let first = fields.iter().position(|field| field.kind == Kind::More);
+    first.map_or(0, |at| length(&fields[at..]))
 }
 
 /// The first words of the answer to a whole reply.
@@ -176,7 +191,7 @@ fn numbers_are(expected: &[u64], answer: &[u64], names: &str) -> Outcome {
 
 /// A span has start and length. Of an empty one only the length is told, and
 /// that it lies within the input.
-fn span_is(fields: &[Field], kind: Kind, bytes: &[u8], span: &[u64], input: &[u8]) -> Outcome {
+pub fn span_is(fields: &[Field], kind: Kind, bytes: &[u8], span: &[u64], input: &[u8]) -> Outcome {
     let what = format!("the length of {kind:?}");
     same(&what, bytes.len() as u64, span[1])?;
     hold(

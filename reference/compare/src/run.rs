@@ -8,7 +8,7 @@ use crate::difference::{Difference, Outcome};
 use crate::subject::{ComparesKeys, ServesLines, Stores, Subject};
 use crate::trial::{Counts, Trial};
 use crate::{
-    dates, edges, keys, lines, messages, serving, statistics, stored, streams, tables, values,
+    bulk, dates, edges, keys, lines, messages, serving, statistics, stored, streams, tables, values,
 };
 
 /// One part, and how many rounds of it a quick run plays. A long run plays
@@ -70,6 +70,11 @@ pub fn keys_part<S: ComparesKeys>() -> Part<S> {
 /// Part k, statistics.
 pub fn statistics_part<S: Stores>() -> Part<S> {
     part(10, "statistics", 3_000, statistics::round)
+}
+
+/// Part l, bulk requests and their replies.
+pub fn bulk_part<S: Subject>() -> Part<S> {
+    part(11, "bulk", 200, bulk::round)
 }
 
 /// Plays one round. The same seed, part and round are the same inputs.

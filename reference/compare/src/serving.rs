@@ -2,7 +2,7 @@
 
 use reference::Request;
 
-use crate::calls::{compared, room, Call, World};
+use crate::calls::{compared, room_for, Call, World};
 use crate::damage;
 use crate::difference::{hold, Outcome};
 use crate::fields::{join, of_request};
@@ -22,7 +22,7 @@ pub fn round<S: Subject>(trial: &mut Trial<S>) -> Outcome {
         let call = Call {
             input: &input,
             second: make::second(&mut trial.chance),
-            room: room(&mut trial.chance),
+            room: room_for(&mut trial.chance, &input),
         };
         compared(trial, &mut world, call)?;
     }

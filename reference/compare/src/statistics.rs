@@ -11,7 +11,7 @@ use reference::{
     load, read_request, step, store, Read, Reply, Request, Statistics, Table, Verdict,
 };
 
-use crate::calls::{compared, room, Call, World};
+use crate::calls::{compared, room_for, Call, World};
 use crate::chance::Chance;
 use crate::damage;
 use crate::difference::{same, Difference, Outcome};
@@ -90,7 +90,7 @@ pub fn round<S: Stores>(trial: &mut Trial<S>) -> Outcome {
         let call = Call {
             input: &input,
             second: second(&mut trial.chance, noon),
-            room: room(&mut trial.chance),
+            room: room_for(&mut trial.chance, &input),
         };
         noted(trial, &mut world, call, &mut log)?;
     }

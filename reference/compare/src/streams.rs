@@ -1,9 +1,10 @@
 //! Part c: rows of many requests, served by `fq_serve_stream`, by the calls
 //! one by one, and by the reference in both ways.
 
+use reference::serve::BULK_ROOM;
 use reference::{serve, serve_stream, StreamAnswer, Table, Verdict};
 
-use crate::calls::{compared, expected_table, Call, World};
+use crate::calls::{compared, expected_table, room_for, Call, World};
 use crate::chance::Chance;
 use crate::damage;
 use crate::difference::{hold, same, same_bytes, Difference, Outcome};
@@ -11,32 +12,34 @@ use crate::fields::{join, of_request};
 use crate::lent::{Lent, Words};
 use crate::make;
 use crate::memory;
-use crate::subject::{verdict_code, Subject, FULL, GOOD, SERVE_WORDS, STREAM_WORDS, UNTOLD};
+use crate::subject::{verdict_code, Subject, FULL, SERVE_WORDS, STREAM_WORDS, UNTOLD};
 use crate::trial::Trial;
 
-/// What a stream of calls comes to.
+/// What a stream of calls comes to. A call that is refused 12 behind replies is
+/// not made: the stream ends before it.
 #[derive(Clone, Copy, Debug, Default, PartialEq, Eq)]
 pub struct Total {
     pub taken: usize,
     sent: usize,
     /// The calls made, the last one included.
     calls: usize,
-    /// The last call's.
+    /// The last call's, or that there was no room for a further one.
     code: u64,
 }
 
 impl Total {
-    /// What the stream tells: a call that is refused 12 behind replies is not
-    /// made.
-    fn told(self) -> Total {
-        if self.code != 12 || self.sent == 0 {
-            return self;
+    /// Adds a call, and says whether another one may follow: after a call that
+    /// took its request.
+    fn add(&mut self, code: u64, taken: usize, sent: usize) -> bool {
+        if code == 12 && self.sent > 0 {
+            self.code = FULL;
+            return false;
         }
-        Total {
-            calls: self.calls - 1,
-            code: FULL,
-            ..self
-        }
+        self.taken += taken;
+        self.sent += sent;
+        self.calls += 1;
+        self.code = code;
+        taken > 0
     }
 }
 
@@ -66,7 +69,7 @@ fn one_call<S: Subject>(
     call: Call,
 ) -> Result<usize, Difference> {
     if trial.chance.one_in(4) {
-        let room = crate::calls::room(&mut trial.chance);
+        let room = room_for(&mut trial.chance, call.input);
         return Ok(compared(trial, world, Call { room, ..call })?.taken);
     }
     Ok(compared_stream(trial, world, call)?.taken)
@@ -113,7 +116,9 @@ fn stream_room(chance: &mut Chance) -> usize {
         0 => chance.below(512),
         1 => 512,
         2 => 512 + chance.below(300),
-        3 | 4 => 512 + chance.below(4000),
+        3 => 512 + chance.below(4000),
+        4 => BULK_ROOM - 1 + chance.below(3),
+        5 => BULK_ROOM + chance.below(1000),
         _ => 60_000,
     }
 }
@@ -124,23 +129,15 @@ fn one_by_one(call: Call, table: &mut Table, replies: &mut [u8]) -> Total {
     loop {
         let rest = &call.input[total.taken..];
         let answer = serve(rest, table, call.second, &mut replies[total.sent..]);
-        total.taken += answer.taken;
-        total.sent += answer.reply_len;
-        total.calls += 1;
-        total.code = verdict_code(answer.verdict);
-        if !goes_on(total.code) {
+        let code = verdict_code(answer.verdict);
+        if !total.add(code, answer.taken, answer.reply_len) {
             return total;
         }
     }
 }
 
-/// After a served request and after 9 to 11 another call follows.
-fn goes_on(code: u64) -> bool {
-    code == GOOD || (9..=11).contains(&code)
-}
-
 /// The subject's calls one by one. They also stop where no stream can go
-/// on: beyond what was lent, or where nothing was taken.
+/// on, beyond what was lent.
 fn subject_one_by_one<S: Subject>(
     trial: &mut Trial<S>,
     call: Call,
@@ -150,20 +147,18 @@ fn subject_one_by_one<S: Subject>(
     let mut total = Total::default();
     loop {
         let mut words = Words::new(SERVE_WORDS);
-        total.code = trial.subject.serve(
+        let code = trial.subject.serve(
             &call.input[total.taken..],
             memory.slice_mut(),
             call.second,
             &mut replies.slice_mut()[total.sent..],
             words.slice_mut(),
         );
-        trial.counts.call(total.code);
-        total.calls += 1;
-        total.taken += words.slice()[0] as usize;
-        total.sent += words.slice()[1] as usize;
+        trial.counts.call(code);
+        let [taken, sent] = [words.slice()[0] as usize, words.slice()[1] as usize];
+        let goes_on = total.add(code, taken, sent);
         let inside = total.taken <= call.input.len() && total.sent <= call.room;
-        let idle = words.slice()[0] == 0;
-        if !inside || idle || !goes_on(total.code) {
+        if !inside || !goes_on {
             return total;
         }
     }
@@ -270,7 +265,6 @@ fn whole_stream<S: Subject>(
     expected: &Lent,
 ) -> Outcome {
     let input = Lent::of(call.input);
-    let total = total.told();
     if trial.chance.below(16) == 0 {
         let mut few = Words::new(trial.chance.below(STREAM_WORDS));
         let code = trial.subject.serve_stream(
@@ -300,13 +294,13 @@ fn whole_stream<S: Subject>(
 }
 
 /// A stream that changed nothing left the state; one whose only call was
-/// refused left every byte.
+/// refused, or told that more is needed, left every byte.
 fn state_kept(world: &World, total: Total, before: &Lent) -> Outcome {
     hold(
         memory::holds(world.memory.slice(), &world.table),
         "the state after a stream that changes nothing",
     )?;
-    if total.calls == 1 && total.code != verdict_code(Verdict::Served) {
+    if total.calls == 1 && total.code != verdict_code(Verdict::Served) && total.code != FULL {
         let what = "the table's memory is changed by a refused call";
         return same_bytes(what, before.all(), world.memory.all());
     }

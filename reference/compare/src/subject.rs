@@ -9,21 +9,27 @@ pub const GOOD: u64 = 0x100;
 /// A stream that ends before a call for which no room is left.
 pub const FULL: u64 = 0x101;
 
-/// The words of an answer.
 /// The answer to a call whose list for the answer is too short: nothing is
 /// done.
 pub const UNTOLD: u64 = 12;
-pub const REQUEST_WORDS: usize = 16;
-pub const REPLY_WORDS: usize = 18;
+
+/// The words of an answer.
+pub const REQUEST_WORDS: usize = 17;
+pub const REPLY_WORDS: usize = 21;
+pub const ENTRY_WORDS: usize = 6;
 pub const SERVE_WORDS: usize = 2;
 pub const STREAM_WORDS: usize = 3;
 pub const LINES_WORDS: usize = 3;
 pub const KEYS_WORDS: usize = 2;
 
 /// The numbers a writer is given.
-pub const REQUEST_NUMBERS: usize = 9;
+pub const REQUEST_NUMBERS: usize = 10;
 pub const REPLY_NUMBERS: usize = 4;
 pub const STATISTICS_NUMBERS: usize = 9;
+
+/// The numbers for one entry of a bulk reply: start and length of its key and
+/// of its value.
+pub const ENTRY_NUMBERS: usize = 4;
 
 /// What is sent beside the numbers: of a request name, key and value, of a
 /// reply value and text.
@@ -38,6 +44,15 @@ pub struct RequestParts<'a> {
 pub struct ReplyParts<'a> {
     pub value: &'a [u8],
     pub text: &'a [u8],
+}
+
+/// The entries of a bulk reply: whether their values are sent, and four
+/// numbers for each, which name parts of the bytes.
+#[derive(Clone, Copy)]
+pub struct EntryParts<'a> {
+    pub values: bool,
+    pub bytes: &'a [u8],
+    pub numbers: &'a [u64],
 }
 
 /// What a reply is an answer to: the request's operation, and whether it
@@ -66,6 +81,12 @@ pub trait Subject {
 
     /// A stats reply, which `write_reply` does not write.
     fn write_statistics(&mut self, out: &mut [u8], id: u64, statistics: &[u64]) -> u64;
+
+    /// One entry of a bulk reply, or its end, at this place of the input.
+    fn next_entry(&mut self, input: &[u8], at: usize, values: bool, answer: &mut [u64]) -> u64;
+
+    /// A bulk reply, of which `write_reply` writes only one without entries.
+    fn write_entries(&mut self, out: &mut [u8], id: u64, entries: EntryParts) -> u64;
 
     fn serve(
         &mut self,
@@ -142,5 +163,6 @@ pub fn verdict_code(verdict: Verdict) -> u64 {
         Verdict::Served => GOOD,
         Verdict::More => 0,
         Verdict::Refused(number) => u64::from(number),
+        Verdict::Full => FULL,
     }
 }

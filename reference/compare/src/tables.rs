@@ -10,7 +10,7 @@ use reference::map::{LARGEST_DEADLINE, LARGEST_VERSION, MOST_KEYS};
 
 use reference::number::LARGEST_VLONG;
 
-use crate::calls::{compared, room, Call, World};
+use crate::calls::{compared, room, room_for, Call, World};
 use crate::chance::Chance;
 use crate::difference::{hold, same, Outcome};
 use crate::fields::{join, of_request};
@@ -122,7 +122,7 @@ fn served<S: Subject>(trial: &mut Trial<S>, world: &mut World) -> Outcome {
     let call = Call {
         input: &input,
         second: make::second(&mut trial.chance),
-        room: room(&mut trial.chance),
+        room: room_for(&mut trial.chance, &input),
     };
     compared(trial, world, call)?;
     Ok(())

@@ -5,10 +5,10 @@
 //! of the entry that this request wrote, and the tables only in that entry's
 //! value.
 
-use reference::operation::{sends_key, GET, GET_WITH_VERSION, PUT};
-use reference::{read_reply, read_request, Read, Reply, Request};
+use reference::operation::{greatest_bulk, sends_key, BULK_GET, GET, GET_WITH_VERSION, PUT};
+use reference::{read_reply, read_request, Listed, Read, Reply, Request};
 
-use crate::calls::{room, World};
+use crate::calls::{room_for, World};
 use crate::chance::Chance;
 use crate::damage;
 use crate::difference::{hold, same, Difference, Outcome};
@@ -118,7 +118,7 @@ fn readers(chance: &mut Chance, written: &Request) -> Vec<u8> {
     let mut row = Vec::new();
     for _ in 0..1 + chance.below(4) {
         let any = make::operation(chance);
-        let operation = chance.pick(&[GET, GET_WITH_VERSION, any]);
+        let operation = chance.pick(&[GET, GET_WITH_VERSION, BULK_GET, any]);
         let mut request = make::request_of(chance, operation);
         if sends_key(operation) {
             request.key = written.key.clone();
@@ -159,7 +159,7 @@ fn called<S: Subject>(
     taken: usize,
     change: &mut Change,
 ) -> Result<usize, Difference> {
-    let room = room(&mut trial.chance);
+    let room = room_for(&mut trial.chance, &one.row[taken..]);
     let second = make::second(&mut trial.chance);
     one.reply = Lent::random(&mut trial.chance, room);
     two.reply = one.reply.clone();
@@ -240,12 +240,39 @@ fn shows_change(before: &Lent, input: &[u8], mine: &[u8], other: &[u8], change: 
     let Some(other) = whole_reply(&request, other) else {
         return false;
     };
+    if greatest_bulk(request.operation).is_some() {
+        return entries_fit(before, &mine, &other, change);
+    }
     let held = held_version(before, &request.key);
     let with_other = Reply {
         value: change.other.clone(),
         ..mine.clone()
     };
     held.is_some() && held == change.wrote && mine.value == change.one && other == with_other
+}
+
+/// Whether two bulk replies differ only in the value of the entry that the
+/// changed request wrote.
+fn entries_fit(before: &Lent, mine: &Reply, other: &Reply, change: &Change) -> bool {
+    let Some(rows) = rows(before.slice()) else {
+        return false;
+    };
+    let written = rows
+        .into_iter()
+        .find(|row| Some(row.version) == change.wrote);
+    let Some(row) = written else {
+        return false;
+    };
+    let with = |value: &[u8]| Listed {
+        key: row.key.to_vec(),
+        value: value.to_vec(),
+    };
+    let mut expected = mine.clone();
+    let Some(place) = mine.entries.iter().position(|one| one.key == row.key) else {
+        return false;
+    };
+    expected.entries[place] = with(&change.other);
+    mine.entries[place] == with(&change.one) && *other == expected
 }
 
 fn whole_reply(request: &Request, bytes: &[u8]) -> Option<Reply> {

@@ -3,7 +3,7 @@
 
 use compare::echo::{Echo, Fault};
 use compare::run::{
-    dates_part, keys_part, lines_part, parts, play, statistics_part, stored_part, Part,
+    bulk_part, dates_part, keys_part, lines_part, parts, play, statistics_part, stored_part, Part,
 };
 use compare::subject::GOOD;
 use compare::trial::Counts;
@@ -17,6 +17,7 @@ fn all_parts() -> Vec<Part<Echo>> {
     all.push(dates_part());
     all.push(statistics_part());
     all.push(keys_part());
+    all.push(bulk_part());
     all
 }
 
@@ -119,6 +120,85 @@ fn keys_are_compared_alike() {
 fn statistics_are_those_counted_from_the_replies() {
     let counts = sound_rounds("statistics", 60);
     all_given(&counts, &[GOOD, 0, 4, 5, 8, 9, 10, 12]);
+}
+
+#[test]
+fn bulk_replies_are_the_rows() {
+    let counts = sound_rounds("bulk", 4);
+    all_given(&counts, &[GOOD, 0, 2, 4, 5, 6, 8, 9, 12, 16]);
+}
+
+#[test]
+fn faults_of_listings_are_found() {
+    use Fault::*;
+    let faults = [
+        BulkCountIgnored,
+        BulkHighest,
+        BulkByKey,
+        BulkHidesDated,
+        BulkFits,
+        BulkRoomOneMore,
+        BulkTwelveTakesNothing,
+        BulkTwelveIsFirst,
+        NineBeforeBulkTwelve,
+        BulkCounts,
+        BulkNoEnd,
+    ];
+    are_found("bulk", &faults);
+    are_found("serving", &faults);
+    are_found("bulk", &[KeysInEleven, ScopeThree]);
+    are_found("messages", &[KeysInEleven, ScopeThree]);
+}
+
+#[test]
+fn faults_of_bulk_requests_in_streams_are_found() {
+    use Fault::*;
+    let faults = [BulkTwelveInStream, BulkTwelveEndsStream];
+    are_found("bulk", &faults);
+    are_found("streams", &faults);
+}
+
+#[test]
+fn faults_of_bulk_replies_are_found() {
+    use Fault::*;
+    let faults = [
+        SixForMoreByte,
+        Reads129,
+        SixBehind129,
+        EntriesOneLess,
+        EntriesWithoutEnd,
+        EntryPlacesFromPart,
+        EntryNotAtEnd,
+        EntrySkipsValue,
+        EntryRefusedIsMore,
+    ];
+    are_found("bulk", &faults);
+    are_found(
+        "messages",
+        &[SixForMoreByte, EntriesOneLess, EntriesWithoutEnd],
+    );
+}
+
+#[test]
+fn faults_of_writers_of_entries_are_found() {
+    use Fault::*;
+    let faults = [
+        Writes129,
+        PartsRefused,
+        FewNumbersRefused,
+        ValueWithKeys,
+        EntriesRoomFirst,
+        EntriesNeedOneMore,
+    ];
+    are_found("bulk", &faults);
+    are_found("messages", &faults);
+}
+
+#[test]
+fn values_that_leak_in_bulk_replies_are_found() {
+    use Fault::*;
+    are_found("bulk", &[ValueLeaksToEntry]);
+    are_found("values", &[ValueLeaksToEntry]);
 }
 
 #[test]

@@ -28,7 +28,9 @@ impl Dice {
         let value = self.bytes(5);
         let mut given = request(operation, &key, &value);
         given.id = self.roll(1 << 30) << self.roll(33);
-        given.version = 10 + self.roll(3) as u8;
+        if operation != BULK_GET_KEYS {
+            given.version = 10 + self.roll(3) as u8;
+        }
         given.flags = self.roll(if given.version == 12 { 8 } else { 2 }) as u32;
         given.intelligence = 1 + self.roll(3) as u8;
         if sends_value(operation) {
@@ -36,6 +38,9 @@ impl Dice {
         }
         if sends_entry_version(operation) {
             given.entry_version = self.roll(12);
+        }
+        if let Some(greatest) = greatest_bulk(operation) {
+            given.bulk = self.roll(u64::from(greatest.min(9)) + 1) as u32;
         }
         if self.roll(12) == 0 {
             given.name = b"x".to_vec();
@@ -73,7 +78,7 @@ fn replies_read_are_written_as_read() {
     let mut dice = Dice(2);
     let mut whole = 0;
     for _ in 0..200_000 {
-        let op = SERVED[dice.roll(11) as usize];
+        let op = SERVED[dice.roll(SERVED.len() as u64) as usize];
         let flag = dice.roll(2) == 1;
         let code = if dice.roll(4) == 0 { ERROR } else { op + 1 };
         let status = if code == ERROR { 0x81 } else { 0 } + dice.roll(4) as u8;
@@ -104,7 +109,7 @@ fn serving_is_reading_and_stepping_and_writing() {
         let bytes = dice.broken();
         let second = dice.roll(1 << 32) as u32;
         let before = table.clone();
-        let mut room = [0xee; 512];
+        let mut room = vec![0xee; [512, 512, 41_599, 41_600][dice.roll(4) as usize]];
         let answer = serve(&bytes, &mut table, second, &mut room);
         assert!(is_table(&table));
         assert!(room[answer.reply_len..].iter().all(|byte| *byte == 0xee));
@@ -118,6 +123,13 @@ fn serving_is_reading_and_stepping_and_writing() {
                 );
                 assert_eq!(table, before);
                 assert_eq!(&sent[..1], [0xa1]);
+            }
+            Read::Whole(request, taken)
+                if greatest_bulk(request.operation).is_some() && room.len() < 41_600 =>
+            {
+                assert_eq!((answer.taken, answer.reply_len), (taken, 0));
+                assert_eq!(answer.verdict, Verdict::Refused(12));
+                assert_eq!(table, before);
             }
             Read::Whole(request, taken) => {
                 assert_eq!(answer.taken, taken);
@@ -150,7 +162,7 @@ fn a_stream_is_the_steps_of_its_requests() {
             let _ = step(request, 8, &mut expected);
         }
         let mut table = Table::default();
-        let mut room = vec![0; 512 * (requests.len() + 1)];
+        let mut room = vec![0; 41_600 * (requests.len() + 1)];
         let answer = serve_stream(&input, &mut table, 8, &mut room);
         assert_eq!(
             (answer.taken, answer.answered),

@@ -1,7 +1,7 @@
 //! Small makers of bytes, requests and tables for the tests.
 
 use reference::hex::{from_digits, to_string};
-use reference::operation::{sends_entry_version, sends_key, sends_value};
+use reference::operation::{sends_entry_version, sends_key, sends_value, BULK_GET_KEYS};
 use reference::{step, write_request, Entry, History, Reply, Request, Table};
 
 /// The five request lines of the scope paper.
@@ -38,11 +38,12 @@ pub fn digits(bytes: &[u8]) -> String {
     to_string(bytes)
 }
 
-/// A good request of this operation with empty or zero fields.
+/// A good request of this operation with empty or zero fields, of the first
+/// version that has it.
 pub fn bare(operation: u8) -> Request {
     Request {
         id: 1,
-        version: 10,
+        version: if operation == BULK_GET_KEYS { 12 } else { 10 },
         operation,
         intelligence: 1,
         ..Request::default()

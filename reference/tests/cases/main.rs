@@ -1,5 +1,6 @@
 //! The worked examples of the papers and the cases at the edges.
 
+mod bulk;
 mod chance;
 mod help;
 mod keys;

@@ -296,7 +296,7 @@ fn an_empty_key_is_a_key() {
 #[test]
 fn a_request_that_breaks_a_rule_changes_nothing() {
     let mut table = Table::default();
-    for operation in [0x00, 0x02, 0x14, 0x19, 0xff] {
+    for operation in [0x00, 0x02, 0x14, 0x1b, 0xff] {
         assert_eq!(step(&bare(operation), 0, &mut table), Err(16));
     }
     assert_eq!(step(&request(PUT, &[0; 65], b""), 0, &mut table), Err(16));

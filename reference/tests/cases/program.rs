@@ -169,7 +169,7 @@ fn message_cases() {
                     whole 15 id=0 operation=80 status=129 version=0 value= text=626164206d61676963\n\
                     more\n";
     assert_eq!(cases(&["reply", "11", "0"], input), expected);
-    assert_eq!(cases(&["reply", "19", "0"], "\n"), "refused 4\n");
+    assert_eq!(cases(&["reply", "1b", "0"], "\n"), "refused 4\n");
     let input = format!("{}\n", FRESH.replace(' ', ""));
     let expected = "whole 137 id=1 operation=22 status=0 version=0 value= text= \
                     statistics=[0, 0, 0, 0, 0, 0, 0, 0, 0]\n";
@@ -178,6 +178,21 @@ fn message_cases() {
         cases(&["reply", "01", "1"], "a10102000000\n"),
         "whole 6 id=1 operation=2 status=0 version=0 value= text=\n"
     );
+}
+
+#[test]
+fn bulk_message_cases() {
+    let input = "a0020c1d000001000002\na0020c1d000001000003\n";
+    let expected = "whole 10 id=2 version=12 operation=29 name= flags=0 intelligence=1 topology=0 \
+                    key= lifespan=0 max_idle=0 entry_version=0 value= bulk=2\nrefused 8\n";
+    assert_eq!(cases(&["request"], input), expected);
+    let input = "a1011a000001026231034964610100000\na1011a0000010262310349646101000000\n";
+    let expected = "not a case\nwhole 17 id=1 operation=26 status=0 version=0 value= text= \
+                    entries=2 6231:496461 :\n";
+    assert_eq!(cases(&["reply", "19", "0"], input), expected);
+    let input = "a1011e000000\n";
+    let expected = "whole 6 id=1 operation=30 status=0 version=0 value= text= entries=0\n";
+    assert_eq!(cases(&["reply", "1d", "0"], input), expected);
 }
 
 #[test]

@@ -183,7 +183,7 @@ fn refusals_in_field_order() {
 
 #[test]
 fn an_operation_not_served_is_4_before_any_byte() {
-    for op in [0x00, 0x02, 0x14, 0x19, 0x50, 0xff] {
+    for op in [0x00, 0x02, 0x14, 0x1b, 0x50, 0xff] {
         assert_eq!(read(op, false, ""), Read::Refused(4));
         assert_eq!(read(op, true, "a1015081000161"), Read::Refused(4));
         assert_eq!(read(op, false, "00"), Read::Refused(4));

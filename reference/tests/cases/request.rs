@@ -46,6 +46,7 @@ fn the_order_of_the_fields() {
         max_idle: 2,
         entry_version: 3,
         value: b"V".to_vec(),
+        bulk: 0,
     };
     let form = "a0 8001 0c 09 0463616665 07 03 ac02 00 014b 01 02 0000000000000003 0156";
     assert_eq!(digits(&bytes_of(&given)), digits(&hex(form)));
@@ -62,7 +63,9 @@ fn refusals_in_field_order() {
     assert_eq!(read("a0 01 09"), Read::Refused(3));
     assert_eq!(read("a0 01 0d"), Read::Refused(3));
     assert_eq!(read("a0 01 41 99"), Read::Refused(3));
-    assert_eq!(read("a0 01 0a 19"), Read::Refused(4));
+    assert_eq!(read("a0 01 0a 1b"), Read::Refused(4));
+    assert_eq!(read("a0 01 0a 1d"), Read::Refused(4));
+    assert_eq!(read("a0 01 0b 1d"), Read::Refused(4));
     assert_eq!(read("a0 01 0a 02"), Read::Refused(4));
     assert_eq!(read("a0 01 0a 50"), Read::Refused(4));
     assert_eq!(read("a0 01 0a 17 8000"), Read::Refused(5));
@@ -123,6 +126,7 @@ fn flags_of_every_version() {
                     ..bare(operation)
                 };
                 let mut out = [0; 64];
+                let good = good && serves(version, operation);
                 assert_eq!(write_request(&given, &mut out).is_ok(), good);
             }
         }
@@ -174,6 +178,7 @@ fn the_longest_request_and_all_its_beginnings() {
         max_idle: u32::MAX,
         entry_version: u64::MAX,
         value: vec![0xff; 256],
+        bulk: 0,
     };
     let bytes = bytes_of(&longest);
     assert_eq!(bytes.len(), 394);
@@ -222,7 +227,7 @@ fn every_broken_rule_is_16() {
             ..put.clone()
         },
         Request {
-            operation: 0x19,
+            operation: 0x1b,
             ..put.clone()
         },
         Request {

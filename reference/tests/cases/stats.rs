@@ -326,7 +326,7 @@ fn calls_that_are_not_served_are_no_first_call() {
     let mut table = Table::default();
     let mut room = [0; 512];
     let stats = bytes_of(&bare(STATS));
-    for input in [&b""[..], b"\xa0", b"\xa1", &stats[..8], b"\xa0\x01\x0a\x19"] {
+    for input in [&b""[..], b"\xa0", b"\xa1", &stats[..8], b"\xa0\x01\x0a\x1b"] {
         serve(input, &mut table, 4, &mut room);
     }
     serve(&stats, &mut table, 4, &mut room[..511]);

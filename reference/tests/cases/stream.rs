@@ -61,7 +61,7 @@ fn stops_when_the_room_runs_out() {
         taken: 18,
         reply_len: 10,
         answered: 2,
-        verdict: Verdict::Refused(12),
+        verdict: Verdict::Full,
     };
     assert_eq!(answer, expected);
     let none = serve_stream(&input, &mut Table::default(), 0, &mut []);

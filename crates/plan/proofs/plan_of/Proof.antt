@@ -1,6 +1,6 @@
 -- `plan::plan_of` meets its contract: each arm is a row of the map's plan. Assumes nothing.
 use mathlib.Core.Path.{_∙_}
-use Rattle.map.specs.Step as map
+use Rattle.map.specs.Plan as map
 use borrow.Author.Needs.{needs}
 use Rattle.plan.proofs.plan_of.Statement.{statement}
 use Rattle.plan.proofs.plan_of.Tie as tie
@@ -65,6 +65,14 @@ returns-12 : tie.Need-returns-12
 unfolding map.plan
 returns-12 c = rw (c .enum-told12 .given .1) (c .before .before .before .planned2 .ensures)
 
+returns-13 : tie.Need-returns-13
+unfolding map.plan
+returns-13 c = rw (c .enum-told13 .given .1) (c .before .before .before .planned2 .ensures)
+
+returns-14 : tie.Need-returns-14
+unfolding map.plan
+returns-14 c = rw (c .enum-told14 .given .1) (c .before .before .before .planned2 .ensures)
+
 pub plan-of-spec : {M : Type 1} → statement M
 plan-of-spec =
     tie.close
@@ -96,6 +104,8 @@ plan-of-spec =
     (λ c κs. search needs)
     (λ c. search needs)
     (λ c. search needs)
+    (λ c. search needs)
+    (λ c. search needs)
     returns
     returns-2
     returns-3
@@ -107,4 +117,6 @@ plan-of-spec =
     returns-9
     returns-10
     returns-11
-    returns-12)
+    returns-12
+    returns-13
+    returns-14)

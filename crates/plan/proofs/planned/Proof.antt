@@ -1,6 +1,6 @@
 -- `plan::planned` meets its contract. Assumes nothing.
 use mathlib.Core.Path.{refl}
-use Rattle.map.specs.Step as map
+use Rattle.map.specs.Plan as map
 use Rattle.plan.proofs.planned.Statement.{statement}
 use Rattle.plan.proofs.planned.Tie as tie
 

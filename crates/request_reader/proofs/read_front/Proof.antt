@@ -49,13 +49,25 @@ returns-6 c =
 
 returns-7 : tie.Need-returns-7
 returns-7 c =
-    let o = c .before in
+    let s = c .before in
+    let o = s .before .before in
     let v = o .before .before in
     let r3 = v .before .before in
     let e = r3 .before .before .before in
     let r2 = e .before .before .before in
     let r1 = r2 .before .before .before .before in
-    sym (at-first _ ∙ rw (← (r1 .before .before .read-start .ensures), r1 .r1 .given .1, ← (r2 .before .before .read-byte .ensures), r2 .r2 .given .1, sym (e .before .is-served .ensures) ∙ not-false _ (e .if1 .left), ← (r3 .before .before .read-byte2 .ensures), r3 .r3 .given .1, ← (v .find .ensures), o .found .given .1))
+    sym (at-first _ ∙ rw (← (r1 .before .before .read-start .ensures), r1 .r1 .given .1, ← (r2 .before .before .read-byte .ensures), r2 .r2 .given .1, sym (e .before .is-served .ensures) ∙ not-false _ (e .if1 .left), ← (r3 .before .before .read-byte2 .ensures), r3 .r3 .given .1, ← (v .find .ensures), o .found .given .1, sym (s .serves .ensures) ∙ not-true _ (c .if2 .taken)))
+
+returns-8 : tie.Need-returns-8
+returns-8 c =
+    let s = c .before in
+    let o = s .before .before in
+    let v = o .before .before in
+    let r3 = v .before .before in
+    let e = r3 .before .before .before in
+    let r2 = e .before .before .before in
+    let r1 = r2 .before .before .before .before in
+    sym (at-first _ ∙ rw (← (r1 .before .before .read-start .ensures), r1 .r1 .given .1, ← (r2 .before .before .read-byte .ensures), r2 .r2 .given .1, sym (e .before .is-served .ensures) ∙ not-false _ (e .if1 .left), ← (r3 .before .before .read-byte2 .ensures), r3 .r3 .given .1, ← (v .find .ensures), o .found .given .1, sym (s .serves .ensures) ∙ not-false _ (c .if2 .left)))
 
 pub read-front-spec : {M : Type 1} → statement M
 read-front-spec =
@@ -80,4 +92,6 @@ read-front-spec =
     (λ c. search needs)
     (λ c. search needs)
     returns-6
-    returns-7)
+    (λ c κs. search needs)
+    returns-7
+    returns-8)

@@ -18,6 +18,9 @@ returns-4 c = let e = c .before in rw (c .these4 .ensures, ← (e .before .befor
 returns-5 : tie.Need-returns-5
 returns-5 c = let e = c .before in rw (c .these5 .ensures, ← (e .before .before .shape-of .ensures), e .enum-told5 .given .1)
 
+returns-6 : tie.Need-returns-6
+returns-6 c = let e = c .before .before in rw (c .number .ensures, ← (e .before .before .shape-of .ensures), e .shape .given .1)
+
 pub sent-by-spec : {M : Type 1} → statement M
 sent-by-spec =
     tie.close
@@ -33,8 +36,11 @@ sent-by-spec =
     (λ c κs. search needs)
     (λ c. search needs)
     (λ c κs. search needs)
+    (λ c. search needs)
+    (λ c κs. search needs)
     returns
     returns-2
     returns-3
     returns-4
-    returns-5)
+    returns-5
+    returns-6)

@@ -56,10 +56,22 @@ returns-12 : tie.Need-returns-12
 unfolding bodyAt
 returns-12 c = rw (c .before .enum-told12 .given .1) (c .row12 .ensures ∙ row-0 (c .before .before .before .args .status) (some m.nothing))
 
+returns-13 : tie.Need-returns-13
+unfolding bodyAt
+returns-13 c = rw (c .before .enum-told13 .given .1) (c .row13 .ensures ∙ row-0 (c .before .before .before .args .status) (some m.entries))
+
+returns-14 : tie.Need-returns-14
+unfolding bodyAt
+returns-14 c = rw (c .before .enum-told14 .given .1) (c .row14 .ensures ∙ row-0 (c .before .before .before .args .status) (some m.keys))
+
 pub in-table-spec : {M : Type 1} → statement M
 in-table-spec =
     tie.close
     (tie.spec
+    (λ c. search needs)
+    (λ c κs. search needs)
+    (λ c. search needs)
+    (λ c κs. search needs)
     (λ c. search needs)
     (λ c κs. search needs)
     (λ c. search needs)
@@ -95,4 +107,6 @@ in-table-spec =
     returns-9
     returns-10
     returns-11
-    returns-12)
+    returns-12
+    returns-13
+    returns-14)

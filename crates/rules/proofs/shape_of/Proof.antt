@@ -55,11 +55,21 @@ returns-12 : tie.Need-returns-12
 unfolding shapeOf
 returns-12 c = rw (c .enum-told12 .given .1)
 
+returns-13 : tie.Need-returns-13
+unfolding shapeOf
+returns-13 c = rw (c .enum-told13 .given .1)
+
+returns-14 : tie.Need-returns-14
+unfolding shapeOf
+returns-14 c = rw (c .enum-told14 .given .1)
+
 pub shape-of-spec : {M : Type 1} → statement M
 shape-of-spec =
     tie.close
     (tie.spec
     enum-told
+    (λ c. search needs)
+    (λ c. search needs)
     (λ c. search needs)
     (λ c. search needs)
     (λ c. search needs)
@@ -82,4 +92,6 @@ shape-of-spec =
     returns-9
     returns-10
     returns-11
-    returns-12)
+    returns-12
+    returns-13
+    returns-14)

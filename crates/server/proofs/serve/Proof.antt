@@ -8,13 +8,13 @@ use Rattle.server.proofs.serve.Statement.{statement}
 use Rattle.server.proofs.serve.Tie as tie
 
 returns : tie.Need-returns
-returns c = serves-short _ _ _ _ (c .before .if1 .taken) (c .still .ensures)
+returns c = serves-short _ _ _ _ (c .before .if1 .taken) (c .unsent .ensures)
 
 returns-2 : tie.Need-returns-2
 returns-2 c =
     let i = c .before in
     let w = i .before in
-    serves-unsound _ _ _ _ (w .before .before .if1 .left) (refuted (w .is-table .ensures) (not-true _ (i .if2 .taken))) (c .still2 .ensures)
+    serves-unsound _ _ _ _ (w .before .before .if1 .left) (refuted (w .is-table .ensures) (not-true _ (i .if2 .taken))) (c .unsent2 .ensures)
 
 serve-sound-requires : tie.Need-serve-sound-requires
 serve-sound-requires c κs =

@@ -12,7 +12,7 @@ use Rattle.board.proofs.serve.serve_file.Statement.{statement}
 use Rattle.board.proofs.serve.serve_file.Tie as tie
 
 abbrev Inv-loop : tie.InvT-loop
-Inv-loop fd name t₀ input₀ out₀ s₀ turns₀ t input out s turns = (length t ≡ length t₀) × (length input ≡ 65536) × (length out ≡ 65536) × Ahead input₀ t₀ begin input t s × Ready input t out s
+Inv-loop fd name t₀ input₀ out₀ s₀ turns₀ t input out s turns = (length t ≡ length t₀) × (length input ≡ 65536) × (length out ≡ 131072) × Ahead input₀ t₀ begin input t s × Ready input t out s
 
 abbrev μ-loop : tie.MeasureT-loop
 μ-loop fd name t₀ input₀ out₀ s₀ turns₀ t input out s turns = turns

@@ -20,6 +20,12 @@ add-result-2 c =
     let r = a .before .before in
     record { fits = whole-fits _ (reply-laws _) _ (omega (arith, r .before .before .before .good .0 .1)) replyAt _ _ (rw (a .a2 .given .1) at (r .read-reply .ensures)) }
 
+add-result-3 : tie.Need-add-result-3
+add-result-3 c =
+    let a = c .before .before .before .before .before in
+    let r = a .before .before in
+    record { fits = whole-fits _ (reply-laws _) _ (omega (arith, r .before .before .before .good .0 .1)) replyAt _ _ (rw (a .a3 .given .1) at (r .read-reply .ensures)) }
+
 returns : tie.Need-returns
 unfolding told
 returns c =
@@ -36,11 +42,18 @@ returns-2 c =
 
 returns-3 : tie.Need-returns-3
 unfolding told
-returns-3 c = rw (← (c .before .before .read-reply .ensures), c .enum-told .given .1)
+returns-3 c =
+    let t = c .before .before in
+    let a = t .before .before .before in
+    rw (← (a .before .before .read-reply .ensures), a .a3 .given .1, t .entries .ensures)
 
 returns-4 : tie.Need-returns-4
 unfolding told
-returns-4 c = let a = c .before in rw (← (a .before .before .read-reply .ensures), a .a3 .given .1)
+returns-4 c = rw (← (c .before .before .read-reply .ensures), c .enum-told .given .1)
+
+returns-5 : tie.Need-returns-5
+unfolding told
+returns-5 c = let a = c .before in rw (← (a .before .before .read-reply .ensures), a .a4 .given .1)
 
 pub read-reply-spec : {M : Type 1} → statement M
 read-reply-spec =
@@ -54,11 +67,16 @@ read-reply-spec =
     (λ c κs. search needs)
     add-result-2
     (λ c. search needs)
+    (λ c κs. search needs)
+    add-result-3
+    (λ c. search needs)
     (λ c. search needs)
     (λ c. search needs)
     (λ c. search needs)
     returns
     (λ c. search needs)
     returns-2
+    (λ c. search needs)
     returns-3
-    returns-4)
+    returns-4
+    returns-5)

@@ -1,5 +1,5 @@
 -- `reply_reader::read::read_message` meets its contract: after each field, what follows decides (`at1` to `at5`). Assumes nothing.
-use mathlib.Core.Path.{_≡_, sym, ap, _∙_}
+use mathlib.Core.Path.{_≡_, refl, sym, ap, _∙_}
 use mathlib.Core.Bool.{true}
 use borrow.Author.Tests.{not-true, not-false}
 use Rattle.wire.specs.Codec.{Read, mapped, readAt}
@@ -8,6 +8,7 @@ use Rattle.field.proofs.Parts.{number-stops}
 use Rattle.message.specs.Reply.{isAwaited, rowsOf, bodyAt, isAllowed, message}
 use Rattle.reply_reader.specs.ReplyRead.{Answer, replyAt}
 use Rattle.reply_reader.proofs.ReadLaws.{rest1, rest2, rest3, rest4, rest5, at-message}
+use Rattle.reply_reader.proofs.BulkLaws.{bulk-form}
 use borrow.Author.Needs.{needs}
 use Rattle.reply_reader.proofs.read.read_message.Statement.{statement}
 use Rattle.reply_reader.proofs.read.read_message.Tie as tie
@@ -48,6 +49,19 @@ at5 : (c : tie.After-r5) → let r4 = c .before .before .before .before .before 
 unfolding rest4
 at5 c = let e = c .before .before .before in
     at4 (e .before .before .before .before) ∙ rw (listed (e .before) ∙ not-false _ (e .if2 .left), ← (c .before .before .read-between2 .ensures), c .r5 .given .1)
+
+-- a bulk reply is one by its operation, and so by its form
+read-body-requires : tie.Need-read-body-requires
+read-body-requires c κs =
+    let e2 = c .before .before .before .before .before in
+    let i = e2 .before in
+    let e1 = i .before .before .before .before .before .before in
+    let r3 = e1 .before .before .before in
+    let s = r3 .before .before .before .before .before .before .before .before .before .before .before .before in (
+      refl,
+      rw (c .form-of .ensures, i .before .body-at .ensures)
+          (bulk-form (s .args .flag) (s .args .o) (r3 .r3 .given .0 .0) (i .before .before .before .r4 .given .0 .0) (awaited e1) (listed i ∙ not-false _ (e2 .if2 .left))),
+    )
 
 returns : tie.Need-returns
 returns c = let v = c .before .before in
@@ -120,5 +134,5 @@ read-message-spec =
     (λ c κs. search needs)
     returns-7
     (λ c κs. search needs)
-    (λ c κs. search needs)
+    read-body-requires
     returns-8)

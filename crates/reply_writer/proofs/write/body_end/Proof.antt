@@ -5,7 +5,7 @@ use Rattle.wire.specs.Codec.{empty, as-type}
 use Rattle.message.specs.Reply.{noBody}
 use Rattle.message.specs.Reply.{fieldsOf}
 use Rattle.reply_writer.specs.Frame.{payloadOf}
-use Rattle.reply_writer.proofs.SendLaws.{value-size, versioned-size, text-size, unsent}
+use Rattle.reply_writer.proofs.SendLaws.{value-size, versioned-size, text-size, no-entries-size, unsent}
 use borrow.Author.Needs.{needs}
 use Rattle.reply_writer.proofs.write.body_end.Statement.{statement}
 use Rattle.reply_writer.proofs.write.body_end.Tie as tie
@@ -37,6 +37,10 @@ unfolding fieldsOf
 returns-5 c = let s = c .before .before .before .before in
     unsent _ _ _ (rw (c .enum-told5 .given .1) at (s .pre .1))
 
+returns-6 : tie.Need-returns-6
+unfolding fieldsOf
+returns-6 c = rw (c .enum-told6 .given .1, no-entries-size)
+
 pub body-end-spec : {M : Type 1} → statement M
 body-end-spec =
     tie.close
@@ -56,8 +60,11 @@ body-end-spec =
     (λ c. search needs)
     (λ c. search needs)
     (λ c. search needs)
+    (λ c. search needs)
+    (λ c. search needs)
     returns
     returns-2
     returns-3
     returns-4
-    returns-5)
+    returns-5
+    returns-6)

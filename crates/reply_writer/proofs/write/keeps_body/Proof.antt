@@ -6,7 +6,7 @@ use Rattle.wire.specs.Codec.{seq, as-type}
 use Rattle.wire.proofs.FieldLaws.{big-good}
 use Rattle.message.specs.Reply.{valueBody, versionedBody, textBody}
 use Rattle.message.specs.Reply.{fieldsOf}
-use Rattle.reply_writer.proofs.SendLaws.{none-ok, no-statistics}
+use Rattle.reply_writer.proofs.SendLaws.{none-ok, no-entries-ok, no-statistics}
 use borrow.Author.Needs.{needs}
 use Rattle.reply_writer.proofs.write.keeps_body.Statement.{statement}
 use Rattle.reply_writer.proofs.write.keeps_body.Tie as tie
@@ -56,6 +56,16 @@ returns-9 : tie.Need-returns-9
 unfolding fieldsOf
 returns-9 c = rw (c .enum-told4 .given .1) (no-statistics _ _ _)
 
+returns-10 : tie.Need-returns-10
+unfolding fieldsOf
+returns-10 c = let a = c .before in
+    rw (a .before .enum-told5 .given .1, no-entries-ok, sym (a .is-absent4 .ensures) ∙ c .if5 .taken)
+
+returns-11 : tie.Need-returns-11
+unfolding fieldsOf
+returns-11 c = let a = c .before in
+    c .if5 .left ∙ rw (a .before .enum-told5 .given .1, no-entries-ok, sym (a .is-absent4 .ensures) ∙ c .if5 .left)
+
 pub keeps-body-spec : {M : Type 1} → statement M
 keeps-body-spec =
     tie.close
@@ -71,6 +81,8 @@ keeps-body-spec =
     (λ c κs. search needs)
     (λ c κs. search needs)
     (λ c. search needs)
+    (λ c. search needs)
+    (λ c κs. search needs)
     returns
     returns-2
     returns-3
@@ -79,4 +91,6 @@ keeps-body-spec =
     returns-6
     returns-7
     returns-8
-    returns-9)
+    returns-9
+    returns-10
+    returns-11)

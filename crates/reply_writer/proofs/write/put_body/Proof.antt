@@ -5,7 +5,7 @@ use Rattle.wire.specs.Codec.{empty, as-type}
 use Rattle.message.specs.Reply.{noBody}
 use Rattle.message.specs.Reply.{fieldsOf}
 use Rattle.reply_writer.specs.Frame.{payloadOf}
-use Rattle.reply_writer.proofs.SendLaws.{put-value, put-versioned, put-text, unsent}
+use Rattle.reply_writer.proofs.SendLaws.{put-value, put-versioned, put-text, put-no-entries, unsent}
 use borrow.Author.Needs.{needs}
 use Rattle.reply_writer.proofs.write.put_body.Statement.{statement}
 use Rattle.reply_writer.proofs.write.put_body.Tie as tie
@@ -44,6 +44,14 @@ unfolding fieldsOf
 returns-5 c = let s = c .before .before .before .before .before in
     unsent _ _ _ (rw (c .enum-told4 .given .1) at (s .pre .0))
 
+returns-6 : tie.Need-returns-6
+unfolding fieldsOf
+returns-6 c = let w = c .before .before in
+    let f = w .before .before in
+    let s = f .before .before .before .before .before in
+    let e = f .enum-told5 .given .1 in
+    rw e (put-no-entries _ _ _ _ (rw e at (s .pre .1)) (w .put-byte .ensures))
+
 pub put-body-spec : {M : Type 1} → statement M
 put-body-spec =
     tie.close
@@ -57,6 +65,8 @@ put-body-spec =
     (λ c. search needs)
     (λ c κs. search needs)
     (λ c. search needs)
+    (λ c. search needs)
+    (λ c κs. search needs)
     returns
     (λ c. search needs)
     returns-2
@@ -64,4 +74,6 @@ put-body-spec =
     returns-3
     (λ c. search needs)
     returns-4
-    returns-5)
+    returns-5
+    (λ c. search needs)
+    returns-6)

@@ -28,6 +28,12 @@ returns-5 : tie.Need-returns-5
 unfolding argsSize
 returns-5 c = (rw (← (c .before .before .before .before .before .before .shape-of .ensures), c .enum-told5 .given .1) (omega arith), omega arith)
 
+returns-6 : tie.Need-returns-6
+unfolding argsSize
+returns-6 c =
+    let t = c .before in
+    (rw (← (t .before .before .before .before .before .before .shape-of .ensures), t .enum-told6 .given .1) (omega (arith, c .number-len3 .ensures)), omega (arith, c .number-len3 .ensures))
+
 pub args-len-spec : {M : Type 1} → statement M
 args-len-spec =
     tie.close
@@ -49,8 +55,11 @@ args-len-spec =
     (λ c. search needs)
     (λ c. search needs)
     (λ c. search needs)
+    (λ c. search needs)
+    (λ c κs. search needs)
     returns
     returns-2
     returns-3
     returns-4
-    returns-5)
+    returns-5
+    returns-6)

@@ -1,9 +1,10 @@
 -- `request_writer::write::put_args` meets its contract: the shape decides. Assumes nothing.
 use mathlib.Core.Path.{_≡_, sym, _∙_}
+use Rattle.wire.specs.Number.{vInt}
 use Rattle.message.specs.Request.{shapeOf}
 use Rattle.rules.specs.declared.Shape.{Shape}
 use Rattle.rules.specs.Shape.{asShape}
-use Rattle.request_writer.proofs.Puts.{put-keyed, put-bare}
+use Rattle.request_writer.proofs.Puts.{put-keyed, put-bare, put-bulk}
 use borrow.Author.Needs.{needs}
 use Rattle.request_writer.proofs.write.put_args.Statement.{statement}
 use Rattle.request_writer.proofs.write.put_args.Tie as tie
@@ -82,6 +83,16 @@ returns-5 c =
     let e = shape h (c .enum-told5 .given .1) in
     rw e (put-bare _ (rw e at (s .pre)))
 
+returns-6 : tie.Need-returns-6
+unfolding vInt
+returns-6 c =
+    let w = c .before .before in
+    let t = w .before .before in
+    let h = t .before .before in
+    let s = h .before .before .before .before in
+    let e = shape h (t .enum-told6 .given .1) in
+    rw e (put-bulk _ _ (rw e at (s .pre)) (w .put-number .ensures))
+
 pub put-args-spec : {M : Type 1} → statement M
 put-args-spec =
     tie.close
@@ -97,6 +108,8 @@ put-args-spec =
     put-keyed-if-requires
     (λ c. search needs)
     (λ c. search needs)
+    (λ c κs. search needs)
+    (λ c. search needs)
     returns
     (λ c. search needs)
     returns-2
@@ -104,4 +117,6 @@ put-args-spec =
     returns-3
     (λ c. search needs)
     returns-4
-    returns-5)
+    returns-5
+    (λ c. search needs)
+    returns-6)

@@ -3,6 +3,7 @@ use mathlib.Core.Path.{ap}
 use native.Mathlib.Omega.{arith}
 use Rattle.message.specs.Request.{Request, requestIn}
 use Rattle.message.proofs.Sizes.{request-small}
+use Rattle.map.specs.Plan.{store}
 use Rattle.map.specs.Step as map
 use Rattle.table.proofs.Changes.{cleared-changed}
 use Rattle.plan.specs.Plan.{asChange}
@@ -25,7 +26,7 @@ module _ (m : tie.After-enum-told2) where
   abbrev start : tie.Start
   start = m .before .before .before .before
 
-  agreed : Agreed (start .args .t .now) (asked start) (start .args .second .0) (start .args .held) map.store
+  agreed : Agreed (start .args .t .now) (asked start) (start .args .second .0) (start .args .held) store
   agreed = rw (ap asChange (m .enum-told2 .given .1)) at (start .pre)
 
 store-requires : tie.Need-store-requires

@@ -9,12 +9,15 @@ use lib.ListN.{length}
 use borrow.Author.Tests.{eq-eqb, ne-eqb}
 use Rattle.message.specs.Request.{Request, requestIn, isEmpty}
 use Rattle.message.proofs.Sizes.{request-small}
+use Rattle.map.specs.Plan.{Change}
 use Rattle.map.specs.Step as map
 use Rattle.map.specs.State.{State}
 use Rattle.map.specs.Table.{IsTable}
 use Rattle.map.proofs.Keeps.{keeps-table}
 use Rattle.table.specs.Memory.{stateOf}
+use Rattle.service.specs.Serve.{room}
 use Rattle.service.specs.Stream.{Becomes}
+use Rattle.service.proofs.Calls.{room-least}
 use Rattle.plan.specs.Plan.{asPlan, asChange, asJudged, heldVersion, Holds, refusalOf}
 use Rattle.plan.specs.declared.Judged.the-variants as judged
 use Rattle.plan.proofs.PlanLaws.{version-held, holds-same}
@@ -34,10 +37,14 @@ state s = stateOf (s .args .t .now)
 abbrev begin : tie.After-name-in → tie.Start
 begin c = c .before .before .before .before .before
 
+-- there is room for an error reply
+least : (s : tie.Start) → room ≤ length (s .args .out .now)
+least s = omega (arith, s .pre .0 .room, room-least (s .args .r .head .op))
+
 refuse-requires : tie.Need-refuse-requires
 refuse-requires c κs =
     let s = begin (c .before .before) in
-    (s .pre .0 .room, (request-small (asked s) (s .pre .1) .id, (omega arith, omega arith)))
+    (least s, (request-small (asked s) (s .pre .1) .id, (omega arith, omega arith)))
 
 returns : tie.Need-returns
 returns c =
@@ -55,7 +62,7 @@ module _ (c : tie.After-refusal-of) where
   abbrev start : tie.Start
   start = begin (found .before .before .before .before)
 
-  abbrev change : map.Change
+  abbrev change : Change
   change = asChange (c .before .before .plan-of .result .change)
 
   holds : Holds (start .args .t .now) (asked start .args .key) (found .held-in .result)
@@ -118,7 +125,7 @@ refuse-requires-2 : tie.Need-refuse-requires-2
 refuse-requires-2 c κs =
     let j = c .before .before in
     let s = start (j .before .before) in
-    (s .pre .0 .room, (request-small (asked s) (s .pre .1) .id, refused (j .before .before) _ (j .j .given .1) .1))
+    (least s, (request-small (asked s) (s .pre .1) .id, refused (j .before .before) _ (j .j .given .1) .1))
 
 -- the call is noted
 module _ (c : tie.After-note-call) where

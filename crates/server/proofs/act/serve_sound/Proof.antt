@@ -6,7 +6,7 @@ use Rattle.message.specs.Request.{request, requestIn}
 use Rattle.message.proofs.RequestLaws.{request-laws}
 use Rattle.message.proofs.Refusals.{refusals}
 use Rattle.request_reader.proofs.Spans.{request-in}
-use Rattle.service.specs.Serve.{onRead}
+use Rattle.service.specs.Serve.{onRead, within}
 use Rattle.server.proofs.SendLaws.{id-small}
 use Rattle.server.proofs.StepLaws.{does, does-still, serves-read}
 use borrow.Author.Needs.{needs}
@@ -26,28 +26,28 @@ found c = let r = c .before .before in request-in _ (bytes r) _ _ (r .read-reque
 refusal : (c : tie.After-q2) → request .dec (begin (c .before .before) .args .input .now) ≡ refused (c .q2 .given .0 .0)
 refusal c = let r = c .before .before in request-in _ (bytes r) _ _ (r .read-request .ensures) (c .q2 .given .1)
 
-perform-requires : tie.Need-perform-requires
-perform-requires c κs =
+perform-within-requires : tie.Need-perform-within-requires
+perform-within-requires c κs =
     let w = c .before .before .before in
     let r = w .before .before in
     let s = begin r in
     (record { sound = s .pre .0; room = s .pre .1 .0; second = s .pre .1 .1 }, request-laws .exact _ _ _ (bytes r) (found w) .good)
 
 returns : tie.Need-returns
-unfolding onRead
+unfolding onRead within
 returns c =
     let p = c .before .before .before .before in
     let w = p .before .before .before .before in
     let s = begin (w .before .before) in
-    serves-read _ _ _ _ (s .pre .0) (s .pre .1 .0) (found w) (p .perform .ensures)
+    serves-read _ _ _ _ (s .pre .0) (s .pre .1 .0) (found w) (p .perform-within .ensures)
 
 returns-2 : tie.Need-returns-2
-unfolding onRead
+unfolding onRead within
 returns-2 c =
     let k = c .before in
     let r = k .before .before in
     let s = begin r in
-    serves-read _ _ _ _ (s .pre .0) (s .pre .1 .0) (request-in _ (bytes r) _ _ (r .read-request .ensures) (k .enum-told .given .1)) (does-still (c .still .ensures))
+    serves-read _ _ _ _ (s .pre .0) (s .pre .1 .0) (request-in _ (bytes r) _ _ (r .read-request .ensures) (k .enum-told .given .1)) (does-still (c .unsent .ensures))
 
 refuse-requires : tie.Need-refuse-requires
 refuse-requires c κs =
@@ -58,7 +58,7 @@ refuse-requires c κs =
     (s .pre .1 .0, (rw (c .read-id .ensures) (id-small _ (bytes r)), (k .0, omega (arith, k .1))))
 
 returns-3 : tie.Need-returns-3
-unfolding onRead
+unfolding onRead within
 returns-3 c =
     let f = c .before .before in
     let w = f .before .before .before .before in
@@ -71,7 +71,7 @@ serve-sound-spec =
     (tie.spec
     (λ c κs. search needs)
     (λ c. search needs)
-    perform-requires
+    perform-within-requires
     (λ c. search needs)
     (λ c κs. search needs)
     (λ c. search needs)

@@ -31,6 +31,9 @@ returns-6 c t k s h = rw (c .enum-told4 .given .1, row-held t k (c .before .befo
 returns-7 : tie.Need-returns-7
 returns-7 c t k s h = rw (c .enum-told5 .given .1, row-held t k (c .before .before .before .held .given .1) h) (past-rows t s)
 
+returns-8 : tie.Need-returns-8
+returns-8 c t k s h = rw (c .enum-told6 .given .1, row-held t k (c .before .before .before .held .given .1) h) (past-rows t s)
+
 pub shown-row-spec : {M : Type 1} → statement M
 shown-row-spec =
     tie.close
@@ -43,9 +46,11 @@ shown-row-spec =
     (λ c. search needs)
     (λ c. search needs)
     (λ c. search needs)
+    (λ c. search needs)
     returns-2
     returns-3
     returns-4
     returns-5
     returns-6
-    returns-7)
+    returns-7
+    returns-8)

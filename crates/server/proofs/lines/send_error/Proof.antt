@@ -16,7 +16,7 @@ bytes c i = omega (arith, c .before .before .before .shared-slice-known .given i
 refuse-requires : tie.Need-refuse-requires
 refuse-requires c κs =
     let s = begin c in
-    (lent-room (s .args .out .now) (s .args .at) (s .pre .0), (rw (c .read-id .ensures) (id-small _ (bytes c)), (s .pre .1 .0, s .pre .1 .1)))
+    (omega (arith, lent-room (s .args .out .now) (s .args .at) (s .pre .0)), (rw (c .read-id .ensures) (id-small _ (bytes c)), (s .pre .1 .0, s .pre .1 .1)))
 
 returns : tie.Need-returns
 returns c =

@@ -1,4 +1,6 @@
 -- `server::lines::send_reply` meets its contract. Assumes nothing.
+use native.Mathlib.Omega.{arith}
+use Rattle.service.proofs.Calls.{room-most}
 use Rattle.server.proofs.LineLaws.{shows, gives, lent-room, line-replied}
 use borrow.Author.Needs.{needs}
 use Rattle.server.proofs.lines.send_reply.Statement.{statement}
@@ -7,7 +9,8 @@ use Rattle.server.proofs.lines.send_reply.Tie as tie
 perform-requires : tie.Need-perform-requires
 perform-requires c κs =
     let s = c .before .before .before .before .before in
-    (record { sound = s .pre .0; room = lent-room (s .args .out .now) (s .args .at) (s .pre .1 .0); second = s .pre .1 .1 .0 }, s .pre .1 .1 .1)
+    let r = lent-room (s .args .out .now) (s .args .at) (s .pre .1 .0) in
+    (record { sound = s .pre .0; room = omega (arith, r, room-most (s .args .r .head .op)); second = s .pre .1 .1 .0 }, s .pre .1 .1 .1)
 
 returns : tie.Need-returns
 returns c =

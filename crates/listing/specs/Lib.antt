@@ -1,0 +1,2 @@
+pub mod EntryRead
+pub mod EntryWrite

@@ -1,0 +1,57 @@
+-- `server::act::write` meets its contract: each operation's reply is the one that the map gives. Assumes nothing.
+use mathlib.Core.Bool.{true, false}
+use Rattle.server.specs.Act.{at}
+use Rattle.server.proofs.SendLaws.{plain-tags, stats-sent, bulk-sent}
+use borrow.Author.Needs.{needs}
+use Rattle.server.proofs.act.write.Statement.{statement}
+use Rattle.server.proofs.act.write.Tie as tie
+
+returns : tie.Need-returns
+returns c name key value g =
+    let w = c .before .before in
+    let x = w .before in
+    let e = x .before .before in
+    let s = e .before .before .before .before in
+    stats-sent (at (s .args .second .0)) g _ (e .enum-told .given .1) (x .statistics .ensures) (w .write-statistics .ensures)
+
+returns-2 : tie.Need-returns-2
+returns-2 c name key value g =
+    let w = c .before .before in
+    let e = w .before .before in
+    let s = e .before .before .before .before in
+    bulk-sent (at (s .args .second .0)) g true {n = s .args .h .bulk} _ (e .enum-told2 .given .1) (rw (e .enum-told2 .given .1)) (w .write-listed .ensures)
+
+returns-3 : tie.Need-returns-3
+returns-3 c name key value g =
+    let w = c .before .before in
+    let k = w .before .before in
+    let s = k .before .before .before .before in
+    bulk-sent (at (s .args .second .0)) g false {n = 0} _ (k .enum-told3 .given .1) (rw (k .enum-told3 .given .1)) (w .write-listed2 .ensures)
+
+returns-4 : tie.Need-returns-4
+returns-4 c name key value g =
+    let w = c .before .before in
+    let m = w .before .before in
+    let s = m .before .before .before in
+    w .write-held .ensures (at (s .args .second .0)) name key value (plain-tags (s .args .h .op) (m .match .keys4)) g
+
+pub write-spec : {M : Type 1} → statement M
+write-spec =
+    tie.close
+    (tie.spec
+    (λ c. search needs)
+    (λ c κs. search needs)
+    (λ c κs. search needs)
+    (λ c. search needs)
+    (λ c κs. search needs)
+    (λ c. search needs)
+    (λ c κs. search needs)
+    (λ c κs. search needs)
+    (λ c. search needs)
+    returns
+    (λ c. search needs)
+    returns-2
+    (λ c. search needs)
+    returns-3
+    (λ c. search needs)
+    returns-4)

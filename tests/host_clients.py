@@ -86,12 +86,14 @@ def files_of(connections):
     return 8 + connections
 
 
-def greedy(bench):
+def greedy(bench, operation):
     """One that sends without end, and reads as fast, does not keep another from being served; gives how many calls the other made meanwhile."""
-    with Host(bench.table('greedy')) as host, host.connect() as many, host.connect() as one:
+    with Host(bench.table(f'greedy{operation}')) as host, host.connect() as many, host.connect() as one:
         one.call(PUT, value=VALUE)
+        for at in range(127):
+            one.call(PUT, key=key_name(at), value=VALUE)
         many.socket.settimeout(None)
-        data, room, read = frame(GET) * 20_000, bytearray(1 << 20), [0]
+        data, room, read = frame(operation) * 20_000, bytearray(1 << 20), [0]
 
         def write():
             try:
@@ -113,7 +115,7 @@ def greedy(bench):
         calls, begin = [], time.monotonic()
         while time.monotonic() < begin + 1:
             before = time.monotonic()
-            one.call(PING)
+            one.call(operation)
             calls.append(time.monotonic() - before)
         many.socket.shutdown(socket.SHUT_RDWR)
         for thread in threads:
@@ -226,7 +228,7 @@ def in_a_row(bench):
 
 def part():
     with Bench() as bench:
-        return (f'{never_reads(bench) + never_reads_bulk(bench)} requests of clients that do not read, {greedy(bench)} beside a greedy one, {gone(bench)} gone in the middle, {too_many(bench)} too many, '
+        return (f'{never_reads(bench) + never_reads_bulk(bench)} requests of clients that do not read, {greedy(bench, GET) + greedy(bench, BULK_GET)} beside greedy ones, {gone(bench)} gone in the middle, {too_many(bench)} too many, '
                 f'{no_files(bench)} without a file, {idle(bench)} idle, {in_a_row(bench)} in a row')
 
 

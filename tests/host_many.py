@@ -2,12 +2,13 @@
 
 Each connection puts a key of its own and asks for its version right behind, and all replace shared keys by replaceIfUnmodified. So the version of each
 write is known: from the reply behind it, or since the write that came next on that key had to name it. The writes stand in the order of their versions,
-and every other call has to find a place between them that fits its reply and is not before the place of the connection's call before it.
+and every other call has to find a place between them that fits its reply and is not before the place of the connection's call before it. Nothing is
+removed, so a bulk reply stands at the place of its highest version. Values are long, so that few bulk replies fit into one buffer.
 """
 import bisect
 import random
 
-from board_frames import CONTAINS_KEY, GET, GET_WITH_VERSION, PUT, PUT_IF_ABSENT, REPLACE_IF_UNMODIFIED, frame
+from board_frames import BULK_GET, CONTAINS_KEY, GET, GET_WITH_VERSION, PUT, PUT_IF_ABSENT, REPLACE_IF_UNMODIFIED, frame
 from host_run import Bench, Host, LONG, demand, read_file, run_part
 
 CONNECTIONS, SHARED = 64, 4
@@ -43,15 +44,17 @@ class Client:
         """Some calls, as bytes."""
         first = len(self.calls)
         for _ in range(random.randrange(1, 5)):
-            value = b'%d/%d' % (self.number, len(self.calls))
+            value = (b'%d/%d' % (self.number, len(self.calls))).ljust(200, b'.')
             shared = b's%d' % random.randrange(SHARED)
-            kind = random.randrange(5)
+            kind = random.randrange(6)
             if kind == 0:
                 own = b'own%d' % self.number
                 self.call(PUT, own, value, flags=random.randrange(2))
                 self.call(GET_WITH_VERSION, own)
             elif kind == 1:
                 self.call(GET, shared)
+            elif kind == 5:
+                self.call(BULK_GET, b'')
             elif kind == 2 or shared not in self.seen:
                 self.call(GET_WITH_VERSION, shared)
             else:
@@ -129,9 +132,22 @@ def collect(clients, last):
     return writes
 
 
+def bulk_place(call, at, writes):
+    """The place at which the entries of a bulk reply are all that are held."""
+    case = f'call {call.message}, a bulkGet behind place {at}'
+    versions = [writes.by_value.get(value, 0) for _, value in call.reply.entries]
+    demand(call.reply.status == 0 and versions == sorted(versions) and versions[-1] >= at, case, f'versions {versions} are listed')
+    held = {key: writes.held(key, versions[-1]) for key in writes.by_key}
+    listed = dict(zip((key for key, _ in call.reply.entries), versions))
+    demand(listed == {key: version for key, version in held.items() if version}, case, f'{listed} are listed, {held} are held')
+    return versions[-1]
+
+
 def place(call, at, writes):
     """The first place, not before `at`, at which the call gives its reply."""
     case = call.told()
+    if call.operation == BULK_GET:
+        return bulk_place(call, at, writes)
     if call.version is not None:
         demand(call.version > at, case, f'version {call.version} stands before place {at} of the call before it')
         before = writes.held(call.key, call.version - 1)

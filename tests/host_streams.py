@@ -11,8 +11,9 @@ from host_run import Bench, Difference, Host, LONG, demand, reference, run_part,
 LONG_KEY, LONG_VALUE = b'k' * 64, bytes(range(256))
 STREAM = [frame(PING, message=300), frame(PUT, key=b'b1', value=b'Ida', lifespan=100), frame(GET, key=b'b1'), frame(GET_WITH_VERSION, key=b'b1'),
           frame(PUT_IF_ABSENT, key=b'b1', value=b'Bo', flags=1), frame(REPLACE, key=LONG_KEY, value=b'', flags=1, version=12),
-          frame(PUT, key=LONG_KEY, value=LONG_VALUE[:40], flags=7, version=12), frame(REMOVE, key=b'b1', flags=1), frame(CONTAINS_KEY, key=b'b1'),
-          frame(BULK_GET, bulk=1), frame(BULK_GET_KEYS, bulk=2), frame(PING, name=b'cafe'), frame(REMOVE_IF_UNMODIFIED, key=b'b1', entry_version=1), frame(CLEAR)]
+          frame(PUT, key=LONG_KEY, value=LONG_VALUE[:40], flags=7, version=12), frame(BULK_GET, bulk=1), frame(BULK_GET), frame(BULK_GET_KEYS, bulk=2),
+          frame(REMOVE, key=b'b1', flags=1), frame(CONTAINS_KEY, key=b'b1'),
+          frame(PING, name=b'cafe'), frame(REMOVE_IF_UNMODIFIED, key=b'b1', entry_version=1), frame(CLEAR)]
 
 
 def cuts(bench):

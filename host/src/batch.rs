@@ -114,6 +114,15 @@ impl Batch {
         });
     }
 
+    /// Orders the shares so that those who got nothing come first in the next
+    /// turn. The first of a turn has the whole room, so none waits for more turns
+    /// than there are connections.
+    pub fn put_waiting_first(&mut self) {
+        if self.shares.iter().any(|share| share.rest == Rest::Again) {
+            self.shares.sort_by_key(|share| share.taken > 0);
+        }
+    }
+
     /// Serves the inputs of many connections: their whole requests in one call,
     /// and then those that begin with bytes that are refused, each alone.
     pub fn serve_together<'a>(
@@ -325,17 +334,22 @@ mod tests {
         let list = Command::list().request().unwrap();
         let one = [get.repeat(30), list.repeat(2), get].concat();
         let mut inputs = vec![one; 9];
-        let (mut batch, mut given, mut turns) = (Batch::default(), [0; 9], 0);
-        while inputs.iter().any(|input| !input.is_empty()) {
-            let lent = inputs.iter().map(Vec::as_slice).enumerate();
+        let mut queue: Vec<usize> = (0..inputs.len()).collect();
+        let (mut batch, mut given, mut waits) = (Batch::default(), [0; 9], [0; 9]);
+        while !queue.is_empty() {
+            let lent = queue.iter().map(|at| (*at, inputs[*at].as_slice()));
             batch.begin();
             batch.serve_together(lent, &mut table, 5);
+            batch.put_waiting_first();
+            queue.clear();
             for share in &batch.shares {
-                given[share.connection] += share.replies.len();
-                inputs[share.connection].drain(..share.taken);
+                let at = share.connection;
+                given[at] += share.replies.len();
+                inputs[at].drain(..share.taken);
+                waits[at] = if share.taken > 0 { 0 } else { waits[at] + 1 };
+                assert!(waits[at] < inputs.len(), "one waits too long: {waits:?}");
+                queue.extend((share.rest == Rest::Again).then_some(at));
             }
-            turns += 1;
-            assert!(turns < 100, "some wait for ever: {given:?}");
         }
         // The id of these requests is eight bytes shorter than the longest.
         let (version, bulk) = (279 - 8, LONGEST_BULK - 8);

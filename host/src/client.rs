@@ -50,7 +50,7 @@ fn connect(to: &str) -> Result<TcpStream, Failure> {
 }
 
 /// Reads on until the reply is whole.
-fn receive(stream: &mut TcpStream, asked: Asked, bytes: &mut [u8]) -> Result<Reply, Failure> {
+pub fn receive(stream: &mut TcpStream, asked: Asked, bytes: &mut [u8]) -> Result<Reply, Failure> {
     let mut held = 0;
     loop {
         match read_reply(&bytes[..held], asked.operation, asked.previous) {

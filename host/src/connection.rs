@@ -155,7 +155,7 @@ impl Connection {
 }
 
 /// Writes as much as is taken without waiting.
-fn write_some(mut stream: &TcpStream, bytes: &[u8]) -> io::Result<usize> {
+pub fn write_some(mut stream: &TcpStream, bytes: &[u8]) -> io::Result<usize> {
     match stream.write(bytes) {
         Ok(count) => Ok(count),
         Err(error) if is_later(&error) => Ok(0),

@@ -18,6 +18,7 @@ pub mod keeper;
 pub mod limits;
 pub mod lines;
 pub mod options;
+pub mod page;
 pub mod places;
 pub mod saver;
 pub mod server;

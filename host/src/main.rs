@@ -14,6 +14,7 @@ use feyqoolad::failure::{because, say, Failure};
 use feyqoolad::keeper::Keeper;
 use feyqoolad::lines::{decode, encode};
 use feyqoolad::options::Words;
+use feyqoolad::page::begin;
 use feyqoolad::saver::{Saver, Sync};
 use feyqoolad::server::{listen, Limits, Server};
 use feyqoolad::show::show;
@@ -94,7 +95,7 @@ fn run_show(given: &[OsString]) -> Result<ExitCode, Failure> {
 }
 
 fn serve(given: &[OsString]) -> Result<ExitCode, Failure> {
-    let options = ["listen", "sync", "connections", "idle"];
+    let options = ["listen", "page", "sync", "connections", "idle"];
     let words = Words::part(given, &options, &[])?;
     let [table] = words.words() else {
         return Err("serve is followed by TABLE and options".to_string());
@@ -103,14 +104,17 @@ fn serve(given: &[OsString]) -> Result<ExitCode, Failure> {
     let limits = limits(&words)?;
     let address = words.text("listen")?.unwrap_or(ADDRESS);
     // The address first, so that no fresh table is left where it is in use.
-    let listener = listen(address)?;
-    let at = listener
-        .local_addr()
-        .map_err(|error| because("can't listen", error))?;
+    let (listener, at) = listen(address)?;
+    let page = words.text("page")?.map(listen).transpose()?;
     let (keeper, loaded) = Keeper::open(Path::new(table))?;
     let server = Server::new(listener, loaded, Saver::new(keeper, sync), limits)
         .map_err(|error| because("can't serve", error))?;
     say(format!("serves {} on {at}", table.to_string_lossy()));
+    if let Some((listener, shown)) = page {
+        // The server has blocked the signals, and they stay blocked in the page's thread.
+        begin(listener, at)?;
+        say(format!("shows it on http://{shown}/"));
+    }
     server.run()?;
     say("ended; the table is stored");
     Ok(ExitCode::SUCCESS)

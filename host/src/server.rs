@@ -2,7 +2,7 @@
 //! in one call of the library, has the table stored, and sends the replies.
 
 use std::io;
-use std::net::{TcpListener, TcpStream};
+use std::net::{SocketAddr, TcpListener, TcpStream};
 use std::time::{Duration, Instant, SystemTime, UNIX_EPOCH};
 
 use crate::batch::{Batch, Rest};
@@ -226,9 +226,8 @@ impl Server {
 
     /// Gives each connection its replies, and sees to what is left.
     fn send_replies(&mut self, now: Instant) {
-        let mut shares = std::mem::take(&mut self.batch.shares);
-        // Those that got nothing come first in the next turn.
-        shares.sort_by_key(|share| share.taken > 0);
+        self.batch.put_waiting_first();
+        let shares = std::mem::take(&mut self.batch.shares);
         for share in &shares {
             let Some(connection) = self.places.get_mut(share.connection) else {
                 continue;
@@ -336,8 +335,9 @@ fn turn_away(connection: &mut Connection, now: Instant) {
     connection.leave(now);
 }
 
-/// Listens at an address.
-pub fn listen(address: &str) -> Result<TcpListener, Failure> {
+/// Listens at an address; answers also which one it is.
+pub fn listen(address: &str) -> Result<(TcpListener, SocketAddr), Failure> {
     TcpListener::bind(address)
+        .and_then(|listener| listener.local_addr().map(|at| (listener, at)))
         .map_err(|error| format!("can't listen on {address}: {}", plain(&error)))
 }

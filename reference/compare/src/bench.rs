@@ -33,6 +33,8 @@ const CALLS: usize = 10_000;
 const CHECKS: usize = 128;
 /// The calls that serve one request in a round.
 const CALLED: usize = 120;
+/// The bulk requests of a stream.
+const BULKS: usize = 16;
 const SECOND: u32 = 5;
 const REPLY_ROOM: usize = 512;
 
@@ -222,6 +224,7 @@ pub fn rows<S: Subject>(subject: &mut S) -> Vec<Row> {
         calls(subject, &mut setup, "serve, get", 0),
         calls(subject, &mut setup, "serve, put over a held key", 10),
         calls(subject, &mut setup, "serve, nine gets to one put", 1),
+        bulk_stream(subject, &setup),
         bulk(subject, &setup, "serve, bulkGet of 128 entries", BULK_GET),
         bulk(
             subject,
@@ -512,6 +515,40 @@ fn bulk<S: Subject>(subject: &mut S, setup: &Setup, name: &'static str, operatio
             for _ in 0..CALLED {
                 black_box(reference::serve(&input, &mut table, SECOND, &mut other).taken);
             }
+        })
+    };
+    measured(task, library, reference)
+}
+
+/// All entries of the table, time and again in one stream.
+fn bulk_stream<S: Subject>(subject: &mut S, setup: &Setup) -> Row {
+    let (request, reply) = bulk_messages(setup, BULK_GET);
+    let row = request.repeat(BULKS);
+    let copied = reply.repeat(BULKS);
+    let mut memory = setup.memory.clone();
+    let mut replies = vec![0; copied.len() + BULK_ROOM];
+    let mut others = replies.clone();
+    let task = Task {
+        name: "serve_stream, bulkGet of 128 entries",
+        units: BULKS,
+        copied: &copied,
+        copies: BULKS,
+    };
+    let library = || {
+        memory.copy_from_slice(&setup.memory);
+        replies.fill(0);
+        let mut answer = [0; STREAM_WORDS];
+        let time = timed(|| {
+            subject.serve_stream(&row, &mut memory, SECOND, &mut replies, &mut answer);
+        });
+        assert_eq!(replies[..copied.len()], copied, "the replies are others");
+        time
+    };
+    let reference = || {
+        let mut table = setup.table.clone();
+        others.fill(0);
+        timed(|| {
+            black_box(reference::serve_stream(&row, &mut table, SECOND, &mut others).taken);
         })
     };
     measured(task, library, reference)

@@ -32,7 +32,7 @@ extern "C" {
 #define FQ_DONE 256
 #define FQ_REPLY_FULL 257
 
-#define FQ_TABLE_SIZE 45264     /* bytes of a table */
+#define FQ_TABLE_SIZE 45280     /* bytes of a table */
 #define FQ_TABLE_KEYS 128       /* keys that a table holds at most */
 #define FQ_NAME_LIMIT 32        /* bytes of a cache name */
 #define FQ_KEY_LIMIT 64         /* bytes of a key */
@@ -120,7 +120,10 @@ uint64_t fq_write_entries(uint8_t *out, size_t out_len, uint64_t id, bool values
    of bytes were compared: 0 for unlike lengths, else those through the first unlike one, or all. */
 uint64_t fq_same_key(const uint8_t *a, size_t a_len, const uint8_t *b, size_t b_len, uint64_t *answer, size_t answer_len);
 
-/* The table: FQ_TABLE_SIZE bytes of the caller's, which only these functions write. */
+/* The table: FQ_TABLE_SIZE bytes of the caller's, which only these functions write.
+
+   An entry whose deadline is not above the present second counts as absent. The present second is the greatest of the call's second and of those of the
+   calls that were served since fq_make or fq_load; deadlines are reckoned from it. A call that is refused leaves it, and the entries, as they were. */
 
 /* Whether the memory is a table. */
 bool fq_is_table(const uint8_t *table, size_t table_len);
@@ -151,10 +154,11 @@ uint64_t fq_serve_stream(const uint8_t *input, size_t input_len, uint8_t *table,
 uint64_t fq_serve_lines(const uint8_t *input, size_t input_len, uint8_t *table, size_t table_len, uint8_t *out, size_t out_len, bool passing, bool last,
                         uint64_t *answer, size_t answer_len);
 
-/* Writes the stored file of a table at the front of `out`: 13, then 12, or FQ_DONE and its length, FQ_LONGEST_FILE at most. */
+/* Writes the stored file of a table at the front of `out`: 13, then 12, or FQ_DONE and its length, FQ_LONGEST_FILE at most. It holds the entries that
+   stand at the latest second served, and the last version issued. */
 uint64_t fq_store(const uint8_t *table, size_t table_len, uint8_t *out, size_t out_len);
 
-/* Loads a stored file into `table`, whatever that held: FQ_DONE, or 17, and then the table stays. */
+/* Loads a stored file into `table`, whatever that held: FQ_DONE, or 17, and then the table stays. A loaded table starts from second 0. */
 uint64_t fq_load(const uint8_t *file, size_t file_len, uint8_t *table, size_t table_len);
 
 #ifdef __cplusplus

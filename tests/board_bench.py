@@ -9,6 +9,7 @@ from board_run import Bench, PROGRAM, REFERENCE, place, read_file, write_file
 
 MEASURE = os.environ['MEASURE']
 LINES, ROUNDS = 200_000, 11
+FAR = 1_000_000  # a deadline far behind the second of the requests, which is 0
 
 
 def key(index):
@@ -16,8 +17,8 @@ def key(index):
     return b'harbour/north/arrivals/b' + b'%08d' % index
 
 
-def full_table():
-    return head_line(MOST_KEYS) + b''.join(entry_line(index + 1, key(index), bytes([index]) * 256) for index in range(MOST_KEYS))
+def full_table(deadline):
+    return head_line(MOST_KEYS) + b''.join(entry_line(index + 1, key(index), bytes([index]) * 256, deadline) for index in range(MOST_KEYS))
 
 
 def lines(gets, chance):
@@ -34,32 +35,32 @@ def seconds(words, output):
     return float(done.stdout.split()[0])
 
 
-def served(bench, program):
-    """Serves the file from the full table; gives the seconds."""
+def served(bench, program, deadline):
+    """Serves the file from the full table, whose entries have this deadline; gives the seconds."""
     table = bench.path(program, 'table')
-    place(table, full_table())
+    place(table, full_table(deadline))
     return seconds([program, 'serve', bench.path(PROGRAM, 'requests'), table], bench.path(program, 'replies'))
 
 
-def row(bench, name, requests):
+def row(bench, name, requests, deadline):
     write_file(bench.path(PROGRAM, 'requests'), requests)
     times = {'board': [], 'reference': [], 'copy': []}
     for _ in range(ROUNDS):
-        times['board'].append(served(bench, PROGRAM))
-        times['reference'].append(served(bench, REFERENCE))
+        times['board'].append(served(bench, PROGRAM, deadline))
+        times['reference'].append(served(bench, REFERENCE, deadline))
         times['copy'].append(seconds(['/bin/cat', bench.path(PROGRAM, 'requests'), bench.path(REFERENCE, 'replies')], bench.path(PROGRAM, 'copy')))
     replies = [read_file(bench.path(program, 'replies')) for program in (PROGRAM, REFERENCE)]
     assert replies[0] == replies[1], 'the replies differ'
     board, reference, copy = (statistics.median(times[name]) for name in ('board', 'reference', 'copy'))
-    print(f'{name:22}{len(requests) / 1e6:9.1f}{len(replies[0]) / 1e6:9.1f}{board * 1e3:10.0f}{reference * 1e3:11.0f}{copy * 1e3:8.0f}'
+    print(f'{name:24}{len(requests) / 1e6:9.1f}{len(replies[0]) / 1e6:9.1f}{board * 1e3:10.0f}{reference * 1e3:11.0f}{copy * 1e3:8.0f}'
           f'{reference / board:18.2f}{board / copy:12.2f}')
 
 
 if __name__ == '__main__':
     print(f'Medians of {ROUNDS} runs in milliseconds: {LINES:,} lines, from a stored table of {MOST_KEYS} entries with keys of 32 bytes, 24 of them the\n'
           'same, and values of 256 bytes, to a stored table. `copy` is cat over the requests and the replies.\n')
-    print('                       requests  replies     board  reference    copy   reference/board  board/copy')
-    print('                             MB       MB        ms         ms      ms')
+    print('                         requests  replies     board  reference    copy   reference/board  board/copy')
+    print('                               MB       MB        ms         ms      ms')
     with Bench() as where:
-        for kind, gets in (('get', 10), ('put over a held key', 0), ('nine gets to one put', 9)):
-            row(where, kind, lines(gets, random.Random(1)))
+        for kind, gets, deadline in (('get', 10, 0), ('get, all with deadlines', 10, FAR), ('put over a held key', 0, 0), ('nine gets to one put', 9, 0)):
+            row(where, kind, lines(gets, random.Random(1)), deadline)

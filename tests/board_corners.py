@@ -195,14 +195,19 @@ def deadline(second, lifespan, flags):
     return second + lifespan if lifespan <= THIRTY_DAYS else lifespan
 
 
+def stored_entry(second, deadline):
+    """The line of an entry of version 1 in a TABLE stored at this second, or none where it has expired."""
+    return entry_line(1, deadline=deadline) if deadline == 0 or deadline > second else b''
+
+
 def deadlines(bench):
-    """Deadlines are seen in the TABLE alone."""
+    """Deadlines are seen in the TABLE, which holds the entries that stand."""
     for second in (0, 1, 0x7fffffff, 0x80000000, LARGEST_SECOND):
         for lifespan in (0, 1, 127, 128, THIRTY_DAYS - 1, THIRTY_DAYS, THIRTY_DAYS + 1, THIRTY_DAYS + 2, 0x80000000, LARGEST_SECOND):
             for flags in (0, 2, 4, 6):
                 case = f'second {second}, lifespan {lifespan}, flags {flags}'
                 got = bench.same(case, request(PUT, second, lifespan=lifespan, idle=5, version=12, flags=flags), ABSENT)
-                wanted = head_line(1) + entry_line(1, deadline=deadline(second, lifespan, flags))
+                wanted = head_line(1) + stored_entry(second, deadline(second, lifespan, flags))
                 demand(got.table == wanted, case, f'the second program stores {got.table!r}, the paper {wanted!r}')
 
 
@@ -217,7 +222,7 @@ def deadline_edges(bench):
     for lifespan, second, deadline in DEADLINES:
         for flags in range(8):
             case = f'lifespan {lifespan} at second {second}, flags {flags}'
-            wanted = head_line(1) + entry_line(1, deadline=0 if flags & 2 else deadline)
+            wanted = head_line(1) + stored_entry(second, 0 if flags & 2 else deadline)
             got = bench.same(case, request(PUT, second, lifespan=lifespan, idle=5, version=12, flags=flags), ABSENT)
             demand(got.table == wanted, case, f'the second program leaves {got.table!r}, the paper {wanted!r}')
             bench.same(f'{case}, then a look', request(GET_WITH_VERSION, second), got.table)
@@ -287,7 +292,7 @@ def bulk(bench):
     bench.same('bulk requests between writes', moved(), ABSENT)
     case = 'statistics behind bulk requests'
     got = bench.same(case, request(BULK_GET, 7) + request(BULK_GET_KEYS, 9) + request(STATS, 10), bulk_table(3)[0])
-    demand(got.out.endswith(stats_line(3, 3, 0, 0, 0, 0, 0, 0, 0)), case, f'the second program tells {got.out!r}')
+    demand(got.out.endswith(stats_line(3, 1, 0, 0, 0, 0, 0, 0, 0)), case, f'the second program tells {got.out!r}')
 
 
 def moved():
@@ -299,6 +304,71 @@ def moved():
     for at in (9, 3, 3):
         out += request(REMOVE, key=key_name(at)) + look
     return out + request(CLEAR) + look
+
+
+NONE, HIT = b'a101040200\n', b'a1010400000176\n'  # replies to a get of `k`
+DONE, FULL = b'a101020000\n', error_line(10)        # replies to a put
+GONE = head_line(1)                                 # a TABLE whose one entry has expired
+
+
+def expiry(bench):
+    """Entries that expire: the replies and the TABLE, worked out by hand."""
+    elsewhere = {second: request(PING, second, name=b'x') for second in (10, 11, LARGEST_SECOND)}
+    no_cache = error_line(9)
+    one = head_line(1) + entry_line(1, deadline=10)
+    past = dict(key=b'k', value=b'v', lifespan=THIRTY_DAYS + 1)
+    cases = [
+        ('before the deadline', one, request(GET, 9), HIT, one),
+        ('at the deadline', one, request(GET, 10), NONE, GONE),
+        ('behind the deadline', one, request(GET, 11), NONE, GONE),
+        ('at the last second', one, request(GET, LARGEST_SECOND), NONE, GONE),
+        ('the clock goes back', one, request(PING, 10) + request(GET, 9), b'a101180000\n' + NONE, GONE),
+        ('a put for five seconds', ABSENT, request(PUT, 5, lifespan=5) + request(GET, 9) + request(GET, 10), DONE + HIT + NONE, GONE),
+        ('reckoned from the present second', ABSENT, request(PING, 100) + request(PUT, 5, lifespan=5) + request(GET, 104),
+         b'a101180000\n' + DONE + HIT, head_line(1) + entry_line(1, deadline=105)),
+        ('a past date', ABSENT, request(PUT, 3_000_000, **past) + request(GET, 0), DONE + NONE, GONE),
+        ('a past date at the end', ABSENT, request(PUT, 3_000_000, **past), DONE, GONE),
+        ('a past date over a held key', head_line(1) + entry_line(1), request(PUT, 3_000_000, **past) + request(GET, 0), DONE + NONE, head_line(2)),
+        ('no lifespan', ABSENT, request(PUT, 5) + request(GET, LARGEST_SECOND), DONE + HIT, head_line(1) + entry_line(1)),
+        ('no request', one, b'', b'', one),
+    ]
+    for second, refused in elsewhere.items():
+        cases.append((f'refused at {second}', one, refused + request(GET, 9), no_cache + HIT, one))
+    for case, table, requests, replies, left in cases:
+        got = bench.same(f'expiry: {case}', requests, table)
+        demand((got.out, got.table) == (replies, left), f'expiry: {case}', f'the second program gives {got.out!r} and leaves {got.table!r}')
+    expired_rows(bench)
+    two_runs(bench)
+
+
+def expired_rows(bench):
+    """A full table of which the first entries expire at second 10: refusal 10, listings and statistics count those that stand."""
+    new = request(PUT, 9, key=b'new'), request(PUT, 10, key=b'new'), request(PUT, 10, key=b'more')
+    for expired in (0, 1, 2, 128):
+        keys = [(key_name(at), b'%d' % at) for at in range(MOST_KEYS)]
+        lines = [entry_line(at + 1, key, value, 10 if at < expired else 0) for at, (key, value) in enumerate(keys)]
+        table, standing, case = head_line(MOST_KEYS) + b''.join(lines), keys[expired:], f'expiry: {expired} of 128'
+        look = request(BULK_GET, 10) + request(BULK_GET, 10, bulk=1) + request(BULK_GET_KEYS, 10) + request(STATS, 10)
+        wanted = (bulk_line(BULK_GET, standing) + bulk_line(BULK_GET, standing[:1]) + bulk_line(BULK_GET_KEYS, standing)
+                  + stats_line(0, len(standing), 0, 0, 0, 0, 0, 0, 0))
+        got = bench.same(f'{case}, listings', look, table)
+        demand(got.out == wanted, case, 'the second program does not list what stands')
+        replies = FULL + (FULL if expired < 1 else DONE) + (FULL if expired < 2 else DONE)
+        got = bench.same(f'{case}, writes', b''.join(new), table)
+        demand(got.out == replies, case, f'the second program gives {got.out!r}, the paper {replies!r}')
+        tries = b''.join(request(operation, 10, key=key_name(0), value=b'x', flags=1, entry_version=1) for operation in OPERATIONS)
+        bench.same(f'{case}, each operation', tries + look, table)
+        bench.same(f'{case}, each operation before', tries.replace(b'0000000a ', b'00000009 ') + look, table)
+
+
+def two_runs(bench):
+    """A loaded table starts from second 0: a run over the TABLE of a later run may have earlier seconds."""
+    first = bench.same('expiry: the first run', request(PUT, 1000, lifespan=50), ABSENT)
+    for second, reply in ((0, HIT), (1049, HIT), (1050, NONE)):
+        got = bench.same(f'expiry: the second run at {second}', request(GET, second), first.table)
+        demand(got.out == reply, f'expiry: the second run at {second}', f'the second program gives {got.out!r}')
+    again = bench.same('expiry: reckoned from second 0', request(PUT, 3, lifespan=4), first.table)
+    demand(again.table == head_line(2) + entry_line(2, deadline=7), 'expiry: reckoned from second 0', f'the second program leaves {again.table!r}')
 
 
 def many_keys():
@@ -354,6 +424,7 @@ def part():
         deadline_edges(bench)
         statistics(bench)
         bulk(bench)
+        expiry(bench)
         return f'{bench.count} files of corners, same replies and same tables'
 
 

@@ -11,14 +11,20 @@ MEASURE = os.environ['MEASURE']
 MORE_KIB = 512  # how much the peak may differ between a file of one line and a long one; chance alone gives some
 
 
+HOURS = 20
+
+
 def mixed_lines(count):
-    """Gets and puts of about 130 keys, picked from 20,000 different lines."""
+    """Gets and puts of about 130 keys, picked from 20,000 different lines, a thousand an hour; some entries expire."""
     chance = random.Random(6)
     operations = (GET, GET, GET_WITH_VERSION, CONTAINS_KEY, PUT, PUT, PUT, REMOVE)
-    some = [request(chance.choice(operations), chance.randint(0, 9999), key=key_name(chance.randrange(130)),
-                    value=chance.randbytes(chance.choice((0, 3, 8, 60))), lifespan=chance.choice((0, 100)), message=chance.randint(0, 10 ** 6),
-                    flags=chance.randint(0, 1)) for _ in range(20_000)]
-    return b''.join(chance.choices(some, k=count))
+    out = bytearray()
+    for hour in range(HOURS):
+        some = [request(chance.choice(operations), 3600 * hour + chance.randint(0, 3599), key=key_name(chance.randrange(130)),
+                        value=chance.randbytes(chance.choice((0, 3, 8, 60))), lifespan=chance.choice((0, 100)), message=chance.randint(0, 10 ** 6),
+                        flags=chance.randint(0, 1)) for _ in range(1_000)]
+        out += b''.join(chance.choices(some, k=count // HOURS))
+    return bytes(out)
 
 
 def measure(bench, program, table):

@@ -19,13 +19,31 @@ LIFESPANS = (*NUMBERS, *4 * (THIRTY_DAYS, THIRTY_DAYS + 1), THIRTY_DAYS - 1, THI
 
 
 class Maker:
-    """Makes request lines. It follows the versions roughly, so that conditions are often met."""
+    """Makes request lines. It follows the versions roughly, so that conditions are often met, and the clock goes on slowly, so that entries
+    expire a few at a time."""
 
     def __init__(self, seed):
         self.chance = random.Random(seed)
         self.keys = [self.chance.randbytes(self.chance.choice((0, 1, 2, 8, 63, 64))) for _ in range(self.chance.choice((3, 120, 135, 150)))]
         self.damage = self.chance.choice((0, 0.02, 0.2, 0.6))
         self.versions, self.last = {}, 0
+        self.clock = self.chance.choice((0, 0, 1000, THIRTY_DAYS, 2 ** 30, LARGEST_SECOND - 50))
+
+    def second(self):
+        """Mostly at the clock or behind it, at times before it, and rarely anywhere."""
+        chance = self.chance
+        if chance.random() < 0.05:
+            self.clock = min(self.clock + chance.randint(1, 30), LARGEST_SECOND)
+        if chance.random() < 0.0005:
+            return chance.choice((LARGEST_SECOND, chance.randint(0, LARGEST_SECOND)))
+        near = chance.choice((self.clock, self.clock, self.clock, self.clock + 1, self.clock - 1, self.clock - chance.randint(0, 100), 0))
+        return min(max(near, 0), LARGEST_SECOND)
+
+    def lifespan(self):
+        """Mostly none, at times short, a date about the clock, or any."""
+        chance = self.chance
+        date = min(max(self.clock + chance.randint(-2, 20), 0), LARGEST_SECOND)
+        return chance.choice((0, 0, 0, 0, chance.randint(1, 40), date, chance.choice(LIFESPANS)))
 
     def value(self):
         length = self.chance.choice((0, 1, 3, 3, 8, 40, 127, 128, 129, 255, 256))
@@ -53,13 +71,13 @@ class Maker:
             operation = chance.choice(BULK)
         key = chance.choice(self.keys)
         version = chance.choice((10, 11, 12))
-        data = frame(operation, key=key, value=self.value(), lifespan=chance.choice(LIFESPANS), idle=chance.choice(NUMBERS),
+        data = frame(operation, key=key, value=self.value(), lifespan=self.lifespan(), idle=chance.choice(NUMBERS),
                      entry_version=self.entry_version(key), bulk=chance.choice(BULK_NUMBERS),
                      message=chance.choice((*NUMBERS, LARGEST_VERSION)), version=version,
                      flags=chance.randint(0, 7 if version == 12 else 1), intelligence=chance.randint(1, 3), topology=chance.choice(NUMBERS),
                      name=b'other' if chance.random() < 0.01 else b'')
         self.follow(operation, key)
-        return line(data, chance.choice((chance.randint(0, 1000), LARGEST_SECOND, chance.randint(0, LARGEST_SECOND))))
+        return line(data, self.second())
 
     def damaged(self, text):
         """A line with something wrong, or at least with something else."""
@@ -85,13 +103,17 @@ class Maker:
             out += self.damaged(text) if self.chance.random() < self.damage else text
         return bytes(out[:-1] if self.chance.random() < 0.3 else out)
 
+    def deadline(self):
+        """None, one that never comes, the first second, or one about the clock."""
+        return self.chance.choice((0, 0, 0, 2 ** 32, 1, max(self.clock + self.chance.randint(-3, 60), 0)))
+
     def table(self):
         """A good stored table of some of the keys."""
         keys = list(dict.fromkeys(self.keys))[:self.chance.choice((1, 3, MOST_KEYS))]
         version, entries = 0, b''
         for key in keys:
             version += self.chance.randint(1, 3)
-            entries += entry_line(version, key, self.value(), self.chance.choice((0, 1, 2 ** 32)))
+            entries += entry_line(version, key, self.value(), self.deadline())
         return head_line(version + self.chance.randint(0, 2)) + entries
 
 

@@ -259,6 +259,48 @@ static void stream(void) {
     SAME(fq_serve_lines(row, 0, other, sizeof other, out.at, FQ_LINES_ROOM, false, true, answer, FQ_LINES_TOLD), FQ_DONE);
 }
 
+/* The request at this second is served with this reply. */
+static void serves(int line, const uint8_t *frame, size_t n, uint32_t second, const void *wanted, size_t wanted_len) {
+    same(line, fq_serve(frame, n, other, sizeof other, second, reply, FQ_REPLY_ROOM, answer, FQ_SERVE_TOLD), FQ_DONE);
+    same(line, answer[0], n);
+    same_bytes(line, reply, answer[1], wanted, wanted_len);
+}
+
+/* The table's stored file is this one. */
+static void stores(int line, const char *wanted) {
+    same(line, fq_store(other, sizeof other, out.at, sizeof out.at), FQ_DONE + strlen(wanted));
+    same_bytes(line, out.at, strlen(wanted), wanted, strlen(wanted));
+}
+
+/* An entry that expires: seconds before, at and behind its deadline, a refused call, files, a load, and a date that is past. */
+static void expiry(void) {
+    static const uint8_t put[] = {0xa0, 0x01, 0x0a, 0x01, 0, 0, 1, 0, 0, 1, 'k', 5, 0, 1, 'v'}, get[] = {0xa0, 0x01, 0x0a, 0x03, 0, 0, 1, 0, 0, 1, 'k'};
+    static const uint8_t past[] = {0xa0, 0x01, 0x0a, 0x01, 0, 0, 1, 0, 0, 1, 'k', 0x81, 0x9a, 0x9e, 0x01, 0, 1, 'v'}; /* at 2,592,001 */
+    static const uint8_t elsewhere[] = {0xa0, 0x01, 0x0a, 0x17, 1, 'c', 0, 1, 0, 0};
+    static const uint8_t done[] = {0xa1, 0x01, 0x02, 0, 0}, hit[] = {0xa1, 0x01, 0x04, 0, 0, 1, 'v'}, miss[] = {0xa1, 0x01, 0x04, 2, 0};
+    static const char held[] = "010000000000000001\n0000000000000001000000000000000a016b0176\n";
+    static uint8_t before[FQ_TABLE_SIZE];
+    SAME(fq_make(other, sizeof other), FQ_DONE);
+    serves(__LINE__, put, sizeof put, 5, done, sizeof done);
+    serves(__LINE__, get, sizeof get, 9, hit, sizeof hit);
+    stores(__LINE__, held);
+    memcpy(before, other, sizeof other);
+    SAME(fq_serve(elsewhere, sizeof elsewhere, other, sizeof other, 10, reply, FQ_REPLY_ROOM, answer, FQ_SERVE_TOLD), FQ_NO_SUCH_CACHE);
+    same_bytes(__LINE__, other, sizeof other, before, sizeof before);
+    serves(__LINE__, get, sizeof get, 9, hit, sizeof hit);
+    serves(__LINE__, get, sizeof get, 10, miss, sizeof miss);
+    serves(__LINE__, get, sizeof get, 9, miss, sizeof miss);
+    stores(__LINE__, "010000000000000001\n");
+    serves(__LINE__, put, sizeof put, 3, done, sizeof done);
+    stores(__LINE__, "010000000000000002\n0000000000000002000000000000000f016b0176\n");
+    SAME(fq_load((const uint8_t *)held, sizeof held - 1, other, sizeof other), FQ_DONE);
+    serves(__LINE__, get, sizeof get, 0, hit, sizeof hit);
+    serves(__LINE__, past, sizeof past, 3000000, done, sizeof done);
+    SAME(fq_is_table(other, sizeof other), 1);
+    stores(__LINE__, "010000000000000002\n");
+    serves(__LINE__, get, sizeof get, 0, miss, sizeof miss);
+}
+
 /* Keys: two that are equal, empty ones, those that differ at the last, a middle and the first byte, and one that is longer. */
 static void keys(void) {
     static const struct { const char *a, *b; uint64_t equal, pairs; } cases[] = {
@@ -330,9 +372,10 @@ int main(int count, char **words) {
     statistics();
     entries();
     stream();
+    expiry();
     short_lists();
     longest_file();
-    printf("library: the paper's five requests from C, by calls, by lines and by a file; messages, keys, entries, streams, lists that are too short, the "
-           "longest file and the longest reply\n");
+    printf("library: the paper's five requests from C, by calls, by lines and by a file; messages, keys, entries, streams, an entry that expires, lists that are "
+           "too short, the longest file and the longest reply\n");
     return 0;
 }

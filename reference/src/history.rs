@@ -16,18 +16,32 @@ pub const REMOVE_MISSES: usize = 6;
 /// The number of counts.
 pub const COUNTS: usize = 7;
 
+/// The largest second of a call.
+pub const LARGEST_SECOND: u64 = 4_294_967_295;
+
 #[derive(Clone, Debug, Default, PartialEq, Eq)]
 pub struct History {
     /// The second of the first call served, and none before it.
     pub first: Option<u64>,
     /// From totalNumberOfEntries on, in the order of the statistics.
     pub counts: [u64; COUNTS],
+    /// The latest second served, and 0 before the first call.
+    pub latest: u64,
 }
 
 impl History {
-    /// Whether no count is above the largest vLong.
+    /// Whether no count is above the largest vLong, and neither the first nor
+    /// the latest second above the largest second.
     pub fn is_sound(&self) -> bool {
         self.counts.iter().all(|count| *count <= LARGEST_VLONG)
+            && self.first.unwrap_or(0) <= LARGEST_SECOND
+            && self.latest <= LARGEST_SECOND
+    }
+
+    /// The present second of a call: the greatest among its own and those of
+    /// the calls served before.
+    pub fn present(&self, second: u32) -> u64 {
+        self.latest.max(u64::from(second))
     }
 
     /// A count stops at the largest vLong.
@@ -41,6 +55,7 @@ impl History {
     /// `added` says whether it wrote a key that was not held.
     pub fn remember(&mut self, second: u32, operation: u8, status: u8, added: bool) {
         self.first.get_or_insert(u64::from(second));
+        self.latest = self.present(second);
         if added {
             self.count(TOTAL);
         }
@@ -56,8 +71,8 @@ impl History {
         }
     }
 
-    /// The seconds since the first call served: 0 if there was none before, or
-    /// if the clock went back.
+    /// The seconds from the first call served to this call's own second: 0 if
+    /// there was none before, or if the clock went back.
     fn since_start(&self, second: u32) -> u64 {
         let first = self.first.unwrap_or(u64::from(second));
         u64::from(second).saturating_sub(first)

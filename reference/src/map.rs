@@ -19,7 +19,7 @@ pub const LARGEST_VERSION: u64 = 9_223_372_036_854_775_807;
 /// The largest deadline that a table may hold, which is the largest second
 /// plus the largest lifespan. No call gives one so large.
 pub const LARGEST_DEADLINE: u64 = 8_589_934_590;
-/// 30 days, the longest lifespan that is added to the call's second. A longer
+/// 30 days, the longest lifespan that is added to the present second. A longer
 /// one is a UNIX time.
 pub const LONGEST_SPAN: u32 = 2_592_000;
 
@@ -31,6 +31,14 @@ pub struct Entry {
     pub deadline: u64,
 }
 
+impl Entry {
+    /// Whether the entry still stands at this second: it has no deadline, or
+    /// one above the second.
+    pub fn stands(&self, now: u64) -> bool {
+        self.deadline == 0 || self.deadline > now
+    }
+}
+
 #[derive(Clone, Debug, Default, PartialEq, Eq)]
 pub struct Table {
     pub entries: BTreeMap<Vec<u8>, Entry>,
@@ -40,8 +48,31 @@ pub struct Table {
     pub history: History,
 }
 
+impl Table {
+    /// The entries in ascending order of their versions.
+    pub fn by_version(&self) -> Vec<(&Vec<u8>, &Entry)> {
+        let mut entries: Vec<_> = self.entries.iter().collect();
+        entries.sort_by_key(|(_, entry)| entry.version);
+        entries
+    }
+
+    /// Drops the entries that do not stand at this second, and gives them.
+    fn drop_expired(&mut self, now: u64) -> Vec<(Vec<u8>, Entry)> {
+        let expired: Vec<Vec<u8>> = self
+            .entries
+            .iter()
+            .filter(|(_, entry)| !entry.stands(now))
+            .map(|(key, _)| key.clone())
+            .collect();
+        expired
+            .iter()
+            .filter_map(|key| self.entries.remove_entry(key))
+            .collect()
+    }
+}
+
 /// Whether the table is one: sizes kept, versions different and in range,
-/// deadlines and counts in range.
+/// deadlines, counts and seconds in range. Entries that expired count too.
 pub fn is_table(table: &Table) -> bool {
     let mut versions = BTreeSet::new();
     for (key, entry) in &table.entries {
@@ -95,16 +126,16 @@ fn effect(operation: u8, status: u8) -> Effect {
     }
 }
 
-/// The deadline of an entry that this request stores. One that a UNIX time
-/// gives may be past.
-fn deadline(request: &Request, second: u32) -> u64 {
+/// The deadline of an entry that this request stores at the present second.
+/// One that a UNIX time gives may be past.
+fn deadline(request: &Request, now: u64) -> u64 {
     if request.lifespan == 0 || request.flags & FLAG_DEFAULT_LIFESPAN != 0 {
         return 0;
     }
     if request.lifespan > LONGEST_SPAN {
         return u64::from(request.lifespan);
     }
-    u64::from(second) + u64::from(request.lifespan)
+    now.saturating_add(u64::from(request.lifespan))
 }
 
 /// The reply to a request that is not refused.
@@ -129,11 +160,10 @@ fn answer(request: &Request, status: u8, held: Option<&Entry>) -> Reply {
     reply
 }
 
-/// The entries in ascending order of their versions: the first `count` of
-/// them, and all if it is 0.
+/// The entries of lowest versions: the first `count` of them, and all if it
+/// is 0.
 fn listed(table: &Table, count: u32, values: bool) -> Vec<Listed> {
-    let mut entries: Vec<(&Vec<u8>, &Entry)> = table.entries.iter().collect();
-    entries.sort_by_key(|(_, entry)| entry.version);
+    let mut entries = table.by_version();
     if count > 0 {
         entries.truncate(count as usize);
     }
@@ -148,13 +178,26 @@ fn listed(table: &Table, count: u32, values: bool) -> Vec<Listed> {
     entries.into_iter().map(shown).collect()
 }
 
-/// One step of the map. A refusal (9, 10 or 11) changes nothing. The map is
-/// meant for well-formed requests; one that breaks a rule is given back as 16
-/// and changes nothing.
+/// One step of the map. The entries that expired at the present second are
+/// dropped before it. A refusal (9, 10 or 11) changes nothing: those entries
+/// and the latest second served are as they were. The map is meant for
+/// well-formed requests; one that breaks a rule is given back as 16 and
+/// changes nothing.
 pub fn step(request: &Request, second: u32, table: &mut Table) -> Result<Reply, u8> {
     if !keeps_rules(request) {
         return Err(16);
     }
+    let now = table.history.present(second);
+    let expired = table.drop_expired(now);
+    let answered = step_of_standing(request, second, table);
+    if answered.is_err() {
+        table.entries.extend(expired);
+    }
+    answered
+}
+
+/// One step of a map whose entries all stand.
+fn step_of_standing(request: &Request, second: u32, table: &mut Table) -> Result<Reply, u8> {
     if !request.name.is_empty() {
         return Err(9);
     }
@@ -178,14 +221,14 @@ pub fn step(request: &Request, second: u32, table: &mut Table) -> Result<Reply, 
         BULK_GET_KEYS => reply.entries = listed(table, 0, false),
         _ => {}
     }
-    apply(effect, request, second, table);
+    apply(effect, request, table.history.present(second), table);
     table
         .history
         .remember(second, request.operation, status, added);
     Ok(reply)
 }
 
-fn apply(effect: Effect, request: &Request, second: u32, table: &mut Table) {
+fn apply(effect: Effect, request: &Request, now: u64, table: &mut Table) {
     match effect {
         Effect::Nothing => {}
         Effect::Store => {
@@ -193,7 +236,7 @@ fn apply(effect: Effect, request: &Request, second: u32, table: &mut Table) {
             let entry = Entry {
                 value: request.value.clone(),
                 version: table.last,
-                deadline: deadline(request, second),
+                deadline: deadline(request, now),
             };
             table.entries.insert(request.key.clone(), entry);
         }

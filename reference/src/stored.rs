@@ -1,5 +1,5 @@
 //! Stored form 1 of a table: a line with 01 and the last version issued, then
-//! a line an entry, ascending by version.
+//! a line for each entry that stands, ascending by version.
 
 use std::collections::BTreeMap;
 
@@ -24,15 +24,17 @@ fn put_line(bytes: &[u8], file: &mut Vec<u8>) {
     file.push(LINE_END);
 }
 
-/// The stored form of the table.
+/// The stored form of the table: the entries that stand at the latest second
+/// served, and the last version issued.
 pub fn store(table: &Table) -> Vec<u8> {
-    let mut entries: Vec<(&Vec<u8>, &Entry)> = table.entries.iter().collect();
-    entries.sort_by_key(|(_, entry)| entry.version);
     let mut file = Vec::new();
     let mut first = vec![FORM];
     write_eight(table.last, &mut first);
     put_line(&first, &mut file);
-    for (key, entry) in entries {
+    for (key, entry) in table.by_version() {
+        if !entry.stands(table.history.latest) {
+            continue;
+        }
         let mut line = Vec::new();
         write_eight(entry.version, &mut line);
         write_eight(entry.deadline, &mut line);
@@ -79,8 +81,9 @@ fn load_entry(line: &[u8]) -> Option<(Vec<u8>, Entry)> {
     Some(pair)
 }
 
-/// The table whose stored form the file is; its counts begin anew. Nothing means refusal 17: the
-/// file is not what storing a sound table gives.
+/// The table whose stored form the file is; its counts begin anew, and it
+/// starts from second 0. Nothing means refusal 17: the file is not what storing
+/// a sound table gives.
 pub fn load(file: &[u8]) -> Option<Table> {
     if file.last() != Some(&LINE_END) {
         return None;

@@ -18,9 +18,10 @@ use Rattle.hex.proofs.HexLaws.{hex-length}
 use Rattle.wire.specs.Write.{part}
 use Rattle.table.specs.Memory.{size, stateOf, Sound}
 use Rattle.table.proofs.Restores.{each-mid}
-use Rattle.stored.specs.File.{form1, entryLine, headLine, entryLines, file, Stores}
+use Rattle.stored.specs.File.{form1, entryLine, headLine, entryLines, linesOf, Stores}
 use Rattle.stored.specs.StoreLoad.{NoEnd, Loads as LoadsWhole, no-line, a-line, Ends}
 use Rattle.stored.proofs.LineLaws.{entry-most, head-most, head-good, table-good, no-end, first-end, line-cons}
+use Rattle.stored.proofs.FileLaws.{file-afresh}
 use Rattle.stored.proofs.OneTable.{file-front}
 use Rattle.stored.proofs.WholeLaws.{loads-both, loads-stores, all-loaded}
 use Rattle.service.proofs.Pieces.{joined-more}
@@ -126,13 +127,17 @@ loads-true : {c : Bool} {s t u : List ℕ} → LoadsWhole form1 true s t c u →
 loads-true no-line = refl
 loads-true (a-line l o e r) = loads-true r
 
+-- a file that stores a table has a line for each entry: at second 0 all stand
+all-stored : {bytes : List ℕ} {st : State} → Stores form1 bytes st → bytes ≡ linesOf form1 st
+all-stored {st = st} q = q .same ∙ file-afresh form1 st (q .history)
+
 next-line : {c : Bool} {x t u : List ℕ} (y : List ℕ) (st : State) → LoadsWhole form1 false x t c u → Stores form1 (x ++ y) st → Behind y
-unfolding file
+unfolding linesOf
 next-line y st no-line q =
-    a-next (headLine form1 .enc (st .last)) (entryLines form1 (st .entries)) (q .same) (omega (arith, head-most form1 .most (st .last) (head-good form1 (st .last) (omega (arith, q .table .last)))))
+    a-next (headLine form1 .enc (st .last)) (entryLines form1 (st .entries)) (all-stored q) (omega (arith, head-most form1 .most (st .last) (head-good form1 (st .last) (omega (arith, q .table .last)))))
 next-line {u = u} y st (a-line l o e r) q =
     let w = loads-stores (a-line l o e r) (loads-true r) in
-    let p = file-front form1 (stateOf u) st y (w .0 .table) (q .table) (ap (λ (z : List ℕ). z ++ y) (sym (w .1 .same)) ∙ q .same) in
+    let p = file-front form1 (stateOf u) st y (w .0 .table) (q .table) (ap (λ (z : List ℕ). z ++ y) (sym (all-stored (w .1))) ∙ all-stored q) in
     next-entries (stateOf u .entries) (p .entries) y (subst (Each (λ e. Valid (entryLine form1) e)) (p .all) (table-good form1 st (q .table))) (p .behind)
 
 -- such a line ends within 678 characters

@@ -1,7 +1,8 @@
 -- What a run of storing writes is the stored file; and it comes to its end. Assumes nothing.
 use mathlib.Core.Path.{_≡_, refl, sym, ap, _∙_, subst}
 use mathlib.Core.Logic.{_⊎_, inl, inr, ⊎-elim}
-use mathlib.Core.List.{List, [], _++_, append-assoc}
+use mathlib.Core.List.{List, [], _∷_, _++_, append-assoc}
+use mathlib.Core.Bool.{Bool, true, false, cond}
 use Prim.Native.Nat.{ℕ, zero, suc, _+_, _-_, _≤_, _<_}
 use native.Mathlib.Omega.{arith}
 use native.Mathlib.Nat.{zero-add}
@@ -12,14 +13,16 @@ use borrow.Author.Tests.{lt-ltb}
 use Rattle.wire.specs.Codec.{Valid}
 use Rattle.wire.specs.Write.{laid}
 use Rattle.wire.proofs.WriteLaws.{laid-done, sets-append}
-use Rattle.map.specs.State.{Entry, State}
+use Rattle.wire.proofs.Basics.{pick}
+use Rattle.map.specs.State.{Entry, State, without}
+use Rattle.map.specs.Deadline.{expired, standing}
 use Rattle.map.specs.Table.{Each, IsTable}
 use Rattle.table.specs.Memory.{entry, stateOf, Sound}
 use Rattle.table.proofs.Lists.{lt-or-ge}
 use Rattle.table.proofs.Restores.{each-mid}
 use Rattle.hex.specs.Hex.{line}
 use Rattle.hex.proofs.HexLaws.{line-length}
-use Rattle.stored.specs.File.{form1, entryLine, headLine, entryLines, file}
+use Rattle.stored.specs.File.{form1, entryLine, headLine, entryLines, lineOf, linesOf, file}
 use Rattle.stored.specs.StoreLoad.{lineAt}
 use Rattle.stored.proofs.LineLaws.{entry-most, head-most, head-good, table-good}
 use Rattle.files.specs.declared.NextStore.{NextStore}
@@ -27,21 +30,32 @@ use Rattle.files.specs.declared.NextStore.the-variants as store
 use Rattle.files.specs.Storing.{storeRoom, fileFrom, StoreReady, StoreWrites, StoreRefuses, StoresNext, Storings, wrote, done, StoreAnswers}
 use Rattle.files.proofs.RunLaws.{given-out}
 
+-- the line of an entry, if it stands, and the lines of those behind it that stand
+lines-next : (now : ℕ) (e : Entry) (es : List Entry) → entryLines form1 (standing now (e ∷ es)) ≡ lineOf form1 now e ++ entryLines form1 (standing now es)
+unfolding entryLines without lineOf
+lines-next now e es = go (expired now e)
+  where
+    go : (b : Bool) → entryLines form1 (cond b (standing now es) (e ∷ standing now es)) ≡ cond b [] (line (entryLine form1 .enc e)) ++ entryLines form1 (standing now es)
+    go true = refl
+    go false = refl
+
 module _ (st : State) where
   -- a line, and the lines behind it
   from-next : (i : ℕ) → i ≤ length (st .entries) → fileFrom st i ≡ lineAt form1 st i ++ fileFrom st (i + 1)
-  unfolding fileFrom lineAt file entryLines
+  unfolding fileFrom lineAt file linesOf
   from-next zero h = refl
-  from-next (suc k) h = rw (lt-ltb k (length (st .entries)) h, add-one, drop-cons (st .entries) k (entry [] [] 0 0) h)
+  from-next (suc k) h =
+      rw (lt-ltb k (length (st .entries)) h, add-one, drop-cons (st .entries) k (entry [] [] 0 0) h)
+      (lines-next (st .history .latest) (getD (st .entries) k (entry [] [] 0 0)) (drop (suc k) (st .entries)))
 
   from-none : (i : ℕ) → length (st .entries) < i → fileFrom st i ≡ []
-  unfolding fileFrom entryLines
+  unfolding fileFrom entryLines without
   from-none zero h = absurd (omega arith)
   from-none (suc k) h = rw (drop-of-length-le (st .entries) {i = k} (omega arith))
 
   -- a line has at most 678 characters and its line end
   line-room : (i : ℕ) → IsTable st → i ≤ length (st .entries) → length (lineAt form1 st i) ≤ storeRoom
-  unfolding lineAt
+  unfolding lineAt lineOf
   line-room zero h l =
       omega (arith, line-length (headLine form1 .enc (st .last)), head-most form1 .most (st .last) (head-good form1 (st .last) (omega (arith, h .last))))
   line-room (suc k) h l =
@@ -49,7 +63,9 @@ module _ (st : State) where
       let v : Valid (entryLine form1) e =
       each-mid (λ e. Valid (entryLine form1) e) (take k (st .entries)) e (drop (suc k) (st .entries))
       (subst (Each (λ e. Valid (entryLine form1) e)) (split-at (st .entries) k (entry [] [] 0 0) l) (table-good form1 st h)) in
-      rw (lt-ltb k (length (st .entries)) l) (omega (arith, line-length (entryLine form1 .enc e), entry-most form1 .most e v))
+      rw (lt-ltb k (length (st .entries)) l)
+      (pick (λ (s : List ℕ). length s ≤ storeRoom) (expired (st .history .latest) e) (λ q. omega arith)
+      (omega (arith, line-length (entryLine form1 .enc e), entry-most form1 .most e v)))
 
 -- between two lines: those from `line` up to i stand at the front of the output
 pub record Laid (t old : List ℕ) (line : ℕ) (out : List ℕ) (at i : ℕ) : Type 0 where

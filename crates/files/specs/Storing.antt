@@ -6,6 +6,7 @@ use Prim.Native.Nat.{ℕ, zero, suc, _+_, _≤_, _<_}
 use lib.ListN.{length, take, drop}
 use lib.Seq.{sets}
 use Rattle.map.specs.State.{State}
+use Rattle.map.specs.Deadline.{standing}
 use Rattle.table.specs.Memory.{stateOf, Sound}
 use Rattle.stored.specs.File.{form1, entryLines, file}
 use Rattle.files.specs.declared.NextStore.{NextStore}
@@ -15,10 +16,10 @@ use Rattle.files.specs.declared.NextStore.the-variants as store
 abbrev pub storeRoom : ℕ
 storeRoom = 679
 
--- a stored file from line i on: line 0 is the first one, line i + 1 that of entry i
+-- a stored file from line i on: line 0 is the first one, line i + 1 that of entry i, which one that has expired at the latest second does not have
 unfoldable pub fileFrom : State → ℕ → List ℕ
 fileFrom st zero = file form1 st
-fileFrom st (suc k) = entryLines form1 (drop k (st .entries))
+fileFrom st (suc k) = entryLines form1 (standing (st .history .latest) (drop k (st .entries)))
 
 pub record StoreReady (t out : List ℕ) : Type 0 where
   pub room : storeRoom ≤ length out

@@ -11,11 +11,11 @@ use Rattle.map.specs.Plan.{Change, keep, store, drop, empty}
 use Rattle.map.specs.Step.{Context, Answer, Outcome, refused, answered, lastVersion, stored, dropped, emptied, full, planned, answer, act, core, arrive, step}
 
 -- the state behind a change
-unfoldable pub changed : Context → Request → State → Change → State
-changed c r st keep = st
-changed c r st store = stored c r st
-changed c r st drop = dropped r st
-changed c r st empty = emptied st
+unfoldable pub changed : Request → State → Change → State
+changed r st keep = st
+changed r st store = stored r st
+changed r st drop = dropped r st
+changed r st empty = emptied st
 
 -- what is refused is not answered
 unless : {a : Answer} {t : State} (b : Bool) (k : ℕ) (o : Outcome) → cond b (refused k) o ≡ answered a t → (b ≡ false) × (o ≡ answered a t)
@@ -29,10 +29,10 @@ if false k o e = never (cc)
 module _ (c : Context) (r : Request) (st : State) (a : Answer) (t : State) where
   pub record Did (b : Answer) (d : Change) : Type 0 where
     pub same : a ≡ b
-    pub state : t ≡ changed c r st d
+    pub state : t ≡ changed r st d
     pub room : d ≡ store → (full r st ≡ false) × (st .last < lastVersion)
 
-  act-did : (b : Answer) (d : Change) → act c r st b d ≡ answered a t → Did b d
+  act-did : (b : Answer) (d : Change) → act r st b d ≡ answered a t → Did b d
   unfolding act changed
   act-did b keep e = record { same = cc; state = cc; room = λ q. never (cc) }
   act-did b drop e = record { same = cc; state = cc; room = λ q. never (cc) }

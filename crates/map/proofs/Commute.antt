@@ -13,11 +13,13 @@ use Rattle.message.specs.Value.{withValue}
 use Rattle.message.specs.declared.Form.{Form}
 use Rattle.message.specs.declared.Form.the-variants as form
 use Rattle.map.specs.State.{Entry, State, without}
+use Rattle.map.specs.Deadline.{deadline, expired}
 use Rattle.map.specs.Plan.{Change, keep, store, drop, empty}
 use Rattle.map.specs.Shown.{shows, listedBy}
-use Rattle.map.specs.Step.{Context, Answer, answered, lastVersion, deadline, entry, stored, dropped, emptied, isNone, names, held, versionOf, full, planned, statistics, answer, act, core, arrive, step}
+use Rattle.map.specs.Step.{Context, Answer, answered, lastVersion, entry, stored, dropped, emptied, isNone, names, held, versionOf, full, planned, statistics, answer, act, core, present, swept, noted, arrive, step}
 use Rattle.map.specs.Table.{Each}
 use Rattle.map.specs.Revalue.{entriesWith, stateWith, foundWith, shownWith, answerWith, outcomeWith, outcomeState}
+use Rattle.map.proofs.Each.{each-without}
 use Rattle.map.proofs.Answered.{changed, did}
 use Rattle.map.proofs.ListedLaws.{listed-with}
 use Rattle.map.proofs.Finding.{cond-of, find-with, without-with, length-with, append-with, fresh}
@@ -67,12 +69,12 @@ module _ (v : ℕ) (w : List ℕ) where
     unfolding dropped stateWith
     drops = rw (without-with v w (names r) (λ e. refl) (st .entries))
 
-    stored-with : v ≤ st .last → stored c r (stateWith v w st) ≡ stateWith v w (stored c r st)
+    stored-with : v ≤ st .last → stored r (stateWith v w st) ≡ stateWith v w (stored r st)
     unfolding stored stateWith entriesWith entry
     stored-with h =
         rw (without-with v w (names r) (λ e. refl) (st .entries), append-with, ne-eqb (suc (st .last)) v (λ q. omega arith))
 
-    act-with : v ≤ st .last → (a : Answer) (d : Change) → act c r (stateWith v w st) (answerWith v w a) d ≡ outcomeWith v w (act c r st a d)
+    act-with : v ≤ st .last → (a : Answer) (d : Change) → act r (stateWith v w st) (answerWith v w a) d ≡ outcomeWith v w (act r st a d)
     unfolding act outcomeWith emptied stateWith entriesWith
     act-with h a keep = refl
     act-with h a drop = ap (answered (answerWith v w a)) drops
@@ -85,13 +87,21 @@ module _ (v : ℕ) (w : List ℕ) where
     core-with h =
         rw (planned-with, answer-with, act-with h (answer c r st) (planned r st .change), cond-of (outcomeWith v w) (isEmpty (r .name)))
 
-    arrive-with : arrive c r (stateWith v w st) ≡ stateWith v w (arrive c r st)
-    unfolding arrive stateWith
-    arrive-with = rw (held-with, none-with)
+    swept-with : swept c (stateWith v w st) ≡ stateWith v w (swept c st)
+    unfolding swept stateWith expired
+    swept-with = rw (without-with v w (expired (present c st)) (λ e. refl) (st .entries))
+
+    noted-with : noted c r (stateWith v w st) ≡ stateWith v w (noted c r st)
+    unfolding noted stateWith
+    noted-with = rw (held-with, none-with)
+
+  arrive-with : (c : Context) (r : Request) (st : State) → arrive c r (stateWith v w st) ≡ stateWith v w (arrive c r st)
+  unfolding arrive
+  arrive-with c r st = rw (swept-with c r st) (noted-with c r (swept c st))
 
   -- a step commutes with another value for the entry of version v, if v was issued before it
   pub step-with : (c : Context) (r : Request) (st : State) → v ≤ st .last → step c r (stateWith v w st) ≡ outcomeWith v w (step c r st)
-  unfolding step arrive
+  unfolding step arrive noted swept
   step-with c r st h = rw (arrive-with c r st) (core-with c r (arrive c r st) h)
 
 -- the value of the request itself: the two outcomes differ in that of the entry of the next version
@@ -102,11 +112,11 @@ module _ (w : List ℕ) (c : Context) (r : Request) (st : State) (h : Each (λ e
   rest-there : entriesWith (suc (st .last)) w (without (names r) (st .entries)) ≡ without (names r) (st .entries)
   rest-there = sym (without-with (suc (st .last)) w (names r) (λ e. refl) (st .entries)) ∙ rw none-there
 
-  stores-value : stored c (withValue w r) st ≡ stateWith (suc (st .last)) w (stored c r st)
+  stores-value : stored (withValue w r) st ≡ stateWith (suc (st .last)) w (stored r st)
   unfolding stored stateWith entriesWith entry deadline
   stores-value = rw (append-with, rest-there, eq-eqb (suc (st .last)) (suc (st .last)) refl)
 
-  act-value : (a : Answer) (d : Change) → act c (withValue w r) st a d ≡ outcomeState (suc (st .last)) w (act c r st a d)
+  act-value : (a : Answer) (d : Change) → act (withValue w r) st a d ≡ outcomeState (suc (st .last)) w (act r st a d)
   unfolding act outcomeState stateWith entriesWith dropped emptied full held
   act-value a keep = rw none-there
   act-value a drop = rw rest-there
@@ -125,8 +135,8 @@ module _ (w : List ℕ) (c : Context) (r : Request) (st : State) (h : Each (λ e
 
 pub step-value : (w : List ℕ) (c : Context) (r : Request) (st : State) → Each (λ e. e .version ≤ st .last) (st .entries)
     → step c (withValue w r) st ≡ outcomeState (suc (st .last)) w (step c r st)
-unfolding step arrive held
-step-value w c r st h = core-value w c r (arrive c r st) h
+unfolding step arrive noted swept held
+step-value w c r st h = core-value w c r (arrive c r st) (each-without (expired (present c st)) (λ e. e .version ≤ st .last) (st .entries) h)
 
 -- the last version issued behind a change: only what is stored gets one
 abbrev lastBehind : Change → ℕ → ℕ
@@ -135,12 +145,12 @@ lastBehind store n = suc n
 lastBehind drop n = n
 lastBehind empty n = n
 
-last-changed : (c : Context) (r : Request) (st : State) (d : Change) → changed c r st d .last ≡ lastBehind d (st .last)
+last-changed : (r : Request) (st : State) (d : Change) → changed r st d .last ≡ lastBehind d (st .last)
 unfolding changed stored dropped emptied
-last-changed c r st keep = refl
-last-changed c r st store = refl
-last-changed c r st drop = refl
-last-changed c r st empty = refl
+last-changed r st keep = refl
+last-changed r st store = refl
+last-changed r st drop = refl
+last-changed r st empty = refl
 
 last-step : (n : ℕ) (d : Change) → (lastBehind d n ≡ n) ⊎ (lastBehind d n ≡ suc n)
 last-step n keep = inl refl
@@ -150,10 +160,10 @@ last-step n empty = inl refl
 
 module _ (c : Context) (r : Request) (st : State) (a : Answer) (t : State) (e : step c r st ≡ answered a t) where
   -- a step that is answered issues a version if it stores, and none if it removes, clears or keeps
-  pub issues-by : t .last ≡ lastBehind (planned r st .change) (st .last)
-  unfolding arrive planned held
-  issues-by = rw (did c r st a t e .state) (last-changed c r (arrive c r st) (planned r st .change))
+  pub issues-by : t .last ≡ lastBehind (planned r (arrive c r st) .change) (st .last)
+  unfolding arrive noted swept
+  issues-by = rw (did c r st a t e .state) (last-changed r (arrive c r st) (planned r (arrive c r st) .change))
 
   -- so it issues none, or the next one
   pub issues : (t .last ≡ st .last) ⊎ (t .last ≡ suc (st .last))
-  issues = rw issues-by (last-step (st .last) (planned r st .change))
+  issues = rw issues-by (last-step (st .last) (planned r (arrive c r st) .change))

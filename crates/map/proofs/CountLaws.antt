@@ -20,9 +20,9 @@ use Rattle.map.specs.History.{countsHeld, mostCount, onward, is, adds, m
 use Rattle.map.specs.State.{Entry, State, fresh, find, without}
 use Rattle.map.specs.Plan.{Change, keep, store, drop, empty, plans, plan}
 use Rattle.map.specs.Shown.{shows, counted}
-use Rattle.map.specs.Step.{Context, Answer, Outcome, refused, answered, entry, stored, dropped, emptied, isNone, names, held, versionOf, planned, statistics, answer, arrive, step, stateAfter, run}
+use Rattle.map.specs.Step.{Context, Answer, Outcome, refused, answered, entry, stored, dropped, emptied, isNone, names, held, versionOf, planned, statistics, answer, present, swept, noted, arrive, step, stateAfter, run}
 use Rattle.map.specs.Table.{Counts}
-use Rattle.map.specs.Counted.{says, number, ends, atMost}
+use Rattle.map.specs.Counted.{says, absentAt, number, ends, atMost}
 use Rattle.map.proofs.Each.{each-left}
 use Rattle.map.proofs.Answered.{changed, did}
 use Rattle.map.proofs.Counting.{marked-at, arrive-counts}
@@ -36,12 +36,12 @@ after store b = false
 after drop b = true
 after empty b = true
 
-gone-after : (c : Context) (r : Request) (st : State) (d : Change) → isNone (held r (changed c r st d)) ≡ after d (isNone (held r st))
+gone-after : (r : Request) (st : State) (d : Change) → isNone (held r (changed r st d)) ≡ after d (isNone (held r st))
 unfolding changed stored dropped emptied held find entry
-gone-after c r st keep = refl
-gone-after c r st store = rw (find-stored (r .args .key) (st .entries) (entry c r (suc (st .last))), same-refl (r .args .key))
-gone-after c r st drop = ap isNone (find-none (names r) (without (names r) (st .entries)) (each-left (names r) (st .entries)))
-gone-after c r st empty = refl
+gone-after r st keep = refl
+gone-after r st store = rw (find-stored (r .args .key) (st .entries) (entry (st .history .latest) r (suc (st .last))), same-refl (r .args .key))
+gone-after r st drop = ap isNone (find-none (names r) (without (names r) (st .entries)) (each-left (names r) (st .entries)))
+gone-after r st empty = refl
 
 -- what an answer of a status says
 abbrev saysOf : Operation → ℕ → Bool → Bool → List Bool
@@ -92,36 +92,37 @@ none-version none = refl
 none-version (some e) = refl
 
 -- a change keeps the history, so behind a step that is answered it is the one with which the call came
-history-changed : (c : Context) (r : Request) (st : State) (d : Change) → changed c r st d .history ≡ st .history
+history-changed : (r : Request) (st : State) (d : Change) → changed r st d .history ≡ st .history
 unfolding changed stored dropped emptied
-history-changed c r st keep = refl
-history-changed c r st store = refl
-history-changed c r st drop = refl
-history-changed c r st empty = refl
+history-changed r st keep = refl
+history-changed r st store = refl
+history-changed r st drop = refl
+history-changed r st empty = refl
 
 module _ (c : Context) (r : Request) (st : State) (a : Answer) (t : State) (e : step c r st ≡ answered a t) where
   history-step : t .history ≡ arrive c r st .history
-  history-step = rw (did c r st a t e .state) (history-changed c r (arrive c r st) (planned r (arrive c r st) .change))
+  history-step = rw (did c r st a t e .state) (history-changed r (arrive c r st) (planned r (arrive c r st) .change))
 
-  answer-says : says (r .op) (answered a t) (isNone (held r st)) (isNone (held r t)) ≡ adds (r .op) (isNone (held r st))
-  unfolding says arrive answer planned held
+  -- its present second is the latest one, and nothing but what stands then is held
+  pub latest-step : t .history .latest ≡ present c st
+  unfolding arrive noted swept
+  latest-step = rw history-step
+
+  answer-says : says (r .op) (answered a t) (absentAt (t .history .latest) r st) (isNone (held r t)) ≡ adds (r .op) (isNone (held r (swept c st)))
+  unfolding says answer planned held arrive noted swept
   answer-says =
       let d = did c r st a t e in
-      let x = planned r st in
-      rw (d .same, d .state, gone-after c r (arrive c r st) (x .change))
-      (rw (none-version (held r st)) at (plan-says (r .op) (r .args .entryVersion) (versionOf (held r st))))
+      let x = arrive c r st in
+      rw (latest-step, d .same, d .state, gone-after r x (planned r x .change))
+      (rw (none-version (held r x)) at (plan-says (r .op) (r .args .entryVersion) (versionOf (held r x))))
 
 -- what is refused counts nowhere
 abbrev nowhere : List Bool
 nowhere = false ∷ false ∷ false ∷ false ∷ false ∷ false ∷ false ∷ []
 
-both-false : (b : Bool) → (b && not b) ≡ false
-both-false true = refl
-both-false false = refl
-
-refused-says : (o : Operation) (k : ℕ) (b : Bool) → says o (refused k) b b ≡ nowhere
+refused-says : (o : Operation) (k : ℕ) (before after : Bool) → says o (refused k) before after ≡ nowhere
 unfolding says
-refused-says o k b = rw (both-false b, and-false (is Put o), and-false (is Get o), and-false (is Remove o))
+refused-says o k before after = rw (and-false (is Put o), and-false (is Get o), and-false (is Remove o))
 
 nowhere-at : (i : ℕ) → getD nowhere i false ≡ false
 nowhere-at zero = refl
@@ -158,16 +159,16 @@ step-sum false n k h = refl
 module _ (i : ℕ) (l : i < countsHeld) (c : Context) (r : Request) (st : State) (s : Counts (st .history)) where
   at-step : (o : Outcome) → step c r st ≡ o → (k : ℕ)
       → atMost mostCount (getD (stateAfter st o .history .counts) i 0 + k)
-      ≡ atMost mostCount (getD (st .history .counts) i 0 + cond (getD (says (r .op) o (isNone (held r st)) (isNone (held r (stateAfter st o)))) i false) (suc k) k)
-  unfolding arrive tally
-  at-step (refused j) e k = rw (refused-says (r .op) j (isNone (held r st)), nowhere-at i)
+      ≡ atMost mostCount (getD (st .history .counts) i 0 + cond (getD (says (r .op) o (absentAt (stateAfter st o .history .latest) r st) (isNone (held r (stateAfter st o)))) i false) (suc k) k)
+  unfolding arrive noted swept tally
+  at-step (refused j) e k = rw (refused-says (r .op) j, nowhere-at i)
   at-step (answered a t) e k =
       rw (
         answer-says c r st a t e,
         history-step c r st a t e,
-        marked-at (adds (r .op) (isNone (held r st))) (st .history .counts) i (omega (arith, s .long)),
+        marked-at (adds (r .op) (isNone (held r (swept c st)))) (st .history .counts) i (omega (arith, s .long)),
       )
-      (step-sum (getD (adds (r .op) (isNone (held r st))) i false) (getD (st .history .counts) i 0) k (s .most i))
+      (step-sum (getD (adds (r .op) (isNone (held r (swept c st)))) i false) (getD (st .history .counts) i 0) k (s .most i))
 
 counts-after : (c : Context) (r : Request) (st : State) → Counts (st .history) → (o : Outcome) → step c r st ≡ o → Counts (stateAfter st o .history)
 counts-after c r st s (refused k) e = s
@@ -197,9 +198,9 @@ adds-split o absent h m = go (is Get o) absent
     go false b = refl
 
 says-split : (c : Context) (r : Request) (st : State) (o : Outcome) → step c r st ≡ o
-    → Split (says (r .op) o (isNone (held r st)) (isNone (held r (stateAfter st o))))
-says-split c r st (refused k) e h m = rw (refused-says (r .op) k (isNone (held r st)))
-says-split c r st (answered a t) e h m = rw (answer-says c r st a t e) (adds-split (r .op) (isNone (held r st)) h m)
+    → Split (says (r .op) o (absentAt (stateAfter st o .history .latest) r st) (isNone (held r (stateAfter st o))))
+says-split c r st (refused k) e h m = rw (refused-says (r .op) k)
+says-split c r st (answered a t) e h m = rw (answer-says c r st a t e) (adds-split (r .op) (isNone (held r (swept c st))) h m)
 
 number-split : (xs : List (Context × Request)) (st : State) → number hits st (run xs st) + number misses st (run xs st) ≡ number retrievals st (run xs st)
 unfolding run number
@@ -208,7 +209,7 @@ number-split (x ∷ xs) st =
     let o = step (x .0) (x .1) st in
     let t = stateAfter st o in
     says-split (x .0) (x .1) st o refl (number hits t (run xs t)) (number misses t (run xs t))
-    ∙ ap (λ (n : ℕ). cond (getD (says (x .1 .op) o (isNone (held (x .1) st)) (isNone (held (x .1) t))) retrievals false) (suc n) n) (number-split xs t)
+    ∙ ap (λ (n : ℕ). cond (getD (says (x .1 .op) o (absentAt (t .history .latest) (x .1) st) (isNone (held (x .1) t))) retrievals false) (suc n) n) (number-split xs t)
 
 abbrev at : ℕ → State → ℕ
 at i st = getD (st .history .counts) i 0
@@ -260,8 +261,8 @@ marked-none (suc n) [] = refl
 marked-none (suc n) (x ∷ ns) = ap (λ (l : List ℕ). x ∷ l) (marked-none n ns)
 
 module _ (c : Context) (r : Request) (st : State) (a : Answer) (t : State) (e : step c r st ≡ answered a t) where
-  same-counts : adds (r .op) (isNone (held r st)) ≡ replicate countsHeld false → t .history .counts ≡ st .history .counts
-  unfolding arrive tally
+  same-counts : adds (r .op) (isNone (held r (swept c st))) ≡ replicate countsHeld false → t .history .counts ≡ st .history .counts
+  unfolding arrive noted swept tally
   same-counts h = rw (history-step c r st a t e, h) (marked-none countsHeld (st .history .counts))
 
   pub clear-counts : r .op ≡ Clear → t .history .counts ≡ st .history .counts
@@ -284,7 +285,7 @@ module _ (c : Context) (r : Request) (st : State) (a : Answer) (t : State) (e : 
 
   -- "the first call served": the first one that is answered
   pub first-step : t .history .first ≡ some (startOf (st .history .first) (c .second))
-  unfolding arrive
+  unfolding arrive noted swept
   first-step = rw (history-step c r st a t e)
 
 -- "timeSinceStart is the call's second less that of the first call served, 0 if it is that call or the clock went back"
@@ -293,11 +294,11 @@ timeIn ns = getD ns 0 0
 
 module _ (c : Context) (r : Request) (st : State) where
   pub time-first : st .history .first ≡ none → timeIn (statistics c (arrive c r st)) ≡ 0
-  unfolding statistics arrive
+  unfolding statistics arrive noted swept
   time-first e = rw e (omega arith)
 
   pub time-since : (f : ℕ) → st .history .first ≡ some f → timeIn (statistics c (arrive c r st)) ≡ c .second - f
-  unfolding statistics arrive
+  unfolding statistics arrive noted swept
   time-since f e = rw e
 
 first-after : (f : ℕ) (c : Context) (r : Request) (st : State) (o : Outcome) → step c r st ≡ o → st .history .first ≡ some f → stateAfter st o .history .first ≡ some f

@@ -1,19 +1,22 @@
--- What a step counts. Assumes nothing.
+-- What a call that is served counts, and that it leaves a table one. Assumes nothing.
 use mathlib.Core.Path.{_≡_, refl, ap}
 use mathlib.Core.List.{List, [], _∷_}
-use mathlib.Core.Bool.{Bool, true, false, cond}
+use mathlib.Core.Bool.{Bool, false, cond}
+use mathlib.Core.Option.{Option, none, some}
 use Prim.Native.Nat.{ℕ, zero, suc, _≤_, _<_}
+use native.Mathlib.Nat.{max-le}
 use native.Mathlib.Omega.{arith}
 use lib.ListN.{length, getD}
 use lib.Dec.{ltb}
 use borrow.Author.Tests.{ltb-true}
 use Rattle.wire.proofs.Basics.{pick}
-use Rattle.message.specs.declared.Operation.{Operation}
 use Rattle.message.specs.Request.{Request}
-use Rattle.map.specs.History.{History, mostCount, onward, adds, marked, tally}
+use Rattle.map.specs.History.{mostCount, onward, adds, marked, tally, startOf}
 use Rattle.map.specs.State.{State}
-use Rattle.map.specs.Step.{Context, isNone, held, arrive}
-use Rattle.map.specs.Table.{Counts, IsTable}
+use Rattle.map.specs.Deadline.{expired}
+use Rattle.map.specs.Step.{Context, isNone, held, present, swept, noted, arrive}
+use Rattle.map.specs.Table.{Sizes, OtherKey, OtherVersion, Issued, Counts, lastSecond, Seconds, IsTable}
+use Rattle.map.proofs.Each.{fewer, each-without, pairs-without}
 
 abbrev Within : ℕ → Type 0
 Within n = n ≤ mostCount
@@ -44,25 +47,41 @@ marked-at (b ∷ bs) [] i h = absurd (omega arith)
 marked-at (b ∷ bs) (n ∷ ns) zero h = refl
 marked-at (b ∷ bs) (n ∷ ns) (suc i) h = marked-at bs ns i (omega arith)
 
--- so a call that comes leaves the counts those of a table, and a table one
+-- so a call that comes leaves the counts those of a table
 pub arrive-counts : (c : Context) (r : Request) (st : State) → Counts (st .history) → Counts (arrive c r st .history)
-unfolding arrive tally
+unfolding arrive noted swept tally
 arrive-counts c r st s =
-    let bs = adds (r .op) (isNone (held r st)) in
+    let bs = adds (r .op) (isNone (held r (swept c st))) in
     record {
       long = rw (marked-long bs (st .history .counts)) (s .long);
       most = marked-most bs (st .history .counts) (s .most);
     }
 
-pub arrive-table : (c : Context) (r : Request) (st : State) → IsTable st → IsTable (arrive c r st)
-unfolding arrive
-arrive-table c r st s =
-    record {
-      few = s .few;
-      keys = s .keys;
-      sizes = s .sizes;
-      versions = s .versions;
-      issued = s .issued;
-      last = s .last;
-      counts = arrive-counts c r st (s .counts);
-    }
+-- its seconds too, at a second within its range
+module _ (c : Context) (r : Request) (st : State) (h : c .second < 0x1_0000_0000) where
+  present-most : Seconds (st .history) → present c st ≤ lastSecond
+  present-most s = max-le (omega arith) (s .latest)
+
+  arrive-seconds : Seconds (st .history) → Seconds (arrive c r st .history)
+  unfolding arrive noted swept
+  arrive-seconds s = record { first = go (st .history .first) (s .first); latest = present-most s }
+    where
+      go : (o : Option ℕ) → startOf o 0 ≤ lastSecond → startOf o (c .second) ≤ lastSecond
+      go none q = omega arith
+      go (some n) q = q
+
+  -- and a table one
+  pub arrive-table : IsTable st → IsTable (arrive c r st)
+  unfolding arrive noted swept
+  arrive-table s =
+      let p = expired (present c st) in
+      record {
+        few = omega (arith, fewer p (st .entries), s .few);
+        keys = pairs-without p OtherKey (st .entries) (s .keys);
+        sizes = each-without p Sizes (st .entries) (s .sizes);
+        versions = pairs-without p OtherVersion (st .entries) (s .versions);
+        issued = each-without p (Issued (st .last)) (st .entries) (s .issued);
+        last = s .last;
+        counts = arrive-counts c r st (s .counts);
+        seconds = arrive-seconds (s .seconds);
+      }

@@ -3,7 +3,8 @@ use mathlib.Core.Path.{_≡_, refl, ap, subst, subst₂, _∙_}
 use mathlib.Core.List.{List, [], _∷_, _++_, List·Permᴰ as Perm, List·Permᴰ·nil as nil, List·Permᴰ·cons as cons, List·Permᴰ·swap as swap, List·Permᴰ·trans as trans}
 use mathlib.Core.Bool.{Bool, true, false, cond}
 use mathlib.Core.Option.{Option, none, some}
-use Prim.Native.Nat.{suc}
+use Prim.Native.Nat.{suc, _≤_, zero-le, suc-le-suc}
+use native.Mathlib.Omega.{arith}
 use lib.ListN.{length}
 use Rattle.wire.proofs.Basics.{pick}
 use Rattle.map.specs.State.{Entry, find, without}
@@ -41,6 +42,17 @@ module _ (p : Entry → Bool) where
   unfolding without
   pairs-without R [] h = tt
   pairs-without R (e ∷ es) h = let g = pairs-without R es (h .1) in pick (Pairs R) (p e) (λ q. g) (each-without (R e) es (h .0), g)
+
+  -- none is dropped where none passes the test
+  pub without-none : (es : List Entry) → Each (λ e. p e ≡ false) es → without p es ≡ es
+  unfolding without
+  without-none [] h = refl
+  without-none (e ∷ es) h = rw (h .0, without-none es (h .1))
+
+  pub fewer : (es : List Entry) → length (without p es) ≤ length es
+  unfolding without
+  fewer [] = zero-le
+  fewer (e ∷ es) = let g = fewer es in pick (λ (l : List Entry). length l ≤ suc (length es)) (p e) (λ q. omega arith) (suc-le-suc g)
 
   -- none that is left passes the test
   pub each-left : (es : List Entry) → Each (λ e. p e ≡ false) (without p es)

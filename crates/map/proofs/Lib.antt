@@ -1,5 +1,6 @@
 pub mod Each
 pub mod Finding
+pub mod Standing
 pub mod SortedLaws
 pub mod Answered
 pub mod ListedLaws
@@ -8,6 +9,8 @@ pub mod Commute
 pub mod Laws
 pub mod Deadline
 pub mod CountLaws
+pub mod Expiry
+pub mod ExpiryCases
 pub mod Keeps
 pub mod Order
 pub mod Sent

@@ -17,7 +17,7 @@ use Rattle.map.specs.State.{Entry, State}
 use Rattle.map.specs.Plan.{plans, plan}
 use Rattle.map.specs.Shown.{listed, shows, older, byVersion, wanted, lowest, listedBy}
 use Rattle.map.specs.Step.{Context, Answer, answered, planned, answer, arrive, step}
-use Rattle.map.specs.Table.{Each, OtherVersion, IsTable, Ascending}
+use Rattle.map.specs.Table.{Each, Pairs, OtherVersion, IsTable, Ascending}
 use Rattle.map.specs.Order.{SameState}
 use Rattle.map.specs.Revalue.{entriesWith, stateWith}
 use Rattle.map.proofs.Each.{pairs-map, same-each, same-length}
@@ -58,10 +58,10 @@ module _ (r : Request) where
       rw (sorted-with older v w (λ e f. refl) (st .entries), take-with v w (wanted r) (byVersion (st .entries)), cond-of (entriesWith v w) (eqb (wanted r) 0))
 
   -- nor at the order of the entries
-  pub same-listed : (st us : State) → SameState st us → IsTable st → listedBy r st ≡ listedBy r us
+  pub same-listed : (st us : State) → SameState st us → Pairs OtherVersion (st .entries) → listedBy r st ≡ listedBy r us
   unfolding listedBy
   same-listed st us s h =
-      ap (lowest (wanted r)) (same-sorted older onward (s .entries) (pairs-map OtherVersion (Apart older) apart (st .entries) (h .versions)))
+      ap (lowest (wanted r)) (same-sorted older onward (s .entries) (pairs-map OtherVersion (Apart older) apart (st .entries) h))
 
   module _ (st : State) where
     -- a table's entries ascend, and so are listed as they stand
@@ -114,9 +114,9 @@ module _ (r : Request) where
         pick (λ (es : List Entry). length es ≤ length (st .entries)) (eqb (wanted r) 0) (λ e. omega (arith, long))
         (omega (arith, length-take (wanted r) (byVersion (st .entries)), long))
 
--- what the reply to a bulk request shows
+-- what the reply to a bulk request shows: "An entry whose deadline .. counts as absent for every .. listing"
 pub bulk-shown : (c : Context) (r : Request) (st : State) (a : Answer) (t : State) → step c r st ≡ answered a t
-    → (values : Bool) → r .op ≡ bulkOperation values → a .shown ≡ listed values (listedBy r st)
-unfolding answer planned plan plans shows bodyAt arrive listedBy
+    → (values : Bool) → r .op ≡ bulkOperation values → a .shown ≡ listed values (listedBy r (arrive c r st))
+unfolding answer planned plan plans shows bodyAt
 bulk-shown c r st a t e true q = rw (did c r st a t e .same, q)
 bulk-shown c r st a t e false q = rw (did c r st a t e .same, q)

@@ -7,14 +7,14 @@ use Prim.Native.Nat.{ℕ}
 use lib.Dec.{ltb}
 use Rattle.message.specs.Request.{Request, isEmpty}
 use Rattle.map.specs.State.{Entry, State, find, without, hasKey}
+use Rattle.map.specs.Deadline.{expired}
 use Rattle.map.specs.Plan.{Change, keep, store, drop, empty}
-use Rattle.map.specs.Step.{Context, Answer, Outcome, lastVersion, stored, dropped, emptied, names, held, full, planned, statistics, answer, act, core, arrive, step}
-use Rattle.map.specs.Table.{Pairs, OtherKey, IsTable}
+use Rattle.map.specs.Step.{Context, Answer, Outcome, lastVersion, stored, dropped, emptied, names, held, full, planned, statistics, answer, act, core, present, swept, noted, arrive, step}
+use Rattle.map.specs.Table.{Pairs, OtherKey, OtherVersion, IsTable}
 use Rattle.map.specs.Order.{SameState, SameOutcome}
 use Rattle.wire.proofs.SameLaws.{same-true}
-use Rattle.map.proofs.Each.{same-pairs, same-length}
+use Rattle.map.proofs.Each.{pairs-without, same-pairs, same-length}
 use Rattle.map.proofs.ListedLaws.{same-listed}
-use Rattle.map.proofs.Counting.{arrive-table}
 
 without-cons : (b : Bool) (e : Entry) {es fs : List Entry} → Perm es fs → Perm (cond b es (e ∷ es)) (cond b fs (e ∷ fs))
 without-cons true e s = s
@@ -62,10 +62,10 @@ same-if : (b : Bool) (x y u v : Outcome) → SameOutcome x u → SameOutcome y v
 same-if true x y u v p q = p
 same-if false x y u v p q = q
 
-module _ (c : Context) (r : Request) (st us : State) (s : SameState st us) (h : IsTable st) where
+module _ (c : Context) (r : Request) (st us : State) (s : SameState st us) (keys : Pairs OtherKey (st .entries)) (versions : Pairs OtherVersion (st .entries)) where
   same-held : held r st ≡ held r us
   unfolding held
-  same-held = same-find (r .args .key) (s .entries) (h .keys)
+  same-held = same-find (r .args .key) (s .entries) keys
 
   same-full : full r st ≡ full r us
   unfolding full
@@ -81,16 +81,16 @@ module _ (c : Context) (r : Request) (st us : State) (s : SameState st us) (h : 
 
   same-answer : answer c r st ≡ answer c r us
   unfolding answer
-  same-answer = rw (same-planned, same-held, same-statistics, same-listed r st us s h)
+  same-answer = rw (same-planned, same-held, same-statistics, same-listed r st us s versions)
 
   same-rest : Perm (without (names r) (st .entries)) (without (names r) (us .entries))
   same-rest = same-without (names r) (s .entries)
 
-  same-stored : SameState (stored c r st) (stored c r us)
+  same-stored : SameState (stored r st) (stored r us)
   unfolding stored
-  same-stored = rw (s .last) (record { entries = Permᴰ·append-right _ same-rest; last = refl; history = s .history })
+  same-stored = rw (s .last, s .history) (record { entries = Permᴰ·append-right _ same-rest; last = refl; history = refl })
 
-  same-act : (a : Answer) (d : Change) → SameOutcome (act c r st a d) (act c r us a d)
+  same-act : (a : Answer) (d : Change) → SameOutcome (act r st a d) (act r us a d)
   unfolding act dropped emptied
   same-act a keep = (refl, s)
   same-act a drop = (refl, record { entries = same-rest; last = s .last; history = s .history })
@@ -104,10 +104,19 @@ module _ (c : Context) (r : Request) (st us : State) (s : SameState st us) (h : 
   unfolding core
   core-order = rw (same-planned, same-answer) (same-if (isEmpty (r .name)) _ _ _ _ (same-act (answer c r us) (planned r us .change)) refl)
 
-  same-arrive : SameState (arrive c r st) (arrive c r us)
-  unfolding arrive
-  same-arrive = rw (same-held, s .history) (record { entries = s .entries; last = s .last; history = refl })
+  same-noted : SameState (noted c r st) (noted c r us)
+  unfolding noted
+  same-noted = rw (same-held, s .history) (record { entries = s .entries; last = s .last; history = refl })
+
+module _ (c : Context) (st us : State) (s : SameState st us) where
+  same-swept : SameState (swept c st) (swept c us)
+  unfolding swept
+  same-swept = rw (s .history) (record { entries = same-without (expired (present c us)) (s .entries); last = s .last; history = refl })
 
 pub order : (c : Context) (r : Request) (st us : State) → SameState st us → IsTable st → SameOutcome (step c r st) (step c r us)
-unfolding step
-order c r st us s h = core-order c r (arrive c r st) (arrive c r us) (same-arrive c r st us s h) (arrive-table c r st h)
+unfolding step arrive noted swept
+order c r st us s h =
+    let p = expired (present c st) in
+    let keys = pairs-without p OtherKey (st .entries) (h .keys) in
+    let versions = pairs-without p OtherVersion (st .entries) (h .versions) in
+    core-order c r (arrive c r st) (arrive c r us) (same-noted c r (swept c st) (swept c us) (same-swept c st us s) keys versions) keys versions

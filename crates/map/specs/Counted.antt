@@ -1,4 +1,4 @@
--- What each count is the number of, over the steps of a run (document 02, C-11). The law `counts-run` holds the map's counts to it.
+-- What each count is the number of, over the steps of a run (document 02, C-11 and C-15). The law `counts-run` holds the map's counts to it.
 use mathlib.Core.List.{List, [], _∷_}
 use mathlib.Core.Bool.{Bool, true, false, cond, not, _&&_}
 use Prim.Native.Nat.{ℕ, suc}
@@ -7,8 +7,10 @@ use lib.Dec.{eqb, leb}
 use Rattle.message.specs.declared.Operation.{Operation}
 use Rattle.message.specs.declared.Operation.the-variants.{Put, Get, Remove}
 use Rattle.map.specs.History.{is}
-use Rattle.map.specs.State.{State}
-use Rattle.map.specs.Step.{Outcome, refused, answered, Taken, isNone, held}
+use Rattle.message.specs.Request.{Request}
+use Rattle.map.specs.State.{State, find}
+use Rattle.map.specs.Deadline.{standing}
+use Rattle.map.specs.Step.{Outcome, refused, answered, Taken, isNone, names, held}
 
 -- the outcome is an answer, and one of a status
 abbrev pub isAnswered : Outcome → Bool
@@ -19,11 +21,11 @@ abbrev pub answers : Outcome → ℕ → Bool
 answers (refused k) s = false
 answers (answered a st) s = eqb (a .status) s
 
--- Whether a step counts, for each count, by its operation, its outcome, and whether no entry had its key before and none has it after.
+-- Whether a step counts, for each count, by its operation, its outcome, and whether no entry that stood had its key before and none has it after.
 unfoldable pub says : Operation → Outcome → Bool → Bool → List Bool
 says o x before after =
     -- totalNumberOfEntries: "writes that added a key not held then"
-    (before && not after)
+    (isAnswered x && (before && not after))
     -- stores: "put requests answered 00"
     ∷ (is Put o && answers x 0x00)
     -- "retrievals get requests served"
@@ -36,8 +38,14 @@ says o x before after =
     ∷ (is Remove o && answers x 0x02)
     ∷ []
 
+-- whether no entry that stands at a second has the key
+abbrev pub absentAt : ℕ → Request → State → Bool
+absentAt now r st = isNone (find (names r) (standing now (st .entries)))
+
+-- behind a step that is answered the latest second is its present second
 abbrev pub saysAt : State → Taken → List Bool
-saysAt st x = says (x .request .op) (x .outcome) (isNone (held (x .request) st)) (isNone (held (x .request) (x .state)))
+saysAt st x =
+    says (x .request .op) (x .outcome) (absentAt (x .state .history .latest) (x .request) st) (isNone (held (x .request) (x .state)))
 
 -- how many steps of a run count at a place; the first state is the one before the run
 unfoldable pub number : ℕ → State → List Taken → ℕ

@@ -1,6 +1,6 @@
--- What the map counts (document 02, C-11): "the history since start or the last load".
+-- What the map keeps of the calls served (document 02, C-11 and C-15): "the history since start or the last load".
 use mathlib.Core.List.{List, [], _∷_}
-use mathlib.Core.Bool.{Bool, true, false, cond, not, _&&_, _||_}
+use mathlib.Core.Bool.{Bool, cond, not, _&&_, _||_}
 use mathlib.Core.Option.{Option, none, some}
 use Prim.Native.Nat.{ℕ, suc}
 use lib.Dec.{eqb, ltb}
@@ -8,9 +8,10 @@ use Rattle.message.specs.declared.Operation.{Operation}
 use Rattle.message.specs.declared.Operation.the-variants.{Put, Get, PutIfAbsent, Remove}
 use Rattle.message.specs.Operation.{codeOf}
 
--- the second of the first call served, if one was, and the counts in the order of document 000's list, from totalNumberOfEntries on
+-- the second of the first call served, if one was, the latest second served, and the counts in the order of document 000's list, from totalNumberOfEntries on
 pub record History : Type 0 where
   pub first : Option ℕ
+  pub latest : ℕ
   pub counts : List ℕ
 
 -- the places of the counts
@@ -38,9 +39,9 @@ removeMisses = 6
 abbrev pub countsHeld : ℕ
 countsHeld = 7
 
--- no call was served
+-- no call was served: "A loaded table starts from second 0", and so does a fresh one
 abbrev pub noHistory : History
-noHistory = record { first = none; counts = 0 ∷ 0 ∷ 0 ∷ 0 ∷ 0 ∷ 0 ∷ 0 ∷ [] }
+noHistory = record { first = none; latest = 0; counts = 0 ∷ 0 ∷ 0 ∷ 0 ∷ 0 ∷ 0 ∷ 0 ∷ [] }
 
 -- "All .. stop at the largest vLong."
 abbrev pub mostCount : ℕ

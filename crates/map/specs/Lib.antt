@@ -1,5 +1,6 @@
 pub mod History
 pub mod State
+pub mod Deadline
 pub mod Sorted
 pub mod Plan
 pub mod Shown
@@ -8,5 +9,6 @@ pub mod Table
 pub mod Counted
 pub mod Issued
 pub mod Reply
+pub mod Expiry
 pub mod Revalue
 pub mod Order

@@ -2,13 +2,14 @@
 use mathlib.Core.List.{List, [], _∷_, _++_}
 use mathlib.Core.Bool.{Bool, true, false, cond, _&&_}
 use mathlib.Core.Option.{Option, none, some}
-use Prim.Native.Nat.{ℕ, suc, _+_, _-_, _/_, _%_}
+use Prim.Native.Nat.{ℕ, suc, _-_, _%_, max}
 use lib.ListN.{length}
 use lib.Dec.{eqb, leb, ltb}
 use Rattle.message.specs.Request.{Request, isEmpty}
 use Rattle.message.specs.Reply.{formOf, bodyAt, allowed, table}
 use Rattle.map.specs.History.{tally, startOf}
 use Rattle.map.specs.State.{Entry, State, withEntries, withLast, withHistory, find, without, hasKey}
+use Rattle.map.specs.Deadline.{deadline, standing}
 use Rattle.map.specs.Plan.{Change, keep, store, drop, empty, Plan, plan}
 use Rattle.map.specs.Shown.{Shown, shows, listedBy}
 
@@ -33,34 +34,21 @@ pub data Outcome : Type 0 where
   refused : ℕ → Outcome
   answered : Answer → State → Outcome
 
--- flag 0x0001, and flag 0x0002
+-- flag 0x0001
 abbrev pub wantsOld : Request → Bool
 wantsOld r = eqb (r .flags % 2) 1
 
-abbrev pub noLifespan : Request → Bool
-noLifespan r = eqb (r .flags / 2 % 2) 1
-
--- "a lifespan above 30 days is a UNIX time"
-abbrev pub thirtyDays : ℕ
-thirtyDays = 2_592_000
-
--- "0 (none) if the lifespan is 0 or flag 0x0002 is set"; "Up to and including 2,592,000 the lifespan is added to the call's second; above it, the
--- lifespan itself is the deadline, even if that is past."
-unfoldable pub deadline : Context → Request → ℕ
-deadline c r =
-    let lifespan = r .args .lifespan in
-    cond (eqb lifespan 0) 0 (cond (noLifespan r) 0 (cond (leb lifespan thirtyDays) (c .second + lifespan) lifespan))
-
-unfoldable pub entry : Context → Request → ℕ → Entry
-entry c r version = record { key = r .args .key; value = r .args .value; version = version; deadline = deadline c r }
+-- the entry that a request writes at a present second
+unfoldable pub entry : ℕ → Request → ℕ → Entry
+entry now r version = record { key = r .args .key; value = r .args .value; version = version; deadline = deadline now r }
 
 -- what an entry is named by: the key
 abbrev pub names : Request → Entry → Bool
 names r = hasKey (r .args .key)
 
--- "'stored', or a put, sets the key's entry to the value, the next version and the deadline"
-unfoldable pub stored : Context → Request → State → State
-stored c r st = withLast (suc (st .last)) (withEntries (without (names r) (st .entries) ++ (entry c r (suc (st .last)) ∷ [])) st)
+-- "'stored', or a put, sets the key's entry to the value, the next version and the deadline"; the latest second is the present one (`arrive`)
+unfoldable pub stored : Request → State → State
+stored r st = withLast (suc (st .last)) (withEntries (without (names r) (st .entries) ++ (entry (st .history .latest) r (suc (st .last)) ∷ [])) st)
 
 -- "'removed' drops it"
 unfoldable pub dropped : Request → State → State
@@ -82,7 +70,7 @@ abbrev pub versionOf : Option Entry → Option ℕ
 versionOf none = none
 versionOf (some e) = some (e .version)
 
--- "10: the write would add a key and 128 are held"
+-- "10: the write would add a key and 128 are held"; "Refusal 10 counts only entries that still stand", and no others are left (`arrive`)
 unfoldable pub full : Request → State → Bool
 full r st = isNone (held r st) && leb mostKeys (length (st .entries))
 
@@ -102,31 +90,44 @@ answer c r st =
     }
 
 -- "11: the write would take effect and no version is left"
-unfoldable pub act : Context → Request → State → Answer → Change → Outcome
-act c r st a keep = answered a st
-act c r st a drop = answered a (dropped r st)
-act c r st a empty = answered a (emptied st)
-act c r st a store = cond (full r st) (refused 10) (cond (ltb (st .last) lastVersion) (answered a (stored c r st)) (refused 11))
+unfoldable pub act : Request → State → Answer → Change → Outcome
+act r st a keep = answered a st
+act r st a drop = answered a (dropped r st)
+act r st a empty = answered a (emptied st)
+act r st a store = cond (full r st) (refused 10) (cond (ltb (st .last) lastVersion) (answered a (stored r st)) (refused 11))
 
 -- "9: cache name not empty"
 unfoldable pub core : Context → Request → State → Outcome
-core c r st = cond (isEmpty (r .name)) (act c r st (answer c r st) (planned r st .change)) (refused 9)
+core c r st = cond (isEmpty (r .name)) (act r st (answer c r st) (planned r st .change)) (refused 9)
 
--- What a call that is served does before its step: it is counted, and it is the first one where none was served before.
-unfoldable pub arrive : Context → Request → State → State
-arrive c r st =
+-- "The present second is the greatest among this call's and those of earlier calls served."
+abbrev pub present : Context → State → ℕ
+present c st = max (c .second) (st .history .latest)
+
+-- "The simple map drops such entries before each step"
+unfoldable pub swept : Context → State → State
+swept c st = withEntries (standing (present c st) (st .entries)) st
+
+-- a call that is served is counted, is the first one where none was served before, and leaves its present second as the latest one
+unfoldable pub noted : Context → Request → State → State
+noted c r st =
     withHistory
     (record {
       first = some (startOf (st .history .first) (c .second));
+      latest = present c st;
       counts = tally (r .op) (isNone (held r st)) (st .history .counts);
     })
     st
+
+-- What a call that is served does before its step. It is counted by what stands.
+unfoldable pub arrive : Context → Request → State → State
+arrive c r st = noted c r (swept c st)
 
 -- A step. "A call refused isn't served": where the step is refused, the state stays the one before `arrive` (`stateAfter`).
 unfoldable pub step : Context → Request → State → Outcome
 step c r st = core c r (arrive c r st)
 
--- "A step refused 9, 10 or 11 changes nothing."
+-- "A step refused 9, 10 or 11 changes nothing"; "a refused step leaves the map and the latest second served as they were before it".
 abbrev pub stateAfter : State → Outcome → State
 stateAfter st (refused k) = st
 stateAfter st (answered a t) = t

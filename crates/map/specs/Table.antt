@@ -6,7 +6,7 @@ use Prim.Native.Nat.{ℕ, _≤_, _<_}
 use lib.ListN.{length, getD}
 use Rattle.wire.specs.Codec.{isBytes}
 use Rattle.message.specs.Request.{keyLimit, valueLimit}
-use Rattle.map.specs.History.{History, countsHeld, mostCount}
+use Rattle.map.specs.History.{History, countsHeld, mostCount, startOf}
 use Rattle.map.specs.State.{Entry, State}
 use Rattle.map.specs.Step.{mostKeys, lastVersion}
 
@@ -47,6 +47,16 @@ pub record Counts (h : History) : Type 0 where
   pub long : length (h .counts) ≡ countsHeld
   pub most : (i : ℕ) → getD (h .counts) i 0 ≤ mostCount
 
+-- "4,294,967,295", the greatest second
+abbrev pub lastSecond : ℕ
+lastSecond = 4_294_967_295
+
+-- the seconds of a table: "it or C-11's first second above 4,294,967,295 is 13"
+pub record Seconds (h : History) : Type 0 where
+  pub first : startOf (h .first) 0 ≤ lastSecond
+  pub latest : h .latest ≤ lastSecond
+
+-- of all entries, expired or not
 pub record IsTable (st : State) : Type 0 where
   -- "at most 128 keys are held"
   pub few : length (st .entries) ≤ mostKeys
@@ -60,6 +70,7 @@ pub record IsTable (st : State) : Type 0 where
   -- "that one within its limit"
   pub last : st .last ≤ lastVersion
   pub counts : Counts (st .history)
+  pub seconds : Seconds (st .history)
 
 -- the order in which a state lists its entries: versions ascend
 abbrev pub Ascending : List Entry → Type 0

@@ -1,22 +1,29 @@
 -- What is held says what the map finds. Assumes nothing.
-use mathlib.Core.Path.{_≡_, refl}
+use mathlib.Core.Path.{_≡_, refl, sym, ap, _∙_}
 use mathlib.Core.List.{List, [], _∷_}
 use mathlib.Core.Option.{Option, none, some}
+use mathlib.Core.Logic.{inl, inr}
 use Prim.Native.Nat.{ℕ}
 use types.Run.{OneOf, miss}
 use denote.Enum.Declared.{tagOf}
 use Rattle.field.specs.declared.EntryVersion.{EntryVersion}
-use Rattle.map.specs.State.{State}
+use Rattle.wire.proofs.Laws.{never}
+use Rattle.map.specs.State.{State, find, hasKey}
+use Rattle.map.specs.Deadline.{still}
+use Rattle.map.specs.Expiry.{Stands}
+use Rattle.map.specs.Table.{Each, Pairs, OtherKey}
+use Rattle.map.proofs.Standing.{stands-back, find-still}
 use Rattle.map.specs.Step.{versionOf}
-use Rattle.table.specs.Memory.{stateOf}
+use Rattle.table.specs.Memory.{entry, stateOf}
 use Rattle.table.specs.Found.{entryAt, FoundIs}
 use Rattle.table.specs.declared.Found.the-variants as f
 use Rattle.table.proofs.Keys.{found-held, found-none}
+use Rattle.table.proofs.Order.{each-at}
 use Rattle.plan.specs.declared.Held.{Held}
 use Rattle.plan.specs.declared.Held.the-variants as h
 use Rattle.plan.specs.declared.Change as code
 use Rattle.plan.specs.declared.Change.the-variants as c
-use Rattle.plan.specs.Plan.{Holds, asChange, heldVersion, heldAt, refusalOf}
+use Rattle.plan.specs.Plan.{Holds, HoldsAt, asChange, heldVersion, heldAt, standingAt, refusalOf}
 use Rattle.plan.proofs.Change as change-code
 
 module _ (t k : List ℕ) {x : Held} where
@@ -36,6 +43,25 @@ module _ (t k : List ℕ) {x : Held} where
 pub version-held : (t k : List ℕ) (x : Held) → Holds t k x → heldVersion x ≡ versionOf (heldAt t k)
 version-held t k (h.Row i w) g = rw (row-held t k {x = h.Row i w} refl g, g .1)
 version-held t k h.Absent g = rw (none-held t k {x = h.Absent} refl g)
+
+still-held : (now : ℕ) (t k : List ℕ) (x : Held) → HoldsAt now t k x → heldVersion x ≡ versionOf (still now (heldAt t k))
+still-held now t k (h.Row i w) g = rw (row-held t k {x = h.Row i w} refl (g .0), g .1, g .0 .1)
+still-held now t k h.Absent (inl g) = rw (none-held t k {x = h.Absent} refl g)
+still-held now t k h.Absent (inr g) = rw (found-held t k (g .0) (g .1), g .2)
+
+-- where each entry stands, what stands is what is held
+pub all-stand : (now : ℕ) (t k : List ℕ) (x : Held) → Each (Stands now) (stateOf t .entries) → HoldsAt now t k x → Holds t k x
+unfolding entryAt entry
+all-stand now t k (h.Row i v) s g = g .0
+all-stand now t k h.Absent s (inl g) = g
+all-stand now t k h.Absent s (inr g) =
+    let e = stands-back now (entryAt t (g .0)) (each-at (Stands now) (stateOf t .entries) (entry [] [] 0 0) (g .0) s (g .1 .0)) in
+    never (cc (g .2, e))
+
+-- where keys differ, the version is that of the entry that the map finds among those that stand
+pub version-stands : (now : ℕ) (t k : List ℕ) (x : Held) → Pairs OtherKey (stateOf t .entries) → HoldsAt now t k x
+    → heldVersion x ≡ versionOf (find (hasKey k) (standingAt now (stateOf t) .entries))
+version-stands now t k x p g = still-held now t k x g ∙ ap versionOf (sym (find-still k now (stateOf t .entries) p))
 
 -- what is held goes by the entries alone
 pub holds-same : (t u k : List ℕ) → stateOf u .entries ≡ stateOf t .entries → (x : Held) → Holds t k x → Holds u k x

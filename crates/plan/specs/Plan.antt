@@ -1,12 +1,14 @@
 -- What the code plans, by the meaning of it.
 use mathlib.Core.Path.{_≡_}
 use mathlib.Core.List.{List}
-use mathlib.Core.Bool.{Bool, cond, _&&_}
+use mathlib.Core.Bool.{Bool, true, false, cond, _&&_}
+use mathlib.Core.Logic.{_⊎_}
 use mathlib.Core.Option.{Option, none, some}
 use Prim.Native.Nat.{ℕ}
 use lib.ListN.{length}
 use lib.Dec.{leb, ltb}
-use Rattle.map.specs.State.{Entry, State, find, hasKey}
+use Rattle.map.specs.State.{Entry, State, withEntries, find, hasKey}
+use Rattle.map.specs.Deadline.{expired, standing}
 use Rattle.map.specs.Plan as map
 use Rattle.map.specs.Step.{mostKeys, lastVersion, isNone}
 use Rattle.table.specs.Memory.{stateOf}
@@ -34,6 +36,11 @@ abbrev pub Holds : List ℕ → List ℕ → Held → Type 0
 Holds t k (h.Row i v) = FoundIs t k (f.At i) × (v .0 ≡ entryAt t i .version)
 Holds t k h.Absent = FoundIs t k f.Absent
 
+-- the same of what stands at a second: an entry that has expired counts as absent
+abbrev pub HoldsAt : ℕ → List ℕ → List ℕ → Held → Type 0
+HoldsAt now t k (h.Row i v) = Holds t k (h.Row i v) × (expired now (entryAt t i) ≡ false)
+HoldsAt now t k h.Absent = Holds t k h.Absent ⊎ ((i : ℕ) × FoundIs t k (f.At i) × (expired now (entryAt t i) ≡ true))
+
 -- the version held
 abbrev pub heldVersion : Held → Option ℕ
 heldVersion (h.Row i v) = some (v .0)
@@ -42,6 +49,10 @@ heldVersion h.Absent = none
 -- the entry that has the key
 abbrev pub heldAt : List ℕ → List ℕ → Option Entry
 heldAt t k = find (hasKey k) (stateOf t .entries)
+
+-- the state with the entries that stand at a second
+abbrev pub standingAt : ℕ → State → State
+standingAt now st = withEntries (standing now (st .entries)) st
 
 -- "10: the write would add a key and 128 are held"; "11: the write would take effect and no version is left"
 unfoldable pub isFull : State → Option ℕ → Bool

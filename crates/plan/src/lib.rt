@@ -1,12 +1,13 @@
 // What a request is going to do: the status of its reply, and what becomes of the entries.
 use field::EntryVersion;
+use field::Second;
 use message::Operation;
 use table::Found;
 use table::Table;
 ghost use mathlib.Core.Path.{_≡_};
 ghost use Rattle.map.specs.Plan as map;
 ghost use Rattle.table.specs.Memory.{stateOf};
-ghost use Rattle.plan.specs.Plan.{asPlan, asChange, asJudged, Holds, heldVersion, isFull, refusalOf};
+ghost use Rattle.plan.specs.Plan.{asPlan, asChange, asJudged, HoldsAt, heldVersion, standingAt, isFull, refusalOf};
 
 // The row that has the key, with the version of its entry, or that none has it.
 pub enum Held {
@@ -33,15 +34,18 @@ pub enum Judged {
     Refused(u8),
 }
 
-// The row that has the key, with its version.
-pub fn held_in(t: &[u8], key: &[u8]) -> Held
-    ensures { λ r. ⌜ Holds (now (t .entry)) (now (key .entry)) r ⌝ }
+// The row that has the key, with its version, if its entry stands at a second. Keys differ, so no other row has the key.
+pub fn held_in(t: &[u8], key: &[u8], second: Second) -> Held
+    ensures { λ r. ⌜ HoldsAt (second .0) (now (t .entry)) (now (key .entry)) r ⌝ }
 {
     let f = table::find(t, key);
-    match f {
-        Found::At(i) => Held::Row(i, table::version_at(t, i)),
-        Found::Absent => Held::Absent,
+    let Found::At(i) = f else {
+        return Held::Absent;
+    };
+    if !table::stands(t, i, second) {
+        return Held::Absent;
     }
+    Held::Row(i, table::version_at(t, i))
 }
 
 fn planned(status: u8, change: Change) -> Plan
@@ -104,23 +108,27 @@ pub fn plan_of(op: Operation, asked: EntryVersion, held: Held) -> Plan
     }
 }
 
-fn is_full(t: &[u8], held: Held) -> bool
-    ensures { λ r. ⌜ r ≡ isFull (stateOf (now (t .entry))) (heldVersion held) ⌝ }
+// Whether a key would be added and 128 entries stand at a second. They are counted only where so many are held.
+fn is_full(t: &[u8], held: Held, second: Second) -> bool
+    ensures { λ r. ⌜ r ≡ isFull (standingAt (second .0) (stateOf (now (t .entry)))) (heldVersion held) ⌝ }
 {
     let Held::Absent = held else {
         return false;
     };
-    Table::KEYS <= table::count(t)
+    if table::count(t) < Table::KEYS {
+        return false;
+    }
+    Table::KEYS <= table::standing(t, second)
 }
 
-// The refusal of a change: 10 where it adds a key to a full table, 11 where no version is left for it.
-pub fn refusal_of(t: &[u8], change: Change, held: Held) -> Judged
-    ensures { λ r. ⌜ asJudged r ≡ refusalOf (stateOf (now (t .entry))) (heldVersion held) (asChange change) ⌝ }
+// The refusal of a change at a second: 10 where it adds a key to a table of which 128 entries stand, 11 where no version is left for it.
+pub fn refusal_of(t: &[u8], change: Change, held: Held, second: Second) -> Judged
+    ensures { λ r. ⌜ asJudged r ≡ refusalOf (standingAt (second .0) (stateOf (now (t .entry)))) (heldVersion held) (asChange change) ⌝ }
 {
     let Change::Store = change else {
         return Judged::Free;
     };
-    if is_full(t, held) {
+    if is_full(t, held, second) {
         return Judged::Refused(10);
     }
     if Table::LAST_VERSION <= table::last(t).0 {

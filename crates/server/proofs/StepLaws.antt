@@ -1,5 +1,5 @@
 -- What a step of the map makes of an answer and of the table. Assumes nothing.
-use mathlib.Core.Path.{_≡_, refl, ap₂, _∙_}
+use mathlib.Core.Path.{_≡_, refl, sym, ap, ap₂, subst, _∙_}
 use mathlib.Core.List.{List, [], _∷_}
 use mathlib.Core.Bool.{Bool, true, false, cond}
 use mathlib.Core.Option.{Option, none, some}
@@ -13,10 +13,14 @@ use Rattle.wire.proofs.Laws.{never}
 use Rattle.message.specs.Request.{Request, request, isEmpty}
 use Rattle.message.proofs.Sizes.{small}
 use Rattle.map.specs.State.{Entry, State, without, hasKey}
+use Rattle.map.specs.Deadline.{deadline, expired, standing}
 use Rattle.map.specs.Step as map
 use Rattle.map.specs.Plan.{Change, keep, store, drop, empty}
-use Rattle.map.specs.Step.{Context, Outcome, answered, lastVersion, deadline, entry, stored, isNone, held, versionOf, full, planned, answer, act, core, arrive, step}
-use Rattle.map.specs.Table.{IsTable}
+use Rattle.map.specs.Step.{Context, Outcome, answered, lastVersion, entry, stored, isNone, held, versionOf, full, planned, answer, act, core, present, swept, noted, arrive, step}
+use Rattle.map.specs.Table.{Each, IsTable}
+use Rattle.map.specs.Expiry.{Stands}
+use Rattle.map.proofs.Each.{fewer}
+use Rattle.map.proofs.Standing.{standing-stand}
 use Rattle.map.specs.Reply.{flat, pieces}
 use Rattle.table.specs.Memory as memory
 use Rattle.table.specs.Memory.{stateOf, Sound}
@@ -34,7 +38,8 @@ use Rattle.service.proofs.Decides.{isSound}
 use Rattle.service.proofs.Sounds.{tells-sound}
 use Rattle.service.proofs.Calls.{within-fits, within-short}
 use Rattle.plan.specs.declared.Held.{Held}
-use Rattle.plan.specs.Plan.{isFull, refusalOf, Holds}
+use Rattle.plan.specs.Plan.{isFull, refusalOf, Holds, HoldsAt, heldVersion, standingAt}
+use Rattle.plan.proofs.PlanLaws.{all-stand, version-stands, holds-same}
 use Rattle.server.specs.declared.Answer.{Answer}
 use Rattle.server.specs.CallDone.{callOf, doneOf, Says, Sends}
 use Rattle.server.specs.Act.{at, less, replaced, Storable, after, Performs, PerformsWithin}
@@ -98,7 +103,7 @@ module _ (c : Context) (q : Request) (st : State) where
     unfolding isFull full
     full-same = rw (n, none-version)
 
-    act-refused : (d : Change) (k : ℕ) → refusalOf st o d ≡ some k → (act c q st (answer c q st) d ≡ map.refused k) × ((1 ≤ k) × (k ≤ 11))
+    act-refused : (d : Change) (k : ℕ) → refusalOf st o d ≡ some k → (act q st (answer c q st) d ≡ map.refused k) × ((1 ≤ k) × (k ≤ 11))
     unfolding refusalOf act
     act-refused keep k h = never (cc)
     act-refused drop k h = never (cc)
@@ -106,12 +111,12 @@ module _ (c : Context) (q : Request) (st : State) where
     act-refused store k h = go (full q st) (ltb (st .last) lastVersion) (rw full-same at h)
       where
         go : (x y : Bool) → number x y ≡ some k
-            → (cond x (map.refused 10) (cond y (answered (answer c q st) (stored c q st)) (map.refused 11)) ≡ map.refused k) × ((1 ≤ k) × (k ≤ 11))
+            → (cond x (map.refused 10) (cond y (answered (answer c q st) (stored q st)) (map.refused 11)) ≡ map.refused k) × ((1 ≤ k) × (k ≤ 11))
         go true y h = let e : _≡_ {A = ℕ} 10 k = cc in rw (← e) (refl, (omega arith, omega arith))
         go false true h = never (cc)
         go false false h = let e : _≡_ {A = ℕ} 11 k = cc in rw (← e) (refl, (omega arith, omega arith))
 
-    act-made : (d : Change) → refusalOf st o d ≡ none → act c q st (answer c q st) d ≡ answered (answer c q st) (after c q st d)
+    act-made : (d : Change) → refusalOf st o d ≡ none → act q st (answer c q st) d ≡ answered (answer c q st) (after q st d)
     unfolding refusalOf act
     act-made keep e = refl
     act-made drop e = refl
@@ -119,54 +124,89 @@ module _ (c : Context) (q : Request) (st : State) where
     act-made store e = go (full q st) (ltb (st .last) lastVersion) (rw full-same at e)
       where
         go : (x y : Bool) → number x y ≡ none
-            → cond x (map.refused 10) (cond y (answered (answer c q st) (stored c q st)) (map.refused 11)) ≡ answered (answer c q st) (stored c q st)
+            → cond x (map.refused 10) (cond y (answered (answer c q st) (stored q st)) (map.refused 11)) ≡ answered (answer c q st) (stored q st)
         go true y e = never (cc)
         go false true e = refl
         go false false e = never (cc)
 
--- the table counts a call as the map does, by whether its key is held
-pub arrives : (c : Context) (q : Request) {t u : List ℕ} {absent : Bool} → Sound t → c .second < 0x1_0000_0000 → isNone (held q (stateOf t)) ≡ absent
+-- where as many are left as there were, all are left
+module _ (p : Entry → Bool) where
+  without-same : (es : List Entry) → length (without p es) ≡ length es → without p es ≡ es
+  unfolding without
+  without-same [] h = refl
+  without-same (e ∷ es) h = go (p e) (without-same es) h
+    where
+      go : (b : Bool) → (length (without p es) ≡ length es → without p es ≡ es) → length (cond b (without p es) (e ∷ without p es)) ≡ suc (length es)
+          → cond b (without p es) (e ∷ without p es) ≡ e ∷ es
+      go true ih h = absurd (omega (arith, fewer p es))
+      go false ih h = ap (λ (fs : List Entry). e ∷ fs) (ih (omega arith))
+
+-- a call on a sound table: what the code holds of what stands is what the map finds behind `arrive`
+module _ (c : Context) (q : Request) (t : List ℕ) (s : Sound t) (x : Held) (g : HoldsAt (present c (stateOf t)) t (q .args .key) x) where
+  pub held-come : heldVersion x ≡ versionOf (held q (arrive c q (stateOf t)))
+  unfolding held arrive noted swept
+  held-come = version-stands (present c (stateOf t)) t (q .args .key) x (s .table .keys) g
+
+  -- and it is counted so
+  pub absent-come : isNone (held q (swept c (stateOf t))) ≡ isNone (heldVersion x)
+  unfolding held swept
+  absent-come =
+      sym (none-version (held q (swept c (stateOf t))))
+      ∙ ap (λ (o : Option ℕ). isNone o) (sym (version-stands (present c (stateOf t)) t (q .args .key) x (s .table .keys) g))
+
+-- the table does before a step what the map does, by whether the key is held of what stands
+pub arrives : (c : Context) (q : Request) {t u : List ℕ} {absent : Bool} → Sound t → c .second < 0x1_0000_0000 → isNone (held q (swept c (stateOf t))) ≡ absent
     → Left t (arrived (q .op) absent (c .second) t) u → stream-of.Becomes t (some (arrive c q (stateOf t))) u
-arrives c q {u = u} s h e l = let z = arrived-sound {u = u} s c q (omega arith) (rw e l) in (z .1, z .0)
+arrives c q {u = u} s h e l = let z = arrived-sound s c q (omega arith) {u = u} (rw e l) in (z .1, z .0)
 
--- what is held and what is planned and refused of a call do not go by the history
+-- what is held of the table that is left: all entries there stand at the present second, which is the latest one
+module _ (c : Context) (q : Request) (t : List ℕ) {u : List ℕ} (w : stream-of.Becomes t (some (arrive c q (stateOf t))) u) (x : Held) where
+  entries-left : stateOf u .entries ≡ standing (present c (stateOf t)) (stateOf t .entries)
+  unfolding arrive noted swept
+  entries-left = ap (λ (st : State). st .entries) (w .0)
+
+  latest-left : stateOf u .history .latest ≡ present c (stateOf t)
+  unfolding arrive noted swept
+  latest-left = ap (λ (st : State). st .history .latest) (w .0)
+
+  pub held-on : length (stateOf u .entries) ≡ length (stateOf t .entries) → HoldsAt (present c (stateOf t)) t (q .args .key) x → Holds u (q .args .key) x
+  held-on l g =
+      let n = present c (stateOf t) in
+      let e : standing n (stateOf t .entries) ≡ stateOf t .entries = without-same (expired n) (stateOf t .entries) (sym (ap length entries-left) ∙ l) in
+      holds-same t u (q .args .key) (entries-left ∙ e) x
+      (all-stand n t (q .args .key) x (subst (Each (Stands n)) e (standing-stand n (stateOf t .entries))) g)
+
+  pub held-again : {n : ℕ} {k : List ℕ} → n ≡ stateOf u .history .latest → k ≡ q .args .key → HoldsAt n u k x → Holds u (q .args .key) x
+  held-again {n} e f g =
+      all-stand n u (q .args .key) x (rw (e, latest-left, entries-left) (standing-stand (present c (stateOf t)) (stateOf t .entries)))
+      (subst (λ k. HoldsAt n u k x) f g)
+
+-- a step goes by what the code finds before the call is noted
 module _ (c : Context) (q : Request) (st : State) where
-  held-arrived : held q (arrive c q st) ≡ held q st
-  unfolding held arrive
-  held-arrived = refl
+  pub refusal-come : (o : Option ℕ) (d : Change) → refusalOf (arrive c q st) o d ≡ refusalOf (standingAt (present c st) st) o d
+  unfolding refusalOf isFull arrive noted swept
+  refusal-come o keep = refl
+  refusal-come o store = refl
+  refusal-come o drop = refl
+  refusal-come o empty = refl
 
-  pub planned-arrived : planned q (arrive c q st) ≡ planned q st
-  unfolding planned
-  planned-arrived = rw held-arrived
-
-  pub refusal-arrived : (o : Option ℕ) (d : Change) → refusalOf (arrive c q st) o d ≡ refusalOf st o d
-  unfolding refusalOf isFull arrive
-  refusal-arrived o keep = refl
-  refusal-arrived o store = refl
-  refusal-arrived o drop = refl
-  refusal-arrived o empty = refl
-
-  -- so a step goes by what the code finds before the call is counted
   pub step-named : isEmpty (q .name) ≡ false → step c q st ≡ map.refused 9
   unfolding step core
   step-named e = rw e
 
-  module _ (o : Option ℕ) (n : o ≡ versionOf (held q st)) (d : Change) (e : isEmpty (q .name) ≡ true) (p : planned q st .change ≡ d) where
-    abbrev come : State
-    come = arrive c q st
+  abbrev come : State
+  come = arrive c q st
 
-    step-acts : step c q st ≡ act c q come (answer c q come) d
+  module _ (o : Option ℕ) (n : o ≡ versionOf (held q come)) (d : Change) (e : isEmpty (q .name) ≡ true) (p : planned q come .change ≡ d) where
+    step-acts : step c q st ≡ act q come (answer c q come) d
     unfolding step core
-    step-acts = rw (e, planned-arrived, p)
+    step-acts = rw (e, p)
 
-    same-held : o ≡ versionOf (held q come)
-    same-held = rw held-arrived n
+    pub step-refused : (k : ℕ) → refusalOf come o d ≡ some k → (step c q st ≡ map.refused k) × ((1 ≤ k) × (k ≤ 11))
+    step-refused k h = let z = act-refused c q come o n d k h in (step-acts ∙ z .0, z .1)
 
-    pub step-refused : (k : ℕ) → refusalOf st o d ≡ some k → (step c q st ≡ map.refused k) × ((1 ≤ k) × (k ≤ 11))
-    step-refused k h = let z = act-refused c q come o same-held d k (refusal-arrived o d ∙ h) in (step-acts ∙ z .0, z .1)
-
-    pub step-made : refusalOf st o d ≡ none → step c q st ≡ answered (answer c q come) (after c q come d)
-    step-made h = step-acts ∙ act-made c q come o same-held d (refusal-arrived o d ∙ h)
+    pub step-made : refusalOf come o d ≡ none → step c q st ≡ answered (answer c q come) (after q come d)
+    step-made h = step-acts ∙ act-made c q come o n d h
 
 -- a store that is not refused has a version left
 pub version-left : (st : State) (o : Option ℕ) → refusalOf st o store ≡ none → st .last < lastVersion
@@ -183,10 +223,10 @@ pub same-table : (t : List ℕ) → Sound t → Changed t t (stateOf t)
 same-table t s = record { long = refl; state = refl; form = s .form }
 
 -- the request's value can be stored, and storing it is the map's change
-pub storable : (c : Context) (q : Request) (t : List ℕ) {held : Held} → Sound t → Valid request q → IsTable (stored c q (stateOf t)) → Holds t (q .args .key) held
+pub storable : (q : Request) (t : List ℕ) {held : Held} → Sound t → Valid request q → IsTable (stored q (stateOf t)) → Holds t (q .args .key) held
     → stateOf t .last < lastVersion → Storable t (q .args .key) (q .args .value) held
 unfolding stored
-storable c q t s v i g l =
+storable q t s v i g l =
     let x = i .few in
     let es = without (hasKey (q .args .key)) (stateOf t .entries) in
     record {
@@ -194,13 +234,13 @@ storable c q t s v i g l =
       holds = g;
       key = small q v .key;
       value = small q v .value;
-      room = omega (arith, length-append es (entry c q (suc (stateOf t .last)) ∷ []));
+      room = omega (arith, length-append es (entry (stateOf t .history .latest) q (suc (stateOf t .last)) ∷ []));
       version = l;
     }
 
-pub replaced-is : (c : Context) (q : Request) (st : State) {d : ℕ} → d ≡ deadline c q → replaced (q .args .key) (q .args .value) d st ≡ stored c q st
+pub replaced-is : (q : Request) (st : State) {d : ℕ} → d ≡ deadline (st .history .latest) q → replaced (q .args .key) (q .args .value) d st ≡ stored q st
 unfolding stored entry memory.entry
-replaced-is c q st e = rw e
+replaced-is q st e = rw e
 
 -- a call on a sound table, with room for an error reply: what is read says what it does
 pub serves-read : (input t out : List ℕ) (second : ℕ) {d : Done} {x : Read Request} → Sound t → stream.room ≤ length out → request .dec input ≡ x

@@ -27,7 +27,7 @@ use Rattle.message.specs.declared.Form.the-variants as f
 use Rattle.table.specs.Memory.{stateOf, Sound}
 use Rattle.table.specs.Change.{grown}
 use Rattle.service.specs.Serve.{served, onStep, within}
-use Rattle.service.specs.Stream.{Done, Does}
+use Rattle.service.specs.Stream.{Becomes, Done, Does}
 use Rattle.plan.specs.declared.Held.{Held}
 use Rattle.plan.specs.Plan.{Holds, heldVersion, refusalOf}
 use Rattle.server.specs.declared.Answer.{Answer}
@@ -99,20 +99,24 @@ pub record Given (t out : List ℕ) (least now : ℕ) : Type 0 where
   pub second : now < 0x1_0000_0000
 
 -- the state that a change leaves which is not refused
-abbrev pub after : Context → Request → State → Change → State
-after c q st keep = st
-after c q st store = step.stored c q st
-after c q st drop = step.dropped q st
-after c q st empty = step.emptied st
+abbrev pub after : Request → State → Change → State
+after q st keep = st
+after q st store = step.stored q st
+after q st drop = step.dropped q st
+after q st empty = step.emptied st
 
 -- the change of a well-formed request on a sound table is not refused, and leaves a table
-pub record Agreed (t : List ℕ) (q : Request) (second : ℕ) (held : Held) (d : Change) : Type 0 where
+pub record Agreed (t : List ℕ) (q : Request) (held : Held) (d : Change) : Type 0 where
   pub sound : Sound t
   pub valid : Valid request q
   pub holds : Holds t (q .args .key) held
-  pub within : second < 0x1_0000_0000
   pub free : refusalOf (stateOf t) (heldVersion held) d ≡ none
-  pub left : IsTable (after (at second) q (stateOf t) d)
+  pub left : IsTable (after q (stateOf t) d)
+
+-- a call has come: the table u is the one behind `arrive`, and this is held of the key there
+pub record Arrives (t : List ℕ) (q : Request) (second : ℕ) (u : List ℕ) (held : Held) : Type 0 where
+  pub table : Becomes t (some (step.arrive (at second) q (stateOf t))) u
+  pub holds : Holds u (q .args .key) held
 
 -- the map's reply to the request is sent
 abbrev pub Replies : List ℕ → Request → ℕ → ℕ → List ℕ → List ℕ → Answer → Type 0

@@ -26,14 +26,15 @@ ghost use Rattle.wire.specs.Write.{written};
 ghost use Rattle.message.specs.Sent.{asSent};
 ghost use Rattle.message.specs.Request.{request, requestOf, requestIn};
 ghost use Rattle.map.specs.Step as map;
+ghost use Rattle.map.specs.Deadline as expiry;
 ghost use Rattle.table.specs.Memory.{stateOf, Sound};
 ghost use Rattle.table.specs.Found.{entryAt};
 ghost use Rattle.table.specs.Change as table;
 ghost use Rattle.service.specs.Serve as stream;
 ghost use Rattle.service.specs.Stream.{Becomes, Serves};
-ghost use Rattle.plan.specs.Plan.{asChange, Holds, heldAt};
+ghost use Rattle.plan.specs.Plan.{asChange, Holds, HoldsAt, heldAt};
 ghost use Rattle.server.specs.CallDone.{asVerdict, callOf, doneOf, Says, Sends};
-ghost use Rattle.server.specs.Act.{at, isPlain, valueShown, entryShown, sentTo, sentListed, less, replaced, Storable, after, Planned, Agreed, Given, Replies, Performs, PerformsWithin};
+ghost use Rattle.server.specs.Act.{at, isPlain, valueShown, entryShown, sentTo, sentListed, less, replaced, Storable, after, Planned, Agreed, Given, Arrives, Replies, Performs, PerformsWithin};
 
 // Nothing sent.
 pub(crate) fn unsent(taken: usize, v: Verdict) -> Answer
@@ -173,10 +174,22 @@ fn respond(
     ended(w, taken, Verdict::Served)
 }
 
-// Notes a call in the history: it is counted, by its operation and by what is held, and its second is the first one where none was served before.
+// The present second of a call: the greater of its own and the latest one served.
+fn present_second(t: &[u8], second: Second) -> Second
+    ensures { λ r. ⌜ r .0 ≡ map.present (at (second .0)) (stateOf (now (t .entry))) ⌝ }
+{
+    let latest = table::latest(t);
+    if latest.0 < second.0 {
+        return second;
+    }
+    latest
+}
+
+// Notes a call in the table: what has expired at the present second goes, the call is counted, by its operation and by what is held of what stands, and
+// its second is the first one where none was served before.
 fn note_call(t: &mut [u8], h: Head, held: Held, second: Second)
     requires { ⌜ second .0 < 0x1_0000_0000 ⌝ }
-    ensures { λ _. ⌜ ((name key value : List ℕ) → Sound (now (t .entry)) → Holds (now (t .entry)) key held → Becomes (now (t .entry)) (some (map.arrive (at (second .0)) (requestOf h name key value) (stateOf (now (t .entry))))) (now (t .exit))) ⌝ }
+    ensures { λ _. ⌜ ((name key value : List ℕ) → Sound (now (t .entry)) → HoldsAt (map.present (at (second .0)) (stateOf (now (t .entry)))) (now (t .entry)) key held → Becomes (now (t .entry)) (some (map.arrive (at (second .0)) (requestOf h name key value) (stateOf (now (t .entry))))) (now (t .exit))) ⌝ }
 {
     let op = h.op;
     let Held::Row(_, _) = held else {
@@ -184,6 +197,20 @@ fn note_call(t: &mut [u8], h: Head, held: Held, second: Second)
         return;
     };
     table::arrive(t, op, false, second);
+}
+
+// What a call that is not refused does before its step. It answers where the key is held then: as before where as many entries are held as before, since
+// none went.
+fn arrive(t: &mut [u8], h: Head, key: &[u8], held: Held, second: Second) -> Held
+    requires { ⌜ second .0 < 0x1_0000_0000 ⌝ }
+    ensures { λ r. ⌜ ((name k value : List ℕ) → now (key .entry) ≡ k → Sound (now (t .entry)) → HoldsAt (map.present (at (second .0)) (stateOf (now (t .entry)))) (now (t .entry)) k held → Arrives (now (t .entry)) (requestOf h name k value) (second .0) (now (t .exit)) r) ⌝ }
+{
+    let many = table::count(t);
+    note_call(t, h, held, second);
+    if table::count(t) == many {
+        return held;
+    }
+    plan::held_in(t, key, table::latest(t))
 }
 
 // The table without the row held.
@@ -196,13 +223,13 @@ fn drop_row(t: &mut [u8], held: Held)
     table::remove(t, i);
 }
 
-// The longest lifespan that is counted from the call's second, in seconds.
+// The longest lifespan that is counted from the present second, in seconds.
 const THIRTY_DAYS: u64 = 2_592_000;
 
-// The deadline of what a request writes: none where it has no lifespan, the second plus a lifespan of at most 30 days, and a longer one as it is.
-fn deadline(h: Head, second: Second) -> Second
-    requires { ⌜ second .0 + h .lifespan < 0x2_0000_0000 ⌝ }
-    ensures { λ r. ⌜ ((name key value : List ℕ) → r .0 ≡ map.deadline (at (second .0)) (requestOf h name key value)) ⌝ }
+// The deadline of what a request writes: none where it has no lifespan, the present second plus a lifespan of at most 30 days, and a longer one as it is.
+fn deadline(h: Head, present: Second) -> Second
+    requires { ⌜ present .0 + h .lifespan < 0x2_0000_0000 ⌝ }
+    ensures { λ r. ⌜ ((name key value : List ℕ) → r .0 ≡ expiry.deadline (present .0) (requestOf h name key value)) ⌝ }
 {
     if h.lifespan == 0 {
         return Second(0);
@@ -211,7 +238,7 @@ fn deadline(h: Head, second: Second) -> Second
         return Second(0);
     }
     if h.lifespan <= THIRTY_DAYS {
-        return Second(second.0 + h.lifespan);
+        return Second(present.0 + h.lifespan);
     }
     Second(h.lifespan)
 }
@@ -228,20 +255,17 @@ fn store(t: &mut [u8], held: Held, key: &[u8], value: &[u8], deadline: Second)
     table::renew(t, i, value, deadline);
 }
 
-// Makes the change that is planned.
-fn change(input: &[u8], r: Request, t: &mut [u8], second: Second, c: Change, held: Held)
-    requires { ⌜ Agreed (now t) (requestIn (now input) r) (second .0) held (asChange c) ⌝ }
-    ensures { λ _. ⌜ table.Changed (now (t .entry)) (now (t .exit)) (after (at (second .0)) (requestIn (now (input .entry)) r) (stateOf (now (t .entry))) (asChange c)) ⌝ }
+// Makes the change that is planned. The present second is the latest one, since the call is noted.
+fn change(input: &[u8], r: Request, t: &mut [u8], c: Change, held: Held)
+    requires { ⌜ Agreed (now t) (requestIn (now input) r) held (asChange c) ⌝ }
+    ensures { λ _. ⌜ table.Changed (now (t .entry)) (now (t .exit)) (after (requestIn (now (input .entry)) r) (stateOf (now (t .entry))) (asChange c)) ⌝ }
 {
     match c {
         Change::Keep => {}
-        Change::Store => store(
-            t,
-            held,
-            r.key_in(input),
-            r.value_in(input),
-            deadline(r.head, second),
-        ),
+        Change::Store => {
+            let until = deadline(r.head, table::latest(t));
+            store(t, held, r.key_in(input), r.value_in(input), until);
+        }
         Change::Drop => drop_row(t, held),
         Change::Empty => {
             table::clear(t);
@@ -249,8 +273,8 @@ fn change(input: &[u8], r: Request, t: &mut [u8], second: Second, c: Change, hel
     }
 }
 
-// A request that was read, which took n bytes, with the room that it asks for. A call that is refused is not counted. The reply comes before the change,
-// since an old value stands in the table.
+// A request that was read, which took n bytes, with the room that it asks for. It is judged by what stands at the present second, on the table as it is: a
+// call that is refused changes nothing. The reply comes before the change, since an old value stands in the table.
 pub(crate) fn perform(
     input: &[u8],
     r: Request,
@@ -267,18 +291,20 @@ pub(crate) fn perform(
     if r.name_in(input).len() != 0 {
         return refuse(out, h.id, 9, n);
     }
-    let held = plan::held_in(t, r.key_in(input));
+    let key = r.key_in(input);
+    let present = present_second(t, second);
+    let held = plan::held_in(t, key, present);
     let op = h.op;
     let asked = h.entry;
     let p = plan::plan_of(op, asked, held);
     let c = p.change;
-    let j = plan::refusal_of(t, c, held);
+    let j = plan::refusal_of(t, c, held, present);
     match j {
         Judged::Refused(k) => refuse(out, h.id, k, n),
         Judged::Free => {
-            note_call(t, h, held, second);
-            let a = respond(out, t, h, p.status, held, second, n);
-            change(input, r, t, second, c, held);
+            let found = arrive(t, h, key, held, second);
+            let a = respond(out, t, h, p.status, found, second, n);
+            change(input, r, t, c, found);
             a
         }
     }

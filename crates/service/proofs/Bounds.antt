@@ -49,18 +49,18 @@ late-cond : (t : Bool) (x y : Outcome) → Late x → Late y → Late (cond t x 
 late-cond true x y h g = h
 late-cond false x y h g = g
 
-late-act : (c : Context) (r : Request) (st : State) (a : map-step.Answer) (d : Change) → Late (act c r st a d)
+late-act : (r : Request) (st : State) (a : map-step.Answer) (d : Change) → Late (act r st a d)
 unfolding act
-late-act c r st a keep = tt
-late-act c r st a drop = tt
-late-act c r st a empty = tt
-late-act c r st a store = late-cond (full r st) _ _ (omega arith) (late-cond (ltb (st .last) lastVersion) _ _ tt (omega arith))
+late-act r st a keep = tt
+late-act r st a drop = tt
+late-act r st a empty = tt
+late-act r st a store = late-cond (full r st) _ _ (omega arith) (late-cond (ltb (st .last) lastVersion) _ _ tt (omega arith))
 
 pub late : (c : Context) (r : Request) (st : State) → Late (step c r st)
 unfolding step core
 late c r st =
     let x = arrive c r st in
-    late-cond (isEmpty (r .name)) _ _ (late-act c r x (answer c r x) (planned r x .change)) (omega arith)
+    late-cond (isEmpty (r .name)) _ _ (late-act r x (answer c r x) (planned r x .change)) (omega arith)
 
 -- the longest reply to an operation fits the room that its requests ask for
 pub reply-room : (o : Operation) → longestReply o ≤ roomOf o
@@ -84,7 +84,7 @@ reply-room BulkGetKeys = lit≤ tt
 pub answer-fits : (c : Context) (r : Request) (st : State) (a : map-step.Answer) (t : State) → Valid request r → IsTable st → c .second < 0x1_0000_0000
     → step c r st ≡ answered a t → length (flat (pieces r a)) ≤ roomOf (r .op)
 answer-fits c r st a t v s h e =
-    rw (did c r st a t e .same) (omega (arith, answer-most c r (arrive c r st) v (arrive-table c r st s) h, reply-room (r .op)))
+    rw (did c r st a t e .same) (omega (arith, answer-most c r (arrive c r st) v (arrive-table c r st h s) h, reply-room (r .op)))
 
 -- and the room that a line has for it
 pub answer-longest : (c : Context) (r : Request) (st : State) (a : map-step.Answer) (t : State) → Valid request r → IsTable st → c .second < 0x1_0000_0000

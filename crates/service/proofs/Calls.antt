@@ -2,7 +2,7 @@
 use mathlib.Core.Path.{_≡_, refl, _∙_}
 use mathlib.Core.List.{List, [], _∷_, _++_}
 use mathlib.Core.Bool.{Bool, true, false, cond, _||_}
-use mathlib.Core.Option.{none}
+use mathlib.Core.Option.{none, some}
 use Prim.Native.Nat.{ℕ, _≤_, _<_}
 use native.Mathlib.Omega.{arith}
 use lib.ListN.{length}
@@ -14,12 +14,15 @@ use Rattle.wire.proofs.Basics.{pick}
 use Rattle.message.specs.declared.Operation.{Operation}
 use Rattle.message.specs.declared.Operation.the-variants.{BulkGet, BulkGetKeys}
 use Rattle.message.specs.Request.{Request, request}
+use Rattle.message.specs.Start.{idIn}
 use Rattle.message.proofs.RequestLaws.{request-laws}
 use Rattle.message.proofs.Lists.{some-byte}
 use Rattle.map.specs.History.{is}
 use Rattle.map.specs.State.{State}
-use Rattle.map.specs.Step.{Context, Outcome, step}
-use Rattle.service.specs.Serve.{Effect, effect, refused, still, onStep, onRead, serve, room, bulkRoom, roomOf, within}
+use Rattle.map.specs.Step as map-step
+use Rattle.map.specs.Step.{Context, Outcome, answered, step}
+use Rattle.map.specs.Reply.{pieces}
+use Rattle.service.specs.Serve.{Verdict, served, more, refused, Effect, effect, errorPieces, still, onStep, onRead, serve, room, bulkRoom, roomOf, within}
 use Rattle.service.specs.Many.{goesOn}
 
 -- a whole request, by the room that it asks for
@@ -62,6 +65,33 @@ within-has Q space (wire.whole r n) e s q = go (ltb space (roomOf (r .op)))
     go false = q
 within-has Q space wire.more e s q = q
 within-has Q space (wire.refused k) e s q = q
+
+-- What holds of every call: it is quiet, sends an error reply, or sends the answer of a step.
+module _ (E : Effect → Type 0) (c : Context) (st : State) (quiet : (n : ℕ) (v : Verdict) → E (effect n v [] none))
+    (error : (n k id : ℕ) → E (effect n (refused k) (errorPieces k id) none))
+    (answer : (r : Request) (n : ℕ) (a : map-step.Answer) (t : State) → step c r st ≡ answered a t → E (effect n served (pieces r a) (some t))) where
+  every-step : (r : Request) (n : ℕ) (o : Outcome) → step c r st ≡ o → E (onStep r n o)
+  unfolding onStep
+  every-step r n (map-step.refused k) e = error n k (r .id)
+  every-step r n (answered a t) e = answer r n a t e
+
+  every-read : (input : List ℕ) (x : Read Request) → E (onRead input c st x)
+  unfolding onRead still
+  every-read input (wire.whole r n) = every-step r n (step c r st) refl
+  every-read input wire.more = quiet 0 more
+  every-read input (wire.refused k) = error 0 k (idIn input)
+
+  pub every-call : (input : List ℕ) (ok : Bool) (space : ℕ) → E (serve input ok st c space)
+  unfolding serve still
+  every-call input ok space = go (ltb space room) ok
+    where
+      x : Read Request
+      x = request .dec input
+
+      go : (a b : Bool) → E (cond a (still (refused 12)) (cond b (within space x (onRead input c st x)) (still (refused 13))))
+      go true b = quiet 0 (refused 12)
+      go false true = within-has E space x (onRead input c st x) (λ n. quiet n (refused 12)) (every-read input x)
+      go false false = quiet 0 (refused 13)
 
 pub serve-at : (r : Request) → Valid request r → (t : List ℕ) (ok : Bool) (st : State) (second : Context) (space : ℕ)
     → serve (request .enc r ++ t) ok st second space

@@ -12,13 +12,13 @@ use Rattle.message.specs.Request.{keyLimit, valueLimit}
 use Rattle.wire.specs.Codec.{isBytes}
 use Rattle.wire.proofs.Laws.{never}
 use Rattle.wire.specs.Same.{sameList}
-use Rattle.map.specs.History.{History, countsHeld, mostCount}
+use Rattle.map.specs.History.{History, countsHeld, mostCount, startOf}
 use Rattle.map.specs.State.{Entry, State}
 use Rattle.map.specs.Step.{mostKeys, lastVersion}
-use Rattle.map.specs.Table.{Each, Pairs, lastDeadline, Sizes, OtherKey, OtherVersion, Issued, Counts, IsTable, Ascending}
+use Rattle.map.specs.Table.{Each, Pairs, lastDeadline, Sizes, OtherKey, OtherVersion, Issued, Counts, lastSecond, Seconds, IsTable, Ascending}
 use Rattle.wire.proofs.SameLaws.{same-true, other-differ}
 use Rattle.table.specs.Bytes.{be8}
-use Rattle.table.specs.Memory.{countIndex, firstIndex, size, numberOf, placeOf, rowAt, countOf, stateOf, Permutation, Form, Sound}
+use Rattle.table.specs.Memory.{countIndex, firstIndex, boundIndex, size, numberOf, placeOf, rowAt, countOf, stateOf, Permutation, Form, Sound}
 
 decMap : {P Q : Type 0} → (P → Q) → (Q → P) → Dec P → Dec Q
 decMap f g (yes p) = yes (f p)
@@ -93,13 +93,18 @@ decCounts h =
     each ns z i (yes l) = z i l
     each ns z i (no l) = omega (arith, List·getD-eq-default ns 0 {n = i} (omega arith))
 
+decSeconds : (h : History) → Dec (Seconds h)
+decSeconds h =
+    decMap (λ z. record { first = z .0; latest = z .1 }) (λ s. (s .first, s .latest))
+    (decBoth (decLe (startOf (h .first) 0) lastSecond) (decLe (h .latest) lastSecond))
+
 decTable : (st : State) → Dec (IsTable st)
 decTable st =
-    decMap (λ z. record { few = z .0; keys = z .1 .0; sizes = z .1 .1 .0; versions = z .1 .1 .1 .0; issued = z .1 .1 .1 .1 .0; last = z .1 .1 .1 .1 .1 .0; counts = z .1 .1 .1 .1 .1 .1 })
-    (λ s. (s .few, (s .keys, (s .sizes, (s .versions, (s .issued, (s .last, s .counts)))))))
+    decMap (λ z. record { few = z .0; keys = z .1 .0; sizes = z .1 .1 .0; versions = z .1 .1 .1 .0; issued = z .1 .1 .1 .1 .0; last = z .1 .1 .1 .1 .1 .0; counts = z .1 .1 .1 .1 .1 .1 .0; seconds = z .1 .1 .1 .1 .1 .1 .1 })
+    (λ s. (s .few, (s .keys, (s .sizes, (s .versions, (s .issued, (s .last, (s .counts, s .seconds))))))))
     (decBoth (decLe (length (st .entries)) mostKeys) (decBoth (decPairs (λ e f. decNot (decKey (e .key) (f .key))) (st .entries))
     (decBoth (decEach decSizes (st .entries)) (decBoth (decPairs (λ e f. decNot (decEq (e .version) (f .version))) (st .entries))
-    (decBoth (decEach (λ e. decBoth (decLe 1 (e .version)) (decLe (e .version) (st .last))) (st .entries)) (decBoth (decLe (st .last) lastVersion) (decCounts (st .history))))))))
+    (decBoth (decEach (λ e. decBoth (decLe 1 (e .version)) (decLe (e .version) (st .last))) (st .entries)) (decBoth (decLe (st .last) lastVersion) (decBoth (decCounts (st .history)) (decSeconds (st .history)))))))))
 
 decPlaces : (t : List ℕ) → Dec (Permutation t)
 decPlaces t =
@@ -109,11 +114,12 @@ decPlaces t =
 
 decForm : (t : List ℕ) → Dec (Form t)
 decForm t =
-    decMap (λ z. record { long = z .0; counted = z .1 .0; first = z .1 .1 .0; places = z .1 .1 .1 .0; lengths = z .1 .1 .1 .1 .0; order = z .1 .1 .1 .1 .1 })
-    (λ f. (f .long, (f .counted, (f .first, (f .places, (f .lengths, f .order))))))
+    decMap (λ z. record { long = z .0; counted = z .1 .0; first = z .1 .1 .0; places = z .1 .1 .1 .0; lengths = z .1 .1 .1 .1 .0; order = z .1 .1 .1 .1 .1 .0; bound = z .1 .1 .1 .1 .1 .1 })
+    (λ f. (f .long, (f .counted, (f .first, (f .places, (f .lengths, (f .order, f .bound)))))))
     (decBoth (decEq (length t) size) (decBoth (decLe (numberOf t countIndex) mostKeys) (decBoth (decLt (numberOf t firstIndex) (2 ^ 64)) (decBoth (decPlaces t)
     (decBoth (decBelow _ (λ i. decBoth (decLe (be8 t (rowAt t i + 16)) keyLimit) (decLe (be8 t (rowAt t i + 24)) valueLimit)) (countOf t))
-    (decPairs (λ e f. decLt (e .version) (f .version)) (stateOf t .entries)))))))
+    (decBoth (decPairs (λ e f. decLt (e .version) (f .version)) (stateOf t .entries))
+    (decEach (λ e. decFrom (decLt 0 (e .deadline)) (decLe (numberOf t boundIndex) (e .deadline))) (stateOf t .entries))))))))
 
 pub decSound : (t : List ℕ) → Dec (Sound t)
 decSound t = decMap (λ z. record { form = z .0; table = z .1 }) (λ s. (s .form, s .table)) (decBoth (decForm t) (decTable (stateOf t)))

@@ -11,5 +11,6 @@ pub mod Determined
 pub mod Exist
 pub mod Bounds
 pub mod Once
+pub mod Expiry
 pub mod Pieces
 pub mod Edges

@@ -1,6 +1,7 @@
 pub mod Serve
 pub mod Stream
 pub mod Demand3
+pub mod Expiry
 pub mod Many
 pub mod Line
 pub mod Feed

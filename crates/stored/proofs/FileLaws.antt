@@ -2,12 +2,12 @@
 -- Assumes nothing.
 use mathlib.Core.Path.{_≡_, refl, sym, ap, _∙_}
 use mathlib.Core.List.{List, [], _∷_, _++_, append-assoc, append-nil}
-use mathlib.Core.Bool.{Bool, true, false}
+use mathlib.Core.Bool.{Bool, true, false, cond}
 use Prim.Native.Nat.{ℕ, zero, suc, _+_, _≤_, _<_}
 use native.Mathlib.Omega.{arith}
 use native.Mathlib.Nat.{zero-add}
 use native.Mathlib.Numerals.{add-one}
-use lib.ListN.{length, take, drop, length-append, take-append-drop}
+use lib.ListN.{length, getD, take, drop, length-append, take-append-drop}
 use lib.Seq.{sets, sets-eq, length-sets, take-suc, take-length}
 use lib.Dec.{eqb}
 use borrow.Author.Tests.{eqb-true, eqb-false, le-leb, lt-leb, lt-ltb}
@@ -15,7 +15,12 @@ use Rattle.wire.specs.Codec.{byte, guard, seq, as-type}
 use Rattle.wire.specs.Write.{written, kept, laid}
 use Rattle.wire.proofs.FieldLaws.{big-length}
 use Rattle.wire.proofs.WriteLaws.{laid-done, sets-append}
-use Rattle.map.specs.State.{Entry}
+use Rattle.map.specs.History.{noHistory}
+use Rattle.map.specs.State.{Entry, State, withEntries, without}
+use Rattle.map.specs.Deadline.{expired, standing}
+use Rattle.map.specs.Expiry.{Stands}
+use Rattle.map.specs.Table.{Each}
+use Rattle.map.proofs.Standing.{standing-all}
 use Rattle.map.specs.Step.{mostKeys}
 use Rattle.table.specs.Memory.{size, entry, stateOf, Sound}
 use Rattle.table.specs.Found.{entryAt}
@@ -23,7 +28,7 @@ use Rattle.table.proofs.RowLaws.{length-entries, count-most}
 use Rattle.table.proofs.Answers.{other-entries}
 use Rattle.hex.specs.Hex.{line}
 use Rattle.hex.proofs.HexLaws.{line-length}
-use Rattle.stored.specs.File.{Form, entryLine, headLine, entryLines, file}
+use Rattle.stored.specs.File.{Form, entryLine, headLine, entryLines, lineOf, linesOf, file}
 use Rattle.stored.specs.StoreLoad.{lineAt, Storing}
 use Rattle.stored.proofs.StoreLaws.{line-entry}
 
@@ -31,6 +36,36 @@ pub lines-append : (f : Form) (a b : List Entry) → entryLines f (a ++ b) ≡ e
 unfolding entryLines
 lines-append f [] b = refl
 lines-append f (e ∷ a) b = rw (lines-append f a b, append-assoc)
+
+-- the entries of two lists that stand, and the line of one entry
+standing-both : (now : ℕ) (a b : List Entry) → standing now (a ++ b) ≡ standing now a ++ standing now b
+unfolding without
+standing-both now [] b = refl
+standing-both now (e ∷ a) b = go (expired now e) (standing-both now a b)
+  where
+    go : (x : Bool) → standing now (a ++ b) ≡ standing now a ++ standing now b
+        → cond x (standing now (a ++ b)) (e ∷ standing now (a ++ b)) ≡ cond x (standing now a) (e ∷ standing now a) ++ standing now b
+    go true h = h
+    go false h = ap (λ (es : List Entry). e ∷ es) h
+
+one-line : (f : Form) (now : ℕ) (e : Entry) → entryLines f (standing now (e ∷ [])) ≡ lineOf f now e
+unfolding entryLines without lineOf
+one-line f now e = go (expired now e)
+  where
+    go : (x : Bool) → entryLines f (cond x [] (e ∷ [])) ≡ cond x [] (line (entryLine f .enc e))
+    go true = refl
+    go false = append-nil (line (entryLine f .enc e))
+
+-- of a table with no history every entry stands: its file has all lines
+first-stand : (es : List Entry) → Each (Stands 0) es
+first-stand [] = tt
+first-stand (e ∷ es) = (λ l. l, first-stand es)
+
+pub file-afresh : (f : Form) (st : State) → st .history ≡ noHistory → file f st ≡ linesOf f st
+unfolding file
+file-afresh f st h =
+    let e : standing (st .history .latest) (st .entries) ≡ st .entries = rw h (standing-all 0 (st .entries) (first-stand (st .entries))) in
+    ap (λ (es : List Entry). linesOf f (withEntries es st)) e
 
 head-length : (f : Form) (n : ℕ) → length (headLine f .enc n) ≡ 9
 unfolding headLine as-type seq guard byte
@@ -48,37 +83,45 @@ module _ (f : Form) (t : List ℕ) where
   abbrev es : List Entry
   es = stateOf t .entries
 
+  abbrev now : ℕ
+  now = stateOf t .history .latest
+
   abbrev top : List ℕ
   top = line (headLine f .enc (stateOf t .last))
 
   -- the first lines of the file
   unfoldable pub front : ℕ → List ℕ
   front zero = []
-  front (suc k) = top ++ entryLines f (take k es)
+  front (suc k) = top ++ entryLines f (standing now (take k es))
 
   pub front-head : length (front 1) ≡ 19
-  unfolding front entryLines
+  unfolding front entryLines without
   front-head = omega (arith, length-append top [], line-length (headLine f .enc (stateOf t .last)), head-length f (stateOf t .last))
 
   front-next : (i : ℕ) → i ≤ length es → front (i + 1) ≡ front i ++ lineAt f (stateOf t) i
-  unfolding front lineAt entryLines
+  unfolding front lineAt entryLines without
   front-next zero h = append-nil top
-  front-next (suc k) h = rw (lt-ltb k (length es) h, add-one, take-suc es k (entry [] [] 0 0), lines-append, append-nil, append-assoc)
+  front-next (suc k) h =
+      rw (lt-ltb k (length es) h, add-one, take-suc es k (entry [] [] 0 0), standing-both, lines-append, append-assoc)
+      (ap (λ (xs : List ℕ). top ++ (entryLines f (standing now (take k es)) ++ xs)) (one-line f now (getD es k (entry [] [] 0 0))))
 
-  pub front-entry : (k : ℕ) → k < length es → front (k + 1 + 1) ≡ front (k + 1) ++ line (entryLine f .enc (entryAt t k))
+  pub front-entry : (k : ℕ) → k < length es → front (k + 1 + 1) ≡ front (k + 1) ++ lineOf f now (entryAt t k)
   front-entry k h = rw (add-one k, ← line-entry f t k h) (front-next (suc k) h)
 
   pub front-all : (n : ℕ) → n ≡ length es + 1 → front n ≡ file f (stateOf t)
-  unfolding front file
+  unfolding front file linesOf
   front-all n e = rw (e, add-one, take-length)
 
   front-within : (i : ℕ) → length (front i) ≤ length (file f (stateOf t))
-  unfolding front file
+  unfolding front file linesOf
   front-within zero = omega arith
   front-within (suc k) =
-      let e : entryLines f es ≡ entryLines f (take k es) ++ entryLines f (drop k es) = ap (entryLines f) (sym (take-append-drop k es)) ∙ lines-append f (take k es) (drop k es) in
+      let a = standing now (take k es) in
+      let b = standing now (drop k es) in
+      let e : entryLines f (standing now es) ≡ entryLines f a ++ entryLines f b =
+      ap (λ (xs : List Entry). entryLines f (standing now xs)) (sym (take-append-drop k es)) ∙ ap (entryLines f) (standing-both now (take k es) (drop k es)) ∙ lines-append f a b in
       omega
-      (arith, ap length e, length-append (entryLines f (take k es)) (entryLines f (drop k es)), length-append top (entryLines f (take k es)), length-append top (entryLines f es))
+      (arith, ap length e, length-append (entryLines f a) (entryLines f b), length-append top (entryLines f a), length-append top (entryLines f (standing now es)))
 
   -- the first i lines stand at the front of what was old
   pub record Lines (old : List ℕ) (i at : ℕ) (o : List ℕ) : Type 0 where

@@ -5,18 +5,21 @@ use Prim.Native.Nat.{ℕ}
 use native.Mathlib.Omega.{arith}
 use lib.ListN.{length, length-append}
 use Rattle.wire.specs.Codec.{Valid}
-use Rattle.map.specs.History.{History}
-use Rattle.map.specs.State.{Entry, State}
-use Rattle.map.specs.Table.{Each, IsTable}
+use Rattle.map.specs.History.{History, noHistory}
+use Rattle.map.specs.State.{Entry, State, withHistory}
+use Rattle.map.specs.Deadline.{expired}
+use Rattle.map.specs.Table.{Each, Sizes, OtherKey, OtherVersion, Issued, IsTable}
+use Rattle.map.proofs.Each.{fewer, each-without, pairs-without}
 use Rattle.table.specs.Memory.{stateOf, Sound}
 use Rattle.map.proofs.CountLaws.{fresh-counts}
 use Rattle.hex.specs.Hex.{line}
-use Rattle.stored.specs.File.{Form, entryLine, headLine, entryLines, file, afresh, Stores}
+use Rattle.stored.specs.File.{Form, entryLine, headLine, entryLines, linesOf, lasting, file, afresh, Stores}
 use Rattle.stored.proofs.LineLaws.{entry-laws, entry-spelt, table-good, head-laws, head-spelt, head-good, same-line}
+use Rattle.stored.proofs.FileLaws.{file-afresh}
 use Rattle.hex.proofs.HexLaws.{line-length}
 
 -- a table with no history is one
-table-afresh : {st : State} → IsTable st → IsTable (afresh st)
+table-afresh : {st : State} → IsTable st → IsTable (withHistory noHistory st)
 table-afresh s =
     record {
       few = s .few;
@@ -26,6 +29,22 @@ table-afresh s =
       issued = s .issued;
       last = s .last;
       counts = fresh-counts;
+      seconds = record { first = omega arith; latest = omega arith };
+    }
+
+-- and so is one with the entries that stand
+table-lasting : {st : State} → IsTable st → IsTable (lasting st)
+table-lasting {st} s =
+    let p = expired (st .history .latest) in
+    record {
+      few = omega (arith, fewer p (st .entries), s .few);
+      keys = pairs-without p OtherKey (st .entries) (s .keys);
+      sizes = each-without p Sizes (st .entries) (s .sizes);
+      versions = pairs-without p OtherVersion (st .entries) (s .versions);
+      issued = each-without p (Issued (st .last)) (st .entries) (s .issued);
+      last = s .last;
+      counts = s .counts;
+      seconds = s .seconds;
     }
 
 module _ (f : Form) where
@@ -43,15 +62,15 @@ module _ (f : Form) where
       let r = same-front es fs y (v .1) (w .1) (q .1) in
       (r .0, cc (q .0, r .1), r .2)
 
-  -- a table whose file begins the file of another has the same last version and its first entries
+  -- a table whose lines begin the lines of another has the same last version and its first entries
   pub record Front (s t : State) (y : List ℕ) : Type 0 where
     pub entries : List Entry
     pub all : t .entries ≡ s .entries ++ entries
     pub last : t .last ≡ s .last
     pub behind : y ≡ entryLines f entries
 
-  pub file-front : (s t : State) (y : List ℕ) → IsTable s → IsTable t → file f s ++ y ≡ file f t → Front s t y
-  unfolding file
+  pub file-front : (s t : State) (y : List ℕ) → IsTable s → IsTable t → linesOf f s ++ y ≡ linesOf f t → Front s t y
+  unfolding linesOf
   file-front s t y hs ht p =
       let q = same-line (headLine f) (head-laws f) (head-spelt f) (s .last) (t .last) (entryLines f (s .entries) ++ y) (entryLines f (t .entries))
       (head-good f (s .last) (omega (arith, hs .last))) (head-good f (t .last) (omega (arith, ht .last))) (rw append-assoc at p) in
@@ -71,11 +90,18 @@ module _ (f : Form) where
 
   pub one-table : (bytes : List ℕ) (s t : State) → Stores f bytes s → Stores f bytes t → s ≡ t
   one-table bytes s t x y =
-      let r = file-front s t [] (x .table) (y .table) (append-nil (file f s) ∙ sym (x .same) ∙ y .same) in
+      let r = file-front s t [] (x .table) (y .table) (append-nil (linesOf f s) ∙ sym (file-afresh f s (x .history)) ∙ sym (x .same) ∙ y .same ∙ file-afresh f t (y .history)) in
       let n : t .entries ≡ s .entries = r .all ∙ rw (no-lines (r .entries) (r .behind), append-nil) in
       same-state s t (sym n) (sym (r .last)) (x .history ∙ sym (y .history))
 
-  -- what `store` writes of a sound table can be loaded, and gives the table with no history
+  -- what `store` writes of a sound table can be loaded, and gives the table of what stands, with no history
   pub stores-own : (t : List ℕ) → Sound t → Stores f (file f (stateOf t)) (afresh (stateOf t))
-  unfolding file
-  stores-own t s = record { table = table-afresh (s .table); order = s .form .order; history = refl; same = refl }
+  unfolding file linesOf
+  stores-own t s =
+      let st = stateOf t in
+      record {
+        table = table-afresh (table-lasting (s .table));
+        order = pairs-without (expired (st .history .latest)) _ (st .entries) (s .form .order);
+        history = refl;
+        same = sym (file-afresh f (afresh st) refl);
+      }

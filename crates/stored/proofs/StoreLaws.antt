@@ -19,6 +19,7 @@ use Rattle.wire.proofs.WriteLaws.{wrote-seq, wrote-guard, wrote-type, put-wrote
 use Rattle.message.specs.Request.{keyLimit, valueLimit}
 use Rattle.message.proofs.Most.{Most}
 use Rattle.map.specs.State.{Entry, State, fresh}
+use Rattle.map.specs.Deadline.{expired}
 use Rattle.hex.specs.Hex.{line}
 use Rattle.hex.proofs.HexLaws.{line-length}
 use Rattle.hex.proofs.InPlace.{line-over}
@@ -30,7 +31,7 @@ use Rattle.table.proofs.Lists.{lt-or-ge}
 use Rattle.table.proofs.Parts.{bytes-part}
 use Rattle.table.proofs.RowLaws.{entry-is}
 use Rattle.table.proofs.Answers.{held-row, no-row}
-use Rattle.stored.specs.File.{Form, form1, toEntry, fromEntry, entryLine, headLine}
+use Rattle.stored.specs.File.{Form, form1, toEntry, fromEntry, entryLine, headLine, lineOf}
 use Rattle.stored.specs.StoreLoad.{lineAt}
 use Rattle.stored.proofs.LineLaws.{fields, entry-good, entry-most}
 
@@ -128,13 +129,22 @@ pub line-head : (f : Form) (st : State) → lineAt f st 0 ≡ line (headLine f .
 unfolding lineAt
 line-head f st = refl
 
-pub line-entry : (f : Form) (t : List ℕ) (k : ℕ) → k < length (stateOf t .entries) → lineAt f (stateOf t) (suc k) ≡ line (entryLine f .enc (entryAt t k))
+pub line-entry : (f : Form) (t : List ℕ) (k : ℕ) → k < length (stateOf t .entries) → lineAt f (stateOf t) (suc k) ≡ lineOf f (stateOf t .history .latest) (entryAt t k)
 unfolding lineAt entryAt
 line-entry f t k h = rw (lt-ltb k (length (stateOf t .entries)) h)
 
 pub line-none : (f : Form) (st : State) (k : ℕ) → length (st .entries) ≤ k → lineAt f st (suc k) ≡ []
 unfolding lineAt
 line-none f st k h = rw (le-ltb k (length (st .entries)) h)
+
+-- the line of an entry that stands, and of one that does not
+pub line-stands : (f : Form) (now : ℕ) (e : Entry) → expired now e ≡ false → lineOf f now e ≡ line (entryLine f .enc e)
+unfolding lineOf
+line-stands f now e h = rw h
+
+pub line-gone : (f : Form) (now : ℕ) (e : Entry) → expired now e ≡ true → lineOf f now e ≡ []
+unfolding lineOf
+line-gone f now e h = rw h
 
 -- a row's last version fits its eight bytes
 pub last-small : (t : List ℕ) → Bytes t → stateOf t .last < 256 ^ 8

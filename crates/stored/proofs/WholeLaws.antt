@@ -24,12 +24,12 @@ use Rattle.table.specs.Change.{Left, isSome}
 use Rattle.table.specs.declared.Outcome.the-variants.{Done, Refused}
 use Rattle.table.proofs.Restores.{started-is, started-says, started-long, restored-long, restored-sound, each-restored, each-mid}
 use Rattle.table.proofs.HasForm.{started-sound}
-use Rattle.stored.specs.File.{Form, form1, entryLine, headLine, entryLines, file, Stores}
+use Rattle.stored.specs.File.{Form, form1, entryLine, headLine, entryLines, linesOf, Stores}
 use Rattle.stored.specs.StoreLoad.{readLine, startWith, restoreTo, headLoaded, lineLoaded, loaded, NoEnd, Loads, no-line, a-line, Ends, LoadsLines, Loaded}
 use Rattle.stored.specs.declared.Loading.{Loading}
 use Rattle.stored.proofs.LineLaws.{entry-laws, entry-spelt, table-good, head-laws, head-spelt, head-good, line-read, line-back, no-end, first-end, ends-split, line-cons}
 use Rattle.stored.proofs.StoreLaws.{parts}
-use Rattle.stored.proofs.FileLaws.{lines-append}
+use Rattle.stored.proofs.FileLaws.{lines-append, file-afresh}
 use Rattle.stored.proofs.OneTable.{file-front}
 
 -- a list up to its first line end
@@ -140,35 +140,35 @@ module _ {f : Form} {b : Bool} {p t u : List ℕ} {r : Loading} (q : List ℕ) (
         ends = rw (e, drop-append-le (r .taken) p q w) (ends-on f (r .begun) (drop (r .taken) p) u q (rw e at (g .ends)));
       }
 
--- a first line that is loaded is the file of the table that it leaves, which has no history
-head-sound : (l t u : List ℕ) → headLoaded form1 l t ≡ some u → Sound u × (file form1 (stateOf u) ≡ l ++ (0x0a ∷ [])) × (stateOf u .history ≡ noHistory)
-unfolding headLoaded file entryLines line
+-- a first line that is loaded is the lines of the table that it leaves, which has no history
+head-sound : (l t u : List ℕ) → headLoaded form1 l t ≡ some u → Sound u × (linesOf form1 (stateOf u) ≡ l ++ (0x0a ∷ [])) × (stateOf u .history ≡ noHistory)
+unfolding headLoaded linesOf entryLines line
 head-sound l t u e = go (readLine (headLine form1) l) refl e
   where
     go : (o : Option ℕ) → readLine (headLine form1) l ≡ o → startWith t o ≡ some u
-        → Sound u × (file form1 (stateOf u) ≡ l ++ (0x0a ∷ [])) × (stateOf u .history ≡ noHistory)
+        → Sound u × (linesOf form1 (stateOf u) ≡ l ++ (0x0a ∷ [])) × (stateOf u .history ≡ noHistory)
     go none p q = never (cc)
     go (some n) p q =
         let s = started-says n t u q in
         let d = started-sound n t u (s .0) (s .1) (rw q refl) in
         let x = line-read (headLine form1) (head-laws form1) l n p in
-        (d .0, ap (file form1) (d .1) ∙ append-nil (line (headLine form1 .enc n)) ∙ ap (λ (y : List ℕ). y ++ (0x0a ∷ [])) (sym (x .same)), ap (λ (st : State). st .history) (d .1))
+        (d .0, ap (linesOf form1) (d .1) ∙ append-nil (line (headLine form1 .enc n)) ∙ ap (λ (y : List ℕ). y ++ (0x0a ∷ [])) (sym (x .same)), ap (λ (st : State). st .history) (d .1))
 
--- an entry's line that is loaded is behind the file of the table before it
+-- an entry's line that is loaded is behind the lines of the table before it
 line-sound : (l t u : List ℕ) → Sound t → lineLoaded form1 l t ≡ some u
-    → Sound u × (file form1 (stateOf u) ≡ file form1 (stateOf t) ++ (l ++ (0x0a ∷ []))) × (stateOf u .history ≡ stateOf t .history)
-unfolding lineLoaded file entryLines entry line
+    → Sound u × (linesOf form1 (stateOf u) ≡ linesOf form1 (stateOf t) ++ (l ++ (0x0a ∷ []))) × (stateOf u .history ≡ stateOf t .history)
+unfolding lineLoaded linesOf entryLines entry line
 line-sound l t u h e = go (readLine (entryLine form1) l) refl e
   where
     go : (o : Option Entry) → readLine (entryLine form1) l ≡ o → restoreTo t o ≡ some u
-        → Sound u × (file form1 (stateOf u) ≡ file form1 (stateOf t) ++ (l ++ (0x0a ∷ []))) × (stateOf u .history ≡ stateOf t .history)
+        → Sound u × (linesOf form1 (stateOf u) ≡ linesOf form1 (stateOf t) ++ (l ++ (0x0a ∷ []))) × (stateOf u .history ≡ stateOf t .history)
     go none p q = never (cc)
     go (some x) p q =
         let y = line-read (entryLine form1) (entry-laws form1) l x p in
         let k = parts x (y .good) .1 .1 in
         let d = restored-sound (x .key) (x .value) (x .version) (x .deadline) t u h
         (bytes-are _ (limited-valid keyLimit (x .key) (k .0) .1)) (bytes-are _ (limited-valid valueLimit (x .value) (k .1) .1)) q in
-        (d .0, ap (file form1) (d .1) ∙ rw (lines-append, append-nil, y .same) (sym (append-assoc (line (headLine form1 .enc (stateOf t .last))) (entryLines form1 (stateOf t .entries)) (line (entryLine form1 .enc x)))), ap (λ (st : State). st .history) (d .1))
+        (d .0, ap (linesOf form1) (d .1) ∙ rw (lines-append, append-nil, y .same) (sym (append-assoc (line (headLine form1 .enc (stateOf t .last))) (entryLines form1 (stateOf t .entries)) (line (entryLine form1 .enc x)))), ap (λ (st : State). st .history) (d .1))
 
 -- lines behind a file
 loads-true : {f : Form} {c : Bool} {s t u : List ℕ} → Loads f true s t c u → c ≡ true
@@ -176,8 +176,8 @@ loads-true no-line = refl
 loads-true (a-line l o e r) = loads-true r
 
 loads-sound : {c : Bool} {s t u : List ℕ} → Loads form1 true s t c u → Sound t
-    → Sound u × (file form1 (stateOf u) ≡ file form1 (stateOf t) ++ s) × (stateOf u .history ≡ stateOf t .history)
-loads-sound {t = t} no-line h = (h, sym (append-nil (file form1 (stateOf t))), refl)
+    → Sound u × (linesOf form1 (stateOf u) ≡ linesOf form1 (stateOf t) ++ s) × (stateOf u .history ≡ stateOf t .history)
+loads-sound {t = t} no-line h = (h, sym (append-nil (linesOf form1 (stateOf t))), refl)
 loads-sound {t = t} (a-line {u = u} l o e r) h =
     let a = line-sound l t u h e in
     let d = loads-sound r (a .0) in
@@ -189,7 +189,8 @@ loads-stores no-line p = never (cc)
 loads-stores {t = t} (a-line {u = u} l o e r) p =
     let a = head-sound l t u e in
     let d = loads-sound r (a .0) in
-    (d .0, record { table = d .0 .table; order = d .0 .form .order; history = d .2 ∙ a .2; same = sym (d .1 ∙ rw (a .1, append-assoc)) })
+    let z = d .2 ∙ a .2 in
+    (d .0, record { table = d .0 .table; order = d .0 .form .order; history = z; same = sym (file-afresh form1 _ z ∙ d .1 ∙ rw (a .1, append-assoc)) })
 
 -- a line that can be loaded does not end the loading
 stuck : (b : Bool) (bs z u : List ℕ) (g : Bool) → isSome (loaded form1 b (toHex bs) u) ≡ true → Ends form1 b (line bs ++ z) u g → ⊥
@@ -225,13 +226,13 @@ rest-loads u y g (x ∷ es) q h p l e n =
 
 pub all-loaded : {c : Bool} {x t u : List ℕ} (g : Bool) (y : List ℕ) (st : State) → Loads form1 false x t c u → Ends form1 c y u g → Stores form1 (x ++ y) st → length t ≡ size
     → (c ≡ true) × (g ≡ true) × (y ≡ [])
-unfolding file
+unfolding linesOf
 all-loaded {t = t} g y st no-line n q h =
-    absurd (stuck false (headLine form1 .enc (st .last)) (entryLines form1 (st .entries)) t g (head-loads st t (q .table) h) (rw (q .same) at n))
+    absurd (stuck false (headLine form1 .enc (st .last)) (entryLines form1 (st .entries)) t g (head-loads st t (q .table) h) (rw (q .same ∙ file-afresh form1 st (q .history)) at n))
 all-loaded {u = u} g y st (a-line l o e r) n q h =
     let i = loads-true r in
     let w = loads-stores (a-line l o e r) i in
-    let p = file-front form1 (stateOf u) st y (w .0 .table) (q .table) (ap (λ (z : List ℕ). z ++ y) (sym (w .1 .same)) ∙ q .same) in
+    let p = file-front form1 (stateOf u) st y (w .0 .table) (q .table) (ap (λ (z : List ℕ). z ++ y) (sym (w .1 .same ∙ file-afresh form1 (stateOf u) (w .1 .history))) ∙ q .same ∙ file-afresh form1 st (q .history)) in
     let z = rest-loads u y g (p .entries) q (w .0 .form .long) (p .all) (p .last) (p .behind) (rw i at n) in
     (i, z .0, z .1)
 

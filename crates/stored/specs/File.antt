@@ -2,13 +2,15 @@
 -- version, deadline (8 bytes each), key length, key, value length, value".
 use mathlib.Core.Path.{_≡_}
 use mathlib.Core.List.{List, [], _∷_, _++_}
+use mathlib.Core.Bool.{cond}
 use Prim.Native.Nat.{ℕ}
 use lib.Dec.{eqb}
 use Rattle.wire.specs.Codec.{Codec, byte, guard, seq, as-type, all}
 use Rattle.wire.specs.Field.{entryVersion, second, limited}
 use Rattle.message.specs.Request.{keyLimit, valueLimit}
 use Rattle.map.specs.History.{noHistory}
-use Rattle.map.specs.State.{Entry, State, withHistory}
+use Rattle.map.specs.State.{Entry, State, withEntries, withHistory}
+use Rattle.map.specs.Deadline.{expired, standing}
 use Rattle.map.specs.Table.{IsTable, Ascending}
 use Rattle.hex.specs.Hex.{line}
 
@@ -42,12 +44,25 @@ unfoldable pub entryLines : Form → List Entry → List ℕ
 entryLines f [] = []
 entryLines f (e ∷ es) = line (entryLine f .enc e) ++ entryLines f es
 
-unfoldable pub file : Form → State → List ℕ
-file f st = line (headLine f .enc (st .last)) ++ entryLines f (st .entries)
+-- the line of an entry, which one that has expired at a second does not have
+unfoldable pub lineOf : Form → ℕ → Entry → List ℕ
+lineOf f now e = cond (expired now e) [] (line (entryLine f .enc e))
 
--- the table that the file of a table gives back: the counts and the first second are "of the history since start or the last load", and no file holds them
+-- the first line and those of all entries
+unfoldable pub linesOf : Form → State → List ℕ
+linesOf f st = line (headLine f .enc (st .last)) ++ entryLines f (st .entries)
+
+-- "A stored file holds only entries that stand at the latest second served", and the last version issued all the same.
+abbrev pub lasting : State → State
+lasting st = withEntries (standing (st .history .latest) (st .entries)) st
+
+unfoldable pub file : Form → State → List ℕ
+file f st = linesOf f (lasting st)
+
+-- The table that the file of a table gives back: the counts and the first second are "of the history since start or the last load", and no file holds
+-- them. "A loaded table starts from second 0."
 abbrev pub afresh : State → State
-afresh st = withHistory noHistory st
+afresh st = withHistory noHistory (lasting st)
 
 -- "Reading accepts exactly what writing a table can give."
 pub record Stores (f : Form) (bytes : List ℕ) (st : State) : Type 0 where

@@ -15,13 +15,14 @@ use Rattle.table.specs.Change.{started, restored}
 use Rattle.table.specs.declared.Outcome.{Outcome}
 use Rattle.table.specs.declared.Outcome.the-variants.{Done, Refused}
 use Rattle.hex.specs.Hex.{fromHex, line}
-use Rattle.stored.specs.File.{Form, entryLine, headLine, file, Stores}
+use Rattle.stored.specs.File.{Form, entryLine, headLine, lineOf, file, Stores}
 use Rattle.stored.specs.declared.Loading.{Loading}
 
--- line i of a stored file with its line end: the first line, then those of the entries; behind the last there is none
+-- line i of a stored file with its line end: the first line, then those of the entries; an entry that has expired at the latest second has none, and
+-- behind the last there is none
 unfoldable pub lineAt : Form → State → ℕ → List ℕ
 lineAt f st zero = line (headLine f .enc (st .last))
-lineAt f st (suc k) = cond (ltb k (length (st .entries))) (line (entryLine f .enc (getD (st .entries) k (entry [] [] 0 0)))) []
+lineAt f st (suc k) = cond (ltb k (length (st .entries))) (lineOf f (st .history .latest) (getD (st .entries) k (entry [] [] 0 0))) []
 
 -- "Storing gives 13, then 12"
 pub record Storing (f : Form) (t old : List ℕ) (r : Sent) (new : List ℕ) : Type 0 where

@@ -6,14 +6,18 @@ use message::Sent;
 use table::Outcome;
 use table::Table;
 ghost use mathlib.Core.Path.{_≡_};
-ghost use Prim.Native.Nat.{_≤_};
+ghost use mathlib.Core.List.{[]};
+ghost use mathlib.Core.Bool.{true, false};
+ghost use Prim.Native.Nat.{_-_, _≤_, _<_};
 ghost use lib.ListN.{length};
 ghost use lib.Seq.{sets};
 ghost use Rattle.wire.specs.Write.{laid};
 ghost use Rattle.message.specs.Sent.{asSent};
 ghost use Rattle.table.specs.Memory.{size, stateOf};
+ghost use Rattle.table.specs.Found.{entryAt};
 ghost use Rattle.table.specs.Change.{Answers, AnswersBy};
-ghost use Rattle.stored.specs.File.{form1, file};
+ghost use Rattle.hex.specs.Hex.{line};
+ghost use Rattle.stored.specs.File.{form1, entryLine, file};
 ghost use Rattle.stored.specs.StoreLoad.{lineAt, Storing, headLoaded, lineLoaded, loaded, LoadsLines, Loaded};
 
 // What a line is made of.
@@ -36,8 +40,19 @@ pub struct Loading {
     pub good: bool,
 }
 
-// Writes line i of the stored file at a place, with its line end, and answers the place behind it: the first line, or that of row i - 1.
-// Where there is no such line, or no room for it, nothing is written and the same place is answered.
+// Whether there is a line i, which is that of entry i - 1: the entry stands at the latest second.
+fn has_line(t: &[u8], i: usize) -> bool
+    requires { ⌜ 0 < i ⌝ }
+    ensures { λ r. ⌜ (r ≡ true → lineAt form1 (stateOf (now (t .entry))) i ≡ line (entryLine form1 .enc (entryAt (now (t .entry)) (i - 1)))) × (r ≡ false → lineAt form1 (stateOf (now (t .entry))) i ≡ []) ⌝ }
+{
+    if table::count(t) < i {
+        return false;
+    }
+    table::stands(t, i - 1, table::latest(t))
+}
+
+// Writes line i of the stored file at a place, with its line end, and answers the place behind it: the first line, or that of entry i - 1. Where there
+// is no such line, as of an entry that has expired at the latest second, or no room for it, nothing is written and the same place is answered.
 pub fn store_line(t: &[u8], i: usize, out: &mut [u8], at: usize) -> usize
     ensures { λ r. ⌜ (r, now (out .exit)) ≡ laid (lineAt form1 (stateOf (now (t .entry))) i) at (now (out .entry)) ⌝ }
 {
@@ -46,7 +61,7 @@ pub fn store_line(t: &[u8], i: usize, out: &mut [u8], at: usize) -> usize
         let n = lines::write_head(t, &mut room);
         return lines::put_line(&room[0..n], out, at);
     }
-    if table::count(t) < i {
+    if !has_line(t, i) {
         return at;
     }
     let n = lines::write_entry(t, i - 1, &mut room);
@@ -58,10 +73,11 @@ fn file_len(t: &[u8]) -> usize
     ensures { λ r. ⌜ r ≡ length (file form1 (stateOf (now (t .entry)))) ⌝ }
 {
     let n = table::count(t);
+    let latest = table::latest(t);
     let mut sum = Line::HEAD;
     let mut i = 0;
     while i < n {
-        sum += lines::entry_len(t, i);
+        sum += lines::line_len(t, i, latest);
         i += 1;
     }
     sum
@@ -153,10 +169,10 @@ pub fn load_lines(piece: &[u8], t: &mut [u8], begun: bool) -> Loading
 }
 
 // Memory of a table.
-fn memory() -> [u8; 45264]
+fn memory() -> [u8; 45280]
     ensures { λ r. ⌜ size ≡ length r ⌝ }
 {
-    [0; 45264]
+    [0; 45280]
 }
 
 // Loads a stored file: the table is built in memory of its own, and takes the place of t only when the last line is good. Else it is 17.

@@ -2,6 +2,7 @@
 use crate::Line;
 use field::ByteRead;
 use field::Cursor;
+use field::Second;
 use field::SecondRead;
 use field::SpanRead;
 use field::VersionRead;
@@ -15,7 +16,7 @@ ghost use Rattle.table.specs.Memory.{stateOf};
 ghost use Rattle.table.specs.Found.{entryAt};
 ghost use Rattle.table.specs.Change.{Answers};
 ghost use Rattle.hex.specs.Hex.{line};
-ghost use Rattle.stored.specs.File.{form1, entryLine, headLine};
+ghost use Rattle.stored.specs.File.{form1, entryLine, headLine, lineOf};
 ghost use Rattle.stored.specs.StoreLoad.{exactly, startWith, restoreTo};
 
 // Room for the bytes of a line.
@@ -46,13 +47,23 @@ pub(crate) fn write_entry(t: &[u8], i: usize, out: &mut [u8]) -> usize
 }
 
 // How many characters the line of row i has, its line end counted.
-pub(crate) fn entry_len(t: &[u8], i: usize) -> usize
+fn entry_len(t: &[u8], i: usize) -> usize
     ensures { λ r. ⌜ (r ≡ length (line (entryLine form1 .enc (entryAt (now (t .entry)) i)))) × (r ≤ 679) ⌝ }
 {
     let k = table::key_at(t, i).len();
     let v = table::value_at(t, i).len();
     let n = 16 + put::number_len(k as u64) + k + put::number_len(v as u64) + v;
     2 * n + 1
+}
+
+// The same of the line of an entry that stands at a second; one that has expired has none.
+pub(crate) fn line_len(t: &[u8], i: usize, second: Second) -> usize
+    ensures { λ r. ⌜ (r ≡ length (lineOf form1 (second .0) (entryAt (now (t .entry)) i))) × (r ≤ 679) ⌝ }
+{
+    if !table::stands(t, i, second) {
+        return 0;
+    }
+    entry_len(t, i)
 }
 
 // Writes the digits of bytes and a line end at a place, and answers the place behind them.

@@ -12,17 +12,19 @@ use borrow.Author.Tests.{eqb-true, eqb-false, eq-eqb, ne-eqb, ltb-true, lt-ltb, 
 use Rattle.wire.proofs.Laws.{never, both, and, and-false}
 use Rattle.message.specs.Request.{keyLimit, valueLimit}
 use Rattle.message.specs.declared.Operation.{Operation}
-use Rattle.map.specs.History.{adds, startOf}
+use Rattle.map.specs.History.{History, adds, startOf}
 use Rattle.map.specs.State.{Entry, State, fresh}
 use Rattle.map.specs.Step.{mostKeys, lastVersion, Context, statistics}
+use Rattle.map.specs.Table.{lastSecond}
 use Rattle.table.specs.Bytes.{be8, upto}
-use Rattle.table.specs.Memory.{countIndex, lastIndex, firstIndex, countsIndex, size, numberOf, firstOf, rowAt, entry, entryOf, countOf, historyOf, stateOf}
+use Rattle.table.specs.Memory.{countIndex, lastIndex, firstIndex, countsIndex, latestIndex, size, numberOf, firstOf, rowAt, entry, entryOf, countOf, historyOf, stateOf}
 use Rattle.table.specs.Found.{entryAt, FoundIs, NumberAt}
 use Rattle.table.specs.Check.{FoundFrom}
 use Rattle.table.specs.declared.Found.{Found}
 use Rattle.table.specs.declared.Found.the-variants.{At, Absent}
-use Rattle.table.specs.Change.{Answers, fitsRow, hasRoom, added, renewed, removed, cleared, lastSecond, arrived}
-use Rattle.table.specs.Write.{withNumber, begun, counted, turned, withValue, withEntry}
+use Rattle.table.specs.Change.{Answers, fitsRow, hasRoom, added, renewed, removed, cleared, arrived}
+use Rattle.table.specs.Sweep.{presentAt, swept}
+use Rattle.table.specs.Write.{withNumber, lowered, begun, counted, turned, less, withValue, withEntry}
 use Rattle.table.proofs.Lists.{lt-or-ge}
 use Rattle.table.proofs.RowLaws.{history-is, length-entries, entry-is}
 
@@ -81,7 +83,7 @@ module _ (t : List ℕ) where
   cleared-no h = left t _ _ (ne-eqb (length t) size h)
 
   module _ (i : ℕ) where
-    pub removed-yes : (u : List ℕ) → i < length (stateOf t .entries) → u ≡ withNumber countIndex (countOf t - 1) (turned i (countOf t - 1) t) → Answers t (removed i t) true u
+    pub removed-yes : (u : List ℕ) → i < length (stateOf t .entries) → u ≡ less i t → Answers t (removed i t) true u
     unfolding removed
     removed-yes u l x = taken t _ _ (lt-ltb i (length (stateOf t .entries)) l) x
 
@@ -94,7 +96,7 @@ module _ (t : List ℕ) where
       abbrev renewal : List ℕ
       renewal =
           let n = suc (stateOf t .last) in
-          withNumber lastIndex n (turned i (countOf t - 1) (withValue (rowAt t i) v n d t))
+          lowered d (withNumber lastIndex n (turned i (countOf t - 1) (withValue (rowAt t i) v n d t)))
 
       pub renewed-yes : (u : List ℕ) → length v ≤ valueLimit → i < length (stateOf t .entries) → stateOf t .last < lastVersion → u ≡ renewal → Answers t (renewed i v d t) true u
       unfolding renewed
@@ -125,7 +127,7 @@ room-is t e = let x = both (eqb (length t) size) (ltb (length (stateOf t .entrie
 -- what an entry more takes
 module _ (k v : List ℕ) (d : ℕ) (t : List ℕ) where
   abbrev addition : List ℕ
-  addition = let n = suc (stateOf t .last) in withNumber lastIndex n (withEntry k v n d t)
+  addition = let n = suc (stateOf t .last) in lowered d (withNumber lastIndex n (withEntry k v n d t))
 
   pub added-yes : (u : List ℕ) → fitsRow k v ≡ true → hasRoom t ≡ true → stateOf t .last < lastVersion → u ≡ addition → Answers t (added k v d t) true u
   unfolding added
@@ -162,7 +164,7 @@ found-first t k h Absent f =
 -- a call that arrives
 module _ (o : Operation) (absent : Bool) (second : ℕ) (t : List ℕ) where
   abbrev after : List ℕ
-  after = counted countsIndex (adds o absent) (begun second t)
+  after = let now = presentAt second t in withNumber latestIndex now (counted countsIndex (adds o absent) (begun second (swept now t)))
 
   abbrev may-arrive : Bool
   may-arrive = eqb (length t) size && leb second lastSecond
@@ -178,6 +180,11 @@ module _ (o : Operation) (absent : Bool) (second : ℕ) (t : List ℕ) where
   pub arrived-late : lastSecond < second → Answers t (arrived o absent second t) false t
   unfolding arrived
   arrived-late l = left t after may-arrive (rw (lt-leb second lastSecond l, and-false))
+
+-- the latest second
+pub latest-is : (t : List ℕ) → length t ≡ size → stateOf t .history .latest ≡ numberOf t latestIndex
+unfolding historyOf
+latest-is t h = ap (λ (y : History). y .latest) (history-is t h)
 
 -- the statistics
 module _ (second : ℕ) (t : List ℕ) where

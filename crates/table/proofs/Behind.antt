@@ -49,4 +49,4 @@ module _ (t u : List ℕ) (ht : length t ≡ size) (hu : length u ≡ size) (hea
 
   pub behind : stateOf u ≡ stateOf t
   behind = state-is u (stateOf t) hu (entries ∙ sym (entries-are t ht)) (number lastIndex (omega arith) ∙ sym (last-is t ht))
-      (history-same u t (λ i _ l. number i l) ∙ sym (history-is t ht))
+      (history-same u t (λ i _ l. number i (omega arith)) ∙ sym (history-is t ht))

@@ -1,40 +1,53 @@
 -- On sound memory each change of the bytes is a change of the map's state, and keeps the form. Assumes nothing.
 use mathlib.Core.Path.{_≡_, refl, sym, ap, _∙_, subst}
 use mathlib.Core.List.{List, [], _∷_, _++_}
-use mathlib.Core.Logic.{inl}
+use mathlib.Core.Bool.{Bool}
+use mathlib.Core.Option.{some}
+use mathlib.Core.Logic.{inl, inr}
 use Prim.Native.Nat.{ℕ, suc, _≤_, _<_, _^_}
 use native.Mathlib.Omega.{arith}
 use lib.ListN.{length}
 use borrow.Author.Tests.{eq-eqb, lt-ltb, le-leb}
 use Rattle.message.specs.Request.{keyLimit, valueLimit}
 use Rattle.message.specs.Request.{Request}
-use Rattle.map.specs.History.{History, noHistory, adds}
+use Rattle.message.specs.declared.Operation.{Operation}
+use Rattle.map.specs.History.{History, noHistory, adds, tally, startOf}
 use Rattle.map.specs.State.{Entry, State, withEntries, withLast}
-use Rattle.map.specs.Step.{mostKeys, lastVersion, Context, isNone, held, arrive}
-use Rattle.map.specs.Table.{Each, Counts, IsTable, Ascending}
+use Rattle.map.specs.Deadline.{standing}
+use Rattle.map.specs.Step.{mostKeys, lastVersion, Context, isNone, held, noted, arrive}
+use Rattle.map.specs.Step as map
+use Rattle.map.specs.Table.{Each, Counts, lastSecond, IsTable, Ascending}
 use Rattle.map.proofs.Counting.{arrive-table}
-use Rattle.map.proofs.Each.{each-map, pairs-add}
-use Rattle.table.specs.Memory.{countIndex, lastIndex, firstIndex, countsIndex, size, numberOf, rowAt, entry, entryOf, countOf, entriesOf, historyOf, stateOf, Form, Sound}
+use Rattle.map.proofs.Each.{each-map, each-add, pairs-add, pairs-without}
+use Rattle.table.specs.Memory.{countIndex, lastIndex, firstIndex, countsIndex, latestIndex, boundIndex, numberAt, size, numberOf, rowAt, entry, entryOf, countOf, entriesOf, historyOf, stateOf, Bounded, Form, Sound}
 use Rattle.table.specs.Found.{entryAt}
-use Rattle.table.specs.Write.{withNumber, withNone, begun, counted, withEntry}
-use Rattle.table.specs.Change.{Changed, Left, newest, fitsRow, hasRoom, added, renewed, removed, cleared, started, lastSecond, arrived, grown, extended, shrunk, refreshed}
+use Rattle.table.specs.Write.{withNumber, withNone, lower, lowered, begun, counted, withEntry}
+use Rattle.table.specs.Sweep.{noBound, presentAt, swept}
+use Rattle.table.specs.Change.{Changed, Left, newest, fitsRow, hasRoom, added, renewed, removed, cleared, started, arrived, grown, extended, shrunk, refreshed}
 use Rattle.table.proofs.Lists.{removeAt}
 use Rattle.table.proofs.Order.{each-less, pairs-less, to-newest}
 use Rattle.table.proofs.RowLaws.{state-is, entries-are, last-is, history-is, length-entries, entry-is}
-use Rattle.table.proofs.Regions.{kept-wide, number-kept}
-use Rattle.table.proofs.Writes.{Shape, Contains, numbers, issue}
-use Rattle.table.proofs.Numbers.{none-kept, none-number, no-history, arrives-kept, arrives-first, arrives}
+use Rattle.table.proofs.Regions.{Kept, kept-both, kept-wide, number-kept}
+use Rattle.table.proofs.Writes.{Shape, Contains, number-written, numbers, issue, bind}
+use Rattle.table.proofs.Bounds.{lower-new, lower-each, lowers}
+use Rattle.table.proofs.Sweeps.{Sweeps, sweeps}
+use Rattle.table.proofs.Numbers.{none-kept, none-number, no-history, latest-written, arrives-kept, arrives-first, arrives}
 use Rattle.table.proofs.Entries.{one-more, one-less, one-renewed, none-left, none-yet}
+
+-- an entry more with its deadline: the bound is lowered
+bounded-more : (k v : List ℕ) (n d b : ℕ) (es : List Entry) → Each (Bounded b) es → Each (Bounded (lower d b)) (es ++ (entry k v n d ∷ []))
+unfolding entry
+bounded-more k v n d b es h = each-add _ (Bounded (lower d b)) es (lower-each d b es h) (lower-new d b)
 
 abbrev shape : {t : List ℕ} → Form t → Shape t
 shape f = record { long = f .long; counted = f .counted; first = f .first; places = f .places; lengths = f .lengths }
 
 -- the state and the form of memory by its entries
-pub state-of : {u : List ℕ} {es : List Entry} {x : ℕ} {y : History} → Contains u es x y → stateOf u ≡ record { entries = es; last = x; history = y }
+pub state-of : {u : List ℕ} {es : List Entry} {x : ℕ} {y : History} {z : ℕ} → Contains u es x y z → stateOf u ≡ record { entries = es; last = x; history = y }
 state-of {u} b = state-is u _ (b .shape .long) (b .entries) (b .last) (b .history)
 
-pub form-of : {u : List ℕ} {es : List Entry} {x : ℕ} {y : History} → Contains u es x y → Ascending es → Form u
-form-of b a =
+pub form-of : {u : List ℕ} {es : List Entry} {x : ℕ} {y : History} {z : ℕ} → Contains u es x y z → Ascending es → Each (Bounded z) es → Form u
+form-of {u} {es} b a m =
     let s = b .shape in
     record {
       long = s .long;
@@ -43,15 +56,18 @@ form-of b a =
       places = s .places;
       lengths = s .lengths;
       order = subst (λ (st : State). Ascending (st .entries)) (sym (state-of b)) a;
+      bound =
+          subst (λ (st : State). Each (Bounded (numberOf u boundIndex)) (st .entries)) (sym (state-of b))
+          (subst (λ (n : ℕ). Each (Bounded n) es) (sym (b .bound)) m);
     }
 
-changed : {t u : List ℕ} {es fs : List Entry} {x z : ℕ} {y w : History} → length t ≡ size → Contains u es x y → es ≡ fs → x ≡ z → y ≡ w → Ascending fs
-    → Changed t u (record { entries = fs; last = z; history = w })
-changed h b e f g a =
+changed : {t u : List ℕ} {es fs : List Entry} {x z n : ℕ} {y w : History} → length t ≡ size → Contains u es x y n → es ≡ fs → x ≡ z → y ≡ w → Ascending fs
+    → Each (Bounded n) fs → Changed t u (record { entries = fs; last = z; history = w })
+changed {t} {u} {es} {fs} {x} {z} {n} h b e f g a m =
     record {
       long = b .shape .long ∙ sym h;
       state = state-of b ∙ rw (e, f, g);
-      form = form-of b (subst Ascending (sym e) a);
+      form = form-of b (subst Ascending (sym e) a) (subst (Each (Bounded n)) (sym e) m);
     }
 
 -- versions above those held
@@ -69,7 +85,7 @@ module _ (k v : List ℕ) (n d : ℕ) (t : List ℕ) (s : Sound t) (room : lengt
   abbrev h : length t ≡ size
   h = s .form .long
 
-  longer : Contains (withEntry k v n d t) (entriesOf t ++ (entry k v n d ∷ [])) (numberOf t lastIndex) (historyOf t)
+  longer : Contains (withEntry k v n d t) (entriesOf t ++ (entry k v n d ∷ [])) (numberOf t lastIndex) (historyOf t) (numberOf t boundIndex)
   longer = one-more k v n d t (shape (s .form)) (omega (arith, length-entries t h)) hk hv hn hd
 
   same : entriesOf t ++ (entry k v n d ∷ []) ≡ stateOf t .entries ++ (entry k v n d ∷ [])
@@ -79,12 +95,15 @@ module _ (k v : List ℕ) (n d : ℕ) (t : List ℕ) (s : Sound t) (room : lengt
   unfolding entry
   rises = pairs-add _ _ (stateOf t .entries) (s .form .order) above
 
-  -- an entry more as it is, and one with its version issued
-  pub entry-changed : Changed t (withEntry k v n d t) (extended k v n d (stateOf t))
-  entry-changed = changed h longer same (sym (last-is t h)) (sym (history-is t h)) rises
+  bounds : Each (Bounded (lower d (numberOf t boundIndex))) (stateOf t .entries ++ (entry k v n d ∷ []))
+  bounds = bounded-more k v n d (numberOf t boundIndex) (stateOf t .entries) (s .form .bound)
 
-  entry-issued : Changed t (withNumber lastIndex n (withEntry k v n d t)) (withLast n (withEntries (stateOf t .entries ++ (entry k v n d ∷ [])) (stateOf t)))
-  entry-issued = changed h (issue _ _ _ n _ longer hn) same refl (sym (history-is t h)) rises
+  -- an entry more as it is, and one with its version issued
+  pub entry-changed : Changed t (lowered d (withEntry k v n d t)) (extended k v n d (stateOf t))
+  entry-changed = changed h (lowers _ _ _ _ _ d longer hd) same (sym (last-is t h)) (sym (history-is t h)) rises bounds
+
+  entry-issued : Changed t (lowered d (withNumber lastIndex n (withEntry k v n d t))) (withLast n (withEntries (stateOf t .entries ++ (entry k v n d ∷ [])) (stateOf t)))
+  entry-issued = changed h (lowers _ _ _ _ _ d (issue _ _ _ n _ _ longer hn) hd) same refl (sym (history-is t h)) rises bounds
 
 -- the public functions' changes
 module _ {t u : List ℕ} (s : Sound t) where
@@ -92,7 +111,7 @@ module _ {t u : List ℕ} (s : Sound t) where
       → stateOf t .last < lastVersion → Left t (added k v d t) u → Changed t u (grown k v d (stateOf t))
   unfolding added fitsRow hasRoom
   added-changed k v d hk hv hd room l c =
-      let e : u ≡ withNumber lastIndex (suc (stateOf t .last)) (withEntry k v (suc (stateOf t .last)) d t) =
+      let e : u ≡ lowered d (withNumber lastIndex (suc (stateOf t .last)) (withEntry k v (suc (stateOf t .last)) d t)) =
       rw (le-leb (length k) keyLimit hk, le-leb (length v) valueLimit hv, eq-eqb (length t) size (s .form .long), lt-ltb (length (stateOf t .entries)) mostKeys room, lt-ltb (stateOf t .last) lastVersion l) at c in
       rw e (entry-issued k v (suc (stateOf t .last)) d t s room hk hv (omega arith) hd (next-above t s))
 
@@ -103,7 +122,7 @@ module _ {t u : List ℕ} (s : Sound t) where
       let h = s .form .long in
       rw e
       (changed h (one-less t i (shape (s .form)) (omega (arith, length-entries t h))) (ap (removeAt i) (sym (entries-are t h))) (sym (last-is t h)) (sym (history-is t h))
-      (pairs-less _ (stateOf t .entries) i (s .form .order)))
+      (pairs-less _ (stateOf t .entries) i (s .form .order)) (each-less _ (stateOf t .entries) i (s .form .bound)))
 
   pub renewed-changed : (i : ℕ) (v : List ℕ) (d : ℕ) → length v ≤ valueLimit → d < 2 ^ 64 → i < length (stateOf t .entries) → stateOf t .last < lastVersion
       → Left t (renewed i v d t) u → Changed t u (refreshed i v d (stateOf t))
@@ -115,14 +134,15 @@ module _ {t u : List ℕ} (s : Sound t) where
       let n : ℕ = suc (stateOf t .last) in
       let k : entryOf t (rowAt t i) .key ≡ entryAt t i .key = ap (λ (x : Entry). x .key) (sym (entry-is t h i m)) in
       rw e
-      (changed h (issue _ _ _ n _ (one-renewed t i (shape (s .form)) m v n d hv (omega arith) hd) (omega arith)) (ap (λ (es : List Entry). removeAt i es ++ (entry (entryOf t (rowAt t i) .key) v n d ∷ [])) (sym (entries-are t h)) ∙ ap (λ (x : List ℕ). removeAt i (stateOf t .entries) ++ (entry x v n d ∷ [])) k) refl (sym (history-is t h))
-      (pairs-add _ _ (removeAt i (stateOf t .entries)) (pairs-less _ (stateOf t .entries) i (s .form .order)) (each-less _ (stateOf t .entries) i (next-above t s))))
+      (changed h (lowers _ _ _ _ _ d (issue _ _ _ n _ _ (one-renewed t i (shape (s .form)) m v n d hv (omega arith) hd) (omega arith)) hd) (ap (λ (es : List Entry). removeAt i es ++ (entry (entryOf t (rowAt t i) .key) v n d ∷ [])) (sym (entries-are t h)) ∙ ap (λ (x : List ℕ). removeAt i (stateOf t .entries) ++ (entry x v n d ∷ [])) k) refl (sym (history-is t h))
+      (pairs-add _ _ (removeAt i (stateOf t .entries)) (pairs-less _ (stateOf t .entries) i (s .form .order)) (each-less _ (stateOf t .entries) i (next-above t s)))
+      (bounded-more (entryAt t i .key) v n d (numberOf t boundIndex) (removeAt i (stateOf t .entries)) (each-less _ (stateOf t .entries) i (s .form .bound))))
 
   pub cleared-changed : Left t (cleared t) u → Changed t u (withEntries [] (stateOf t))
   unfolding cleared
   cleared-changed c =
       let h = s .form .long in
-      rw (rw (eq-eqb (length t) size h) at c) (changed h (none-left t h (s .form .first) (s .form .places)) refl (sym (last-is t h)) (sym (history-is t h)) tt)
+      rw (rw (eq-eqb (length t) size h) at c) (changed h (none-left t h (s .form .first) (s .form .places)) refl (sym (last-is t h)) (sym (history-is t h)) tt tt)
 
 -- and a start, of any memory
 pub started-changed : (x : ℕ) (t u : List ℕ) → length t ≡ size → x ≤ lastVersion → Left t (started x t) u → Changed t u (record { entries = []; last = x; history = noHistory })
@@ -131,27 +151,82 @@ started-changed x t u h l c =
     let e = rw (eq-eqb (length t) size h, le-leb x lastVersion l) at c in
     let n = none-number t h in
     let b = none-yet (withNone t) (none-kept t h .long ∙ h) (n countIndex (omega arith)) (omega (arith, n firstIndex (omega arith))) in
-    rw e (changed h (issue _ _ _ x _ b (omega arith)) refl refl (no-history (withNone t) n) tt)
+    rw e (changed h (bind _ _ _ _ _ noBound (issue _ _ _ x _ _ b (omega arith)) (omega arith)) refl refl (no-history (withNone t) n) tt tt)
 
--- and a call that arrives: the history goes on, and nothing else
-arrived-changed : {t u : List ℕ} → Sound t → (c : Context) (r : Request) → c .second ≤ lastSecond
-    → Left t (arrived (r .op) (isNone (held r (stateOf t))) (c .second) t) u → Changed t u (arrive c r (stateOf t))
-unfolding arrived arrive
-arrived-changed {t} {u} s c r l d =
-    let h = s .form .long in
-    let o = r .op in
-    let a = isNone (held r (stateOf t)) in
-    let x : u ≡ counted countsIndex (adds o a) (begun (c .second) t) = rw (eq-eqb (length t) size h, le-leb (c .second) lastSecond l) at d in
-    let k = arrives-kept o a (c .second) t h in
-    let q = subst Counts (history-is t h) (s .table .counts) in
-    let b = numbers t (counted countsIndex (adds o a) (begun (c .second) t)) _ _ _ (record { shape = shape (s .form); entries = refl; last = refl; history = refl })
-    (kept-wide (omega arith) (omega arith) k) (arrives-first o a (c .second) t h l (s .form .first)) in
-    rw x
-    (changed h b (sym (entries-are t h)) (number-kept k lastIndex (inl (omega arith)) ∙ sym (last-is t h))
-    (arrives o a (c .second) t h l (s .form .first) q ∙ rw (history-is t h)) (s .form .order))
+-- and a call that arrives: what has expired goes, and the history goes on
+module _ {t : List ℕ} (s : Sound t) (c : Context) (r : Request) (l : c .second ≤ lastSecond) where
+  abbrev h₁ : length t ≡ size
+  h₁ = s .form .long
 
-pub arrived-sound : {t u : List ℕ} → Sound t → (c : Context) (r : Request) → c .second ≤ lastSecond
-    → Left t (arrived (r .op) (isNone (held r (stateOf t))) (c .second) t) u → Sound u × (stateOf u ≡ arrive c r (stateOf t))
-arrived-sound {t} s c r l d =
-    let x = arrived-changed s c r l d in
-    (record { form = x .form; table = subst IsTable (sym (x .state)) (arrive-table c r (stateOf t) (s .table)) }, x .state)
+  abbrev o : Operation
+  o = r .op
+
+  abbrev a : Bool
+  a = isNone (held r (map.swept c (stateOf t)))
+
+  abbrev now : ℕ
+  now = presentAt (c .second) t
+
+  abbrev u₁ : List ℕ
+  u₁ = swept now t
+
+  abbrev u₂ : List ℕ
+  u₂ = counted countsIndex (adds o a) (begun (c .second) u₁)
+
+  abbrev u₃ : List ℕ
+  u₃ = withNumber latestIndex now u₂
+
+  w : Sweeps now t u₁
+  w = sweeps now t (shape (s .form)) (subst (Each (Bounded (numberOf t boundIndex))) (entries-are t h₁) (s .form .bound))
+
+  long₁ : length u₁ ≡ size
+  long₁ = w .contains .shape .long
+
+  k₂ : Kept (numberAt firstIndex) (numberAt latestIndex) u₁ u₂
+  k₂ = arrives-kept o a (c .second) u₁ long₁
+
+  k₃ : Kept (numberAt latestIndex) (numberAt boundIndex) u₂ u₃
+  k₃ = number-written latestIndex now u₂ (k₂ .long ∙ long₁) (omega arith)
+
+  k : Kept (numberAt firstIndex) (numberAt boundIndex) u₁ u₃
+  k = kept-both (kept-wide (omega arith) (omega arith) k₂) (kept-wide (omega arith) (omega arith) k₃)
+
+  first-most : numberOf u₃ firstIndex < 2 ^ 64
+  first-most =
+      omega (arith, number-kept k₃ firstIndex (inl (omega arith)), arrives-first o a (c .second) u₁ long₁ l (w .contains .shape .first))
+
+  b : Contains u₃ (standing now (entriesOf t)) (numberOf u₃ lastIndex) (historyOf u₃) (numberOf u₃ boundIndex)
+  b = numbers u₁ u₃ _ _ _ _ (w .contains) (kept-wide (omega arith) (omega arith) k) first-most
+
+  bound-is : numberOf u₃ boundIndex ≡ numberOf u₁ boundIndex
+  bound-is = number-kept k boundIndex (inr (omega arith))
+
+  last-same : numberOf u₃ lastIndex ≡ stateOf t .last
+  last-same = number-kept k lastIndex (inl (omega arith)) ∙ w .contains .last ∙ sym (last-is t h₁)
+
+  now-most : now < 2 ^ 64
+  unfolding historyOf
+  now-most =
+      let q : stateOf t .history .latest ≤ lastSecond = s .table .seconds .latest in
+      let e : stateOf t .history .latest ≡ numberOf t latestIndex = ap (λ (y : History). y .latest) (history-is t h₁) in
+      omega arith
+
+  history-then : historyOf u₃ ≡ record { first = some (startOf (historyOf t .first) (c .second)); latest = now; counts = tally o a (historyOf t .counts) }
+  history-then =
+      latest-written u₂ now (k₂ .long ∙ long₁) now-most
+      ∙ rw (arrives o a (c .second) u₁ long₁ l (w .contains .shape .first) (subst Counts (history-is t h₁ ∙ sym (w .contains .history)) (s .table .counts)), w .contains .history)
+
+  arrived-changed : Changed t u₃ (arrive c r (stateOf t))
+  unfolding arrive noted map.swept historyOf
+  arrived-changed =
+      changed h₁ b (rw (entries-are t h₁, history-is t h₁)) last-same (history-then ∙ rw (history-is t h₁))
+      (pairs-without _ _ (stateOf t .entries) (s .form .order))
+      (rw (bound-is, entries-are t h₁, history-is t h₁) (w .bounds))
+
+  pub arrived-sound : {u : List ℕ} → Left t (arrived (r .op) (isNone (held r (map.swept c (stateOf t)))) (c .second) t) u
+      → Sound u × (stateOf u ≡ arrive c r (stateOf t))
+  unfolding arrived
+  arrived-sound {u} d =
+      let x = arrived-changed in
+      let e : u ≡ u₃ = rw (eq-eqb (length t) size h₁, le-leb (c .second) lastSecond l) at d in
+      rw e (record { form = x .form; table = subst IsTable (sym (x .state)) (arrive-table c r (stateOf t) (omega arith) (s .table)) }, x .state)

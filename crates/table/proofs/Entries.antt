@@ -8,8 +8,8 @@ use lib.ListN.{length}
 use Rattle.message.specs.Request.{keyLimit, valueLimit}
 use Rattle.map.specs.Step.{mostKeys}
 use Rattle.table.specs.Bytes.{upto}
-use Rattle.table.specs.Memory.{headCount, countIndex, lastIndex, firstIndex, rowsAt, rowWidth, size, numberOf, placeOf, rowAt, entry, entryOf, countOf, entriesOf, historyOf, Permutation}
-use Rattle.table.specs.Write.{withNumber, turned, inOrder, withKey, withValue, withEntry}
+use Rattle.table.specs.Memory.{headCount, countIndex, lastIndex, firstIndex, boundIndex, rowsAt, rowWidth, size, numberOf, placeOf, rowAt, entry, entryOf, countOf, entriesOf, historyOf, Permutation}
+use Rattle.table.specs.Write.{withNumber, turned, less, inOrder, withKey, withValue, withEntry}
 use Rattle.table.proofs.Lists.{removeAt, lt-or-ge, upto-more, upto-remove, upto-renew}
 use Rattle.table.proofs.RowLaws.{SameRow, count-most}
 use Rattle.table.proofs.Regions.{Kept, kept-both, kept-wide, number-kept, place-kept, row-kept, row-at-same, row-in, same-both, row-from, permutation-same, rows-apart}
@@ -70,7 +70,7 @@ module _ (k v : List ℕ) (n d : ℕ) (t : List ℕ) (s : Shape t) (room : count
     omega (arith, value-length a w₁ fits v n d hv),
   )
 
-  pub one-more : Contains (withEntry k v n d t) (entriesOf t ++ (entry k v n d ∷ [])) (numberOf t lastIndex) (historyOf t)
+  pub one-more : Contains (withEntry k v n d t) (entriesOf t ++ (entry k v n d ∷ [])) (numberOf t lastIndex) (historyOf t) (numberOf t boundIndex)
   unfolding withEntry entriesOf
   one-more =
       contains t w₃ (m + 1) (numberOf t lastIndex) _ (k₃ .long ∙ long) (number-is countIndex (m + 1) w₂ long (omega arith) (omega arith)) (omega arith)
@@ -132,8 +132,8 @@ module _ (t : List ℕ) (i : ℕ) (s : Shape t) (l : i < countOf t) where
   after : (k : ℕ) → i ≤ k → k < top → SameRow u (rowAt u k) t (rowAt t (k + 1))
   after k q r = same-both (row-u k) (turn-down t i top (s .long) (omega arith) top-most k q r)
 
-  pub one-less : Contains (withNumber countIndex (countOf t - 1) (turned i (countOf t - 1) t)) (removeAt i (entriesOf t)) (numberOf t lastIndex) (historyOf t)
-  unfolding entriesOf
+  pub one-less : Contains (less i t) (removeAt i (entriesOf t)) (numberOf t lastIndex) (historyOf t) (numberOf t boundIndex)
+  unfolding entriesOf less
   one-less =
       contains t u top (numberOf t lastIndex) _ (k₄ .long ∙ long-w) (number-is countIndex top w long-w (omega arith) (omega (arith, top-most))) (omega (arith, top-most))
       (number-kept k₄ lastIndex (inr (omega arith)) ∙ turn-number t i top (s .long) (omega arith) top-most lastIndex (omega arith))
@@ -197,7 +197,7 @@ module _ (t : List ℕ) (i : ℕ) (s : Shape t) (l : i < countOf t) where
         (lt-or-ge k i)
 
     pub one-renewed : Contains (turned i (countOf t - 1) (withValue (rowAt t i) v n d t))
-        (removeAt i (entriesOf t) ++ (entry (entryOf t (rowAt t i) .key) v n d ∷ [])) (numberOf t lastIndex) (historyOf t)
+        (removeAt i (entriesOf t) ++ (entry (entryOf t (rowAt t i) .key) v n d ∷ [])) (numberOf t lastIndex) (historyOf t) (numberOf t boundIndex)
     unfolding entriesOf
     one-renewed =
         contains t y (countOf t) (numberOf t lastIndex) _ (turn-kept r i top long-r (omega arith) top-most .long ∙ long-r)
@@ -221,7 +221,7 @@ module _ (t : List ℕ) (h : length t ≡ size) where
   no-count : numberOf empty countIndex ≡ 0
   no-count = number-is countIndex 0 t h (omega arith) (omega arith)
 
-  pub none-left : numberOf t firstIndex < 2 ^ 64 → Permutation t → Contains (withNumber countIndex 0 t) [] (numberOf t lastIndex) (historyOf t)
+  pub none-left : numberOf t firstIndex < 2 ^ 64 → Permutation t → Contains (withNumber countIndex 0 t) [] (numberOf t lastIndex) (historyOf t) (numberOf t boundIndex)
   unfolding upto
   none-left b p =
       contains t empty 0 (numberOf t lastIndex) [] (k₆ .long ∙ h) no-count (omega arith) (number-kept k₆ lastIndex (inr (omega arith)))
@@ -229,7 +229,7 @@ module _ (t : List ℕ) (h : length t ≡ size) where
       (permutation-same p (λ k q. place-kept k₆ k (inr (omega arith)))) (λ k q. absurd (omega arith)) refl
 
   -- none, and the places in order
-  pub none-yet : numberOf t countIndex ≡ 0 → numberOf t firstIndex < 2 ^ 64 → Contains (inOrder t) [] (numberOf t lastIndex) (historyOf t)
+  pub none-yet : numberOf t countIndex ≡ 0 → numberOf t firstIndex < 2 ^ 64 → Contains (inOrder t) [] (numberOf t lastIndex) (historyOf t) (numberOf t boundIndex)
   unfolding upto
   none-yet e b =
       let k = ordered-kept t h in

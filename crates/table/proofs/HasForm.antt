@@ -2,7 +2,7 @@
 -- Assumes nothing.
 use mathlib.Core.Path.{_≡_, refl, sym, ap, _∙_, subst}
 use mathlib.Core.List.{List, [], _∷_, _++_, append-nil}
-use mathlib.Core.Logic.{⊎-elim, inl}
+use mathlib.Core.Logic.{⊎-elim, inl, inr}
 use mathlib.Core.Option.{Option, none, some}
 use mathlib.Core.Bool.{true}
 use Prim.Native.Nat.{ℕ, suc, _+_, _%_, _≤_, _<_, _^_}
@@ -18,18 +18,18 @@ use Rattle.map.specs.State.{Entry, State}
 use Rattle.map.specs.Step.{mostKeys, lastVersion}
 use Rattle.map.specs.Table.{Each, Sizes, IsTable, Ascending}
 use Rattle.table.specs.Bytes.{upto, zeros}
-use Rattle.table.specs.Memory.{headCount, countIndex, lastIndex, firstIndex, countsIndex, numberAt, placesAt, deadlineStart, keyLengthStart, valueLengthStart, keyStart, valueStart, size, numberOf, firstOf, rowAt, entry, countOf, entriesOf, historyOf, stateOf, Sound}
+use Rattle.table.specs.Memory.{headCount, countIndex, lastIndex, firstIndex, countsIndex, latestIndex, boundIndex, numberAt, placesAt, deadlineStart, keyLengthStart, valueLengthStart, keyStart, valueStart, size, numberOf, firstOf, rowAt, entry, countOf, entriesOf, historyOf, stateOf, Bounded, Sound}
 use Rattle.table.specs.Change.{Left, made, started}
 use Rattle.table.specs.Write.{digits, withNumber, withNumbers, inOrder, withKey, withValue, withEntry}
 use Rattle.table.specs.Form.{withAll, firstNumber, form}
-use Rattle.map.proofs.Each.{each-both}
+use Rattle.map.proofs.Each.{each-map, each-both}
 use Rattle.map.proofs.CountLaws.{fresh-counts}
 use Rattle.table.proofs.Lists.{length-upto, getD-upto, lt-or-ge}
 use Rattle.table.proofs.Parts.{bytes-sets}
 use Rattle.table.proofs.RowLaws.{length-digits}
 use Rattle.table.proofs.Regions.{Kept, kept-both, kept-wide, number-kept}
-use Rattle.table.proofs.Writes.{Contains, number-written, number-is, numbers, issue}
-use Rattle.table.proofs.Numbers.{length-zeros, zero-at, no-number, no-history, numbers-kept, numbers-at}
+use Rattle.table.proofs.Writes.{Contains, named, number-written, number-is, numbers, issue}
+use Rattle.table.proofs.Numbers.{length-zeros, zero-at, no-number, no-history, numbers-kept, numbers-at, latest-written}
 use Rattle.table.proofs.Entries.{one-more, none-yet}
 use Rattle.table.proofs.Changes.{state-of, form-of, started-changed}
 
@@ -90,7 +90,7 @@ count-of t = length-upto _ _
 -- memory as entries are written to it
 record Growing (t : List ℕ) (es : List Entry) : Type 0 where
   bytes : Bytes t
-  contains : Contains t es 0 noHistory
+  contains : Contains t es 0 noHistory 0
 
 zero-number : (i : ℕ) → numberOf (zeros size) i ≡ 0
 zero-number i = no-number (zeros size) i (λ k l. zero-at size (numberAt i + k))
@@ -103,10 +103,8 @@ start =
     let m = length-upto (λ (i : ℕ). i) mostKeys in
     record {
       bytes = held-sets placesAt (upto (λ (i : ℕ). i) mostKeys) z order-bytes (omega arith) .bytes;
-      contains =
-          subst (λ (x : ℕ). Contains (inOrder (zeros size)) [] x noHistory) (zero-number lastIndex)
-          (subst (Contains (inOrder (zeros size)) [] (numberOf (zeros size) lastIndex)) (no-history (zeros size) (λ i _. zero-number i))
-          (none-yet (zeros size) h (zero-number countIndex) (omega (arith, zero-number firstIndex))));
+      contains = named (none-yet (zeros size) h (zero-number countIndex) (omega (arith, zero-number firstIndex)))
+          refl (zero-number lastIndex) (no-history (zeros size) (λ i _. zero-number i)) (zero-number boundIndex);
     }
 
 grows : (t : List ℕ) (es : List Entry) (e : Entry) → Growing t es → Holdable e → length es < mostKeys
@@ -118,11 +116,8 @@ grows t es e g k l =
     let n : countOf t < mostKeys = omega (arith, count-of t, ap length (b .entries)) in
     record {
       bytes = entry-bytes t e (b .shape .long) (g .bytes) s;
-      contains =
-          subst (λ (x : ℕ). Contains (withEntry (e .key) (e .value) (e .version) (e .deadline) t) (es ++ (e ∷ [])) x noHistory) (b .last)
-          (subst (λ (fs : List Entry). Contains (withEntry (e .key) (e .value) (e .version) (e .deadline) t) (fs ++ (e ∷ [])) (numberOf t lastIndex) noHistory) (b .entries)
-          (subst (Contains (withEntry (e .key) (e .value) (e .version) (e .deadline) t) (entriesOf t ++ (e ∷ [])) (numberOf t lastIndex)) (b .history)
-          (one-more (e .key) (e .value) (e .version) (e .deadline) t (b .shape) n (s .key) (s .value) (k .version) (omega (arith, s .deadline)))));
+      contains = named (one-more (e .key) (e .value) (e .version) (e .deadline) t (b .shape) n (s .key) (s .value) (k .version) (omega (arith, s .deadline)))
+          (ap (λ (fs : List Entry). fs ++ (e ∷ [])) (b .entries)) (b .last) (b .history) (b .bound);
     }
 
 rows : (es : List Entry) (t : List ℕ) (fs : List Entry) → Growing t fs → Each Holdable es → length fs + length es ≤ mostKeys → Growing (withAll t es) (fs ++ es)
@@ -167,8 +162,11 @@ module _ (st : State) (h : IsTable st) (a : Ascending (st .entries)) (q : FirstH
   abbrev w₃ : List ℕ
   w₃ = withNumbers countsIndex ns w₂
 
-  b : Contains w₁ (st .entries) (st .last) noHistory
-  b = issue _ _ _ (st .last) _ (r .contains) (omega (arith, h .last))
+  abbrev w₄ : List ℕ
+  w₄ = withNumber latestIndex (st .history .latest) w₃
+
+  b : Contains w₁ (st .entries) (st .last) noHistory 0
+  b = issue _ _ _ (st .last) _ _ (r .contains) (omega (arith, h .last))
 
   k₂ : Kept (numberAt firstIndex) (numberAt countsIndex) w₁ w₂
   k₂ = number-written firstIndex _ w₁ (b .shape .long) (omega arith)
@@ -176,17 +174,30 @@ module _ (st : State) (h : IsTable st) (a : Ascending (st .entries)) (q : FirstH
   l₂ : length w₂ ≡ size
   l₂ = k₂ .long ∙ b .shape .long
 
-  k₃ : Kept (numberAt countsIndex) placesAt w₂ w₃
+  k₃ : Kept (numberAt countsIndex) (numberAt latestIndex) w₂ w₃
   k₃ = numbers-kept ns countsIndex w₂ l₂ (omega (arith, h .counts .long))
 
-  k : Kept (numberAt firstIndex) placesAt w₁ w₃
-  k = kept-both (kept-wide (omega arith) (omega arith) k₂) (kept-wide (omega arith) (omega arith) k₃)
+  l₃ : length w₃ ≡ size
+  l₃ = k₃ .long ∙ l₂
+
+  k₄ : Kept (numberAt latestIndex) (numberAt boundIndex) w₃ w₄
+  k₄ = number-written latestIndex _ w₃ l₃ (omega arith)
+
+  k : Kept (numberAt firstIndex) (numberAt boundIndex) w₁ w₄
+  k =
+      kept-both (kept-wide (omega arith) (omega arith) k₂)
+      (kept-both (kept-wide (omega arith) (omega arith) k₃) (kept-wide (omega arith) (omega arith) k₄))
 
   first-is : numberOf w₃ firstIndex ≡ firstNumber (st .history .first)
   first-is = number-kept k₃ firstIndex (inl (omega arith)) ∙ number-is firstIndex _ w₁ (b .shape .long) (omega arith) q
 
-  c : Contains w₃ (st .entries) (numberOf w₃ lastIndex) (historyOf w₃)
-  c = numbers w₁ w₃ _ _ _ b (kept-wide (omega arith) (omega arith) k) (rw first-is q)
+  c : Contains w₄ (st .entries) (numberOf w₄ lastIndex) (historyOf w₄) (numberOf w₄ boundIndex)
+  c = numbers w₁ w₄ _ _ _ _ b (kept-wide (omega arith) (omega arith) k) (omega (arith, number-kept k₄ firstIndex (inl (omega arith)), first-is))
+
+  bounds : Each (Bounded (numberOf w₄ boundIndex)) (st .entries)
+  bounds =
+      let z : numberOf w₄ boundIndex ≡ 0 = number-kept k boundIndex (inr (omega arith)) ∙ b .bound in
+      each-map Sizes (Bounded (numberOf w₄ boundIndex)) (λ e _ l. omega arith) (st .entries) (h .sizes)
 
   counts-are : upto (λ i. numberOf w₃ (countsIndex + i)) 7 ≡ ns
   counts-are =
@@ -195,25 +206,28 @@ module _ (st : State) (h : IsTable st) (a : Ascending (st .entries)) (q : FirstH
       ext-getD 0 (upto f 7) ns (m ∙ sym (h .counts .long))
       (λ i l. getD-upto f 7 i 0 (omega arith) ∙ numbers-at ns countsIndex w₂ l₂ (omega (arith, h .counts .long)) (λ j. omega (arith, h .counts .most j)) i (omega (arith, h .counts .long)))
 
-  history-is : historyOf w₃ ≡ st .history
+  history-is : historyOf w₄ ≡ st .history
   unfolding historyOf
-  history-is = rw (first-is, first-of (st .history .first), counts-are)
+  history-is =
+      latest-written w₃ (st .history .latest) l₃ (omega (arith, h .seconds .latest)) ∙ rw (first-is, first-of (st .history .first), counts-are)
 
-  state-is : stateOf w₃ ≡ st
+  state-is : stateOf w₄ ≡ st
   state-is = state-of c ∙ rw (number-kept k lastIndex (inl (omega arith)), b .last, history-is)
 
-  bytes-all : Bytes w₃
+  bytes-all : Bytes w₄
   unfolding withNumber
   bytes-all =
       let w₀ : Held size (withAll (inOrder (zeros size)) (st .entries)) = record { long = r .contains .shape .long; bytes = r .bytes } in
-      bytes-numbers ns countsIndex w₂ (held-sets8 (numberAt firstIndex) _ (held-sets8 (numberAt lastIndex) (st .last) w₀ (omega arith)) (omega arith)) (omega (arith, h .counts .long)) .bytes
+      held-sets8 (numberAt latestIndex) (st .history .latest)
+      (bytes-numbers ns countsIndex w₂ (held-sets8 (numberAt firstIndex) _ (held-sets8 (numberAt lastIndex) (st .last) w₀ (omega arith)) (omega arith)) (omega (arith, h .counts .long)))
+      (omega arith) .bytes
 
   pub has-form : Formed st (form st)
   unfolding form
   has-form =
       record {
         state = state-is;
-        sound = record { form = form-of c a; table = subst IsTable (sym state-is) h };
+        sound = record { form = form-of c a bounds; table = subst IsTable (sym state-is) h };
         bytes = bytes-all;
       }
 
@@ -225,7 +239,7 @@ started-sound x t u h l d =
     let e = c .state in (
       record {
         form = c .form;
-        table = subst IsTable (sym e) (record { few = omega arith; keys = tt; sizes = tt; versions = tt; issued = tt; last = l; counts = fresh-counts });
+        table = subst IsTable (sym e) (record { few = omega arith; keys = tt; sizes = tt; versions = tt; issued = tt; last = l; counts = fresh-counts; seconds = record { first = omega arith; latest = omega arith } });
       },
       e,
     )

@@ -6,7 +6,9 @@ pub mod Places
 pub mod Seen
 pub mod Order
 pub mod Writes
+pub mod Bounds
 pub mod Entries
+pub mod Sweeps
 pub mod Numbers
 pub mod Changes
 pub mod Answers

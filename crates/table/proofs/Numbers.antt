@@ -14,11 +14,10 @@ use borrow.Author.Tests.{eq-eqb, ne-eqb, lt-ltb, le-ltb}
 use Rattle.wire.proofs.Basics.{pick}
 use Rattle.message.specs.declared.Operation.{Operation}
 use Rattle.map.specs.History.{noHistory, mostCount, onward, adds, marked, tally, startOf}
-use Rattle.map.specs.Table.{Counts}
+use Rattle.map.specs.Table.{Counts, lastSecond}
 use Rattle.table.specs.Bytes.{be8, upto, zeros}
-use Rattle.table.specs.Memory.{firstIndex, countsIndex, headCount, numberAt, placesAt, size, numberOf, firstOf, historyOf}
+use Rattle.table.specs.Memory.{firstIndex, countsIndex, latestIndex, headCount, numberAt, placesAt, size, numberOf, firstOf, historyOf}
 use Rattle.table.specs.Write.{withNumber, withNumbers, withNone, begun, goneOn, counted}
-use Rattle.table.specs.Change.{lastSecond}
 use Rattle.table.proofs.Lists.{lt-or-ge, length-upto, getD-upto, upto-ext}
 use Rattle.wire.proofs.WriteLaws.{sets-append}
 use Rattle.table.proofs.Parts.{sets-in}
@@ -66,7 +65,7 @@ module _ (t : List ℕ) (h : length t ≡ size) where
 pub no-history : (t : List ℕ) → ((i : ℕ) → i < headCount → numberOf t i ≡ 0) → historyOf t ≡ noHistory
 unfolding historyOf upto
 no-history t h =
-    rw (h firstIndex (omega arith), upto-ext (λ (i : ℕ). 0) (λ (i : ℕ). numberOf t (countsIndex + i)) 7 (λ i l. h (countsIndex + i) (omega arith)))
+    rw (h firstIndex (omega arith), h latestIndex (omega arith), upto-ext (λ (i : ℕ). 0) (λ (i : ℕ). numberOf t (countsIndex + i)) 7 (λ i l. h (countsIndex + i) (omega arith)))
 
 -- one number byte more is 0
 pub none-more : (t : List ℕ) (i : ℕ) → i < length t → set (sets t 0 (zeros i)) i 0 ≡ sets t 0 (zeros (i + 1))
@@ -82,7 +81,7 @@ kept-all : (lo hi : ℕ) (t : List ℕ) → Kept lo hi t t
 kept-all lo hi t = record { long = refl; low = λ k l. refl; high = λ k l. refl }
 
 -- a row of numbers
-pub numbers-kept : (ns : List ℕ) (i : ℕ) (t : List ℕ) → length t ≡ size → i + length ns ≤ headCount → Kept (numberAt i) placesAt t (withNumbers i ns t)
+pub numbers-kept : (ns : List ℕ) (i : ℕ) (t : List ℕ) → length t ≡ size → i + length ns ≤ latestIndex → Kept (numberAt i) (numberAt latestIndex) t (withNumbers i ns t)
 unfolding withNumbers
 numbers-kept [] i t h l = kept-all _ _ t
 numbers-kept (n ∷ ns) i t h l =
@@ -90,7 +89,7 @@ numbers-kept (n ∷ ns) i t h l =
     kept-both (kept-wide (omega arith) (omega arith) k)
     (kept-wide (omega arith) (omega arith) (numbers-kept ns (suc i) (withNumber i n t) (k .long ∙ h) (omega arith)))
 
-pub numbers-at : (ns : List ℕ) (i : ℕ) (t : List ℕ) → length t ≡ size → i + length ns ≤ headCount → ((j : ℕ) → getD ns j 0 < 2 ^ 64)
+pub numbers-at : (ns : List ℕ) (i : ℕ) (t : List ℕ) → length t ≡ size → i + length ns ≤ latestIndex → ((j : ℕ) → getD ns j 0 < 2 ^ 64)
     → (k : ℕ) → k < length ns → numberOf (withNumbers i ns t) (i + k) ≡ getD ns k 0
 unfolding withNumbers
 numbers-at [] i t h l m k q = absurd (omega arith)
@@ -118,7 +117,7 @@ module _ (i : ℕ) (t : List ℕ) (h : length t ≡ size) (l : i < headCount) wh
   gone-number true q = number-is i (onward (numberOf t i)) t h l (onward-most (numberOf t i) q)
   gone-number false q = refl
 
-counted-kept : (bs : List Bool) (i : ℕ) (t : List ℕ) → length t ≡ size → i + length bs ≤ headCount → Kept (numberAt i) placesAt t (counted i bs t)
+counted-kept : (bs : List Bool) (i : ℕ) (t : List ℕ) → length t ≡ size → i + length bs ≤ latestIndex → Kept (numberAt i) (numberAt latestIndex) t (counted i bs t)
 unfolding counted
 counted-kept [] i t h l = kept-all _ _ t
 counted-kept (b ∷ bs) i t h l =
@@ -130,8 +129,8 @@ counted-kept (b ∷ bs) i t h l =
 abbrev then : List Bool → ℕ → ℕ → ℕ
 then bs k n = cond (getD bs k false) (onward n) n
 
-counted-number : (bs : List Bool) (i : ℕ) (t : List ℕ) → length t ≡ size → i + length bs ≤ headCount
-    → ((j : ℕ) → i ≤ j → j < headCount → numberOf t j ≤ mostCount) → (k : ℕ) → k < length bs
+counted-number : (bs : List Bool) (i : ℕ) (t : List ℕ) → length t ≡ size → i + length bs ≤ latestIndex
+    → ((j : ℕ) → i ≤ j → j < latestIndex → numberOf t j ≤ mostCount) → (k : ℕ) → k < length bs
     → numberOf (counted i bs t) (i + k) ≡ then bs k (numberOf t (i + k))
 unfolding counted
 counted-number [] i t h l m k q = absurd (omega arith)
@@ -184,6 +183,19 @@ module _ (second : ℕ) (t : List ℕ) (h : length t ≡ size) where
   unfolding begun
   begun-no e = rw (ne-eqb (numberOf t firstIndex) 0 e)
 
+-- the latest second is written
+pub latest-written : (t : List ℕ) (n : ℕ) → length t ≡ size → n < 2 ^ 64
+    → historyOf (withNumber latestIndex n t) ≡ record { first = historyOf t .first; latest = n; counts = historyOf t .counts }
+unfolding historyOf
+latest-written t n h l =
+    let u = withNumber latestIndex n t in
+    let k = number-written latestIndex n t h (omega arith) in
+    rw (
+      number-kept k firstIndex (inl (omega arith)),
+      number-is latestIndex n t h (omega arith) l,
+      upto-ext (λ (i : ℕ). numberOf t (countsIndex + i)) (λ (i : ℕ). numberOf u (countsIndex + i)) 7 (λ i q. number-kept k (countsIndex + i) (inl (omega arith))),
+    )
+
 -- the seconds since the first one
 pub since-none : (n second : ℕ) → n ≡ 0 → startOf (firstOf n) second ≡ second
 since-none n second e = rw e refl
@@ -220,10 +232,10 @@ module _ (o : Operation) (absent : Bool) (second : ℕ) (t : List ℕ) (h : leng
   long : length (begun second t) ≡ size
   long = begun-kept second t h .long ∙ h
 
-  behind : Kept (numberAt countsIndex) placesAt (begun second t) u
+  behind : Kept (numberAt countsIndex) (numberAt latestIndex) (begun second t) u
   behind = counted-kept marks countsIndex (begun second t) long (omega (arith, many))
 
-  pub arrives-kept : Kept (numberAt firstIndex) placesAt t u
+  pub arrives-kept : Kept (numberAt firstIndex) (numberAt latestIndex) t u
   arrives-kept = kept-both (kept-wide (omega arith) (omega arith) (begun-kept second t h)) (kept-wide (omega arith) (omega arith) behind)
 
   module _ (l : second ≤ lastSecond) (q : numberOf t firstIndex < 2 ^ 64) where
@@ -242,7 +254,7 @@ module _ (o : Operation) (absent : Bool) (second : ℕ) (t : List ℕ) (h : leng
       stays : (i : ℕ) → numberOf (begun second t) (countsIndex + i) ≡ numberOf t (countsIndex + i)
       stays i = number-kept (begun-kept second t h) (countsIndex + i) (inr (omega arith))
 
-      all-within : (j : ℕ) → countsIndex ≤ j → j < headCount → numberOf (begun second t) j ≤ mostCount
+      all-within : (j : ℕ) → countsIndex ≤ j → j < latestIndex → numberOf (begun second t) j ≤ mostCount
       all-within j a b =
           let i : ℕ = j - countsIndex in
           let e : countsIndex + i ≡ j = omega arith in
@@ -259,6 +271,6 @@ module _ (o : Operation) (absent : Bool) (second : ℕ) (t : List ℕ) (h : leng
           upto-ext (λ (i : ℕ). then marks i (numberOf t (countsIndex + i))) (λ (i : ℕ). numberOf u (countsIndex + i)) 7 count-is
           ∙ seven _ _ _ _ _ _ _ (λ i. numberOf t (countsIndex + i))
 
-      pub arrives : historyOf u ≡ record { first = some (startOf (historyOf t .first) second); counts = tally o absent (historyOf t .counts) }
+      pub arrives : historyOf u ≡ record { first = some (startOf (historyOf t .first) second); latest = historyOf t .latest; counts = tally o absent (historyOf t .counts) }
       unfolding historyOf
-      arrives = rw (first-is, started-by second t h (numberOf t firstIndex), counts-are)
+      arrives = rw (first-is, started-by second t h (numberOf t firstIndex), number-kept arrives-kept latestIndex (inr (omega arith)), counts-are)

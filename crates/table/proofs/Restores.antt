@@ -16,17 +16,19 @@ use Rattle.map.specs.State.{Entry, State, find, hasKey}
 use Rattle.map.specs.Step.{mostKeys, lastVersion, isNone}
 use Rattle.map.specs.Table.{Each, Pairs, lastDeadline, Sizes, OtherKey, OtherVersion, Issued, IsTable, Ascending}
 use Rattle.wire.proofs.SameLaws.{same-other, other-differ}
-use Rattle.table.specs.Memory.{lastIndex, size, rowAt, entry, countOf, stateOf, Sound}
+use Rattle.table.specs.Memory.{lastIndex, boundIndex, size, rowAt, entry, countOf, stateOf, Sound}
 use Rattle.table.specs.Bytes.{be8}
 use Rattle.table.specs.Found.{entryAt}
 use Rattle.table.specs.Change.{Answers, extended, started, newest, fitsRow, hasRoom, fitting, next, restored}
-use Rattle.table.specs.Write.{withNumber, withNone, inOrder, withEntry}
+use Rattle.table.specs.Write.{withNumber, withNone, lowered, inOrder, withEntry}
+use Rattle.table.specs.Sweep.{noBound}
 use Rattle.map.proofs.Each.{each-map, each-add, pairs-add}
 use Rattle.table.proofs.Order.{each-at}
 use Rattle.table.proofs.RowLaws.{length-entries}
 use Rattle.table.proofs.SoundLaws.{version-is}
 use Rattle.table.proofs.Answers.{taken, left, row-fits, room-is}
 use Rattle.table.proofs.Writes.{entry-long}
+use Rattle.table.proofs.Bounds.{lowered-long}
 use Rattle.table.proofs.Changes.{newest-above, entry-changed, started-changed}
 
 passed : (new : List ℕ) (b : Bool) (u : List ℕ) → cond b (some new) none ≡ some u → (b ≡ true) × (u ≡ new)
@@ -36,7 +38,7 @@ passed new false u e = never (cc)
 -- the answers of `start`
 module _ (x : ℕ) (t : List ℕ) where
   abbrev bare : List ℕ
-  bare = withNumber lastIndex x (inOrder (withNone t))
+  bare = withNumber boundIndex noBound (withNumber lastIndex x (inOrder (withNone t)))
 
   abbrev may-start : Bool
   may-start = eqb (length t) size && leb x lastVersion
@@ -155,7 +157,7 @@ module _ (k : List ℕ) (n : ℕ) (t : List ℕ) where
 -- the answers of `restore`
 module _ (k v : List ℕ) (n d : ℕ) (t : List ℕ) where
   abbrev new : List ℕ
-  new = withEntry k v n d t
+  new = lowered d (withEntry k v n d t)
 
   abbrev may-restore : Bool
   may-restore = fitting k v d && next k n t
@@ -195,7 +197,8 @@ started-long x t u e = let s = started-says x t u e in started-changed x t u (s 
 pub restored-long : (k v : List ℕ) (n d : ℕ) (t u : List ℕ) → restored k v n d t ≡ some u → length u ≡ length t
 restored-long k v n d t u e =
     let r = restored-says k v n d t u e in
-    rw (r .same) (entry-long k v n d t (r .follows .long) (r .fits .key) (r .fits .value))
+    let e = entry-long k v n d t (r .follows .long) (r .fits .key) (r .fits .value) in
+    rw (r .same) (lowered-long d (withEntry k v n d t) (e ∙ r .follows .long) ∙ e)
 
 -- entries that lack a key
 lacks : (k : List ℕ) (es : List Entry) → find (hasKey k) es ≡ none → Each (λ e. e .key ≡ k → ⊥) es
@@ -229,6 +232,7 @@ restored-table k v n d t u h bk bv r =
       issued = each-add _ (Issued (stateOf t .last)) es (old .issued) (omega (arith, r .follows .above), r .follows .most);
       last = old .last;
       counts = old .counts;
+      seconds = old .seconds;
     }
 
 pub restored-sound : (k v : List ℕ) (n d : ℕ) (t u : List ℕ) → Sound t → Bytes k → Bytes v → restored k v n d t ≡ some u
@@ -255,7 +259,7 @@ newest-below n (e ∷ es) h l = each-at (λ e. e .version < n) (e ∷ es) (entry
 
 pub each-restored : (st : State) (e : Entry) (fs : List Entry) (t : List ℕ) → IsTable st → Ascending (st .entries) → length t ≡ size
     → st .entries ≡ stateOf t .entries ++ (e ∷ fs) → st .last ≡ stateOf t .last
-    → restored (e .key) (e .value) (e .version) (e .deadline) t ≡ some (withEntry (e .key) (e .value) (e .version) (e .deadline) t)
+    → restored (e .key) (e .value) (e .version) (e .deadline) t ≡ some (lowered (e .deadline) (withEntry (e .key) (e .value) (e .version) (e .deadline) t))
 unfolding fitting fitsRow
 each-restored st e fs t h a l p q =
     let es : List Entry = stateOf t .entries in

@@ -9,7 +9,7 @@ use borrow.Author.Tests.{eq-eqb}
 use Rattle.map.specs.State.{Entry, State}
 use Rattle.map.specs.Step.{mostKeys}
 use Rattle.table.specs.Bytes.{be8}
-use Rattle.table.specs.Memory.{lastIndex, firstIndex, countsIndex, headCount, size, numberOf, rowAt, entry, entryOf, countOf, entriesOf, historyOf, stateOf}
+use Rattle.table.specs.Memory.{lastIndex, firstIndex, countsIndex, latestIndex, boundIndex, size, numberOf, rowAt, entry, entryOf, countOf, entriesOf, historyOf, stateOf}
 use Rattle.table.specs.Found.{entryAt}
 use Rattle.table.specs.Write.{digits}
 use Rattle.table.proofs.Lists.{length-upto, getD-upto, upto-ext}
@@ -90,13 +90,13 @@ module _ (t u : List ℕ) (a b : ℕ) (ht : a + 352 ≤ length t) (hu : b + 352 
   row-same = record { entry = entry-same; key = n₁; value = n₂ }
 
 -- memory with the same numbers of the history has the same history
-abbrev pub SameHistory : List ℕ → List ℕ → Type 0
-SameHistory u t = (i : ℕ) → firstIndex ≤ i → i < headCount → numberOf u i ≡ numberOf t i
+abbrev SameHistory : List ℕ → List ℕ → Type 0
+SameHistory u t = (i : ℕ) → firstIndex ≤ i → i < boundIndex → numberOf u i ≡ numberOf t i
 
 pub history-same : (u t : List ℕ) → SameHistory u t → historyOf u ≡ historyOf t
 unfolding historyOf
 history-same u t h =
-    rw (h firstIndex (omega arith) (omega arith), upto-ext (λ (i : ℕ). numberOf t (countsIndex + i)) (λ (i : ℕ). numberOf u (countsIndex + i)) 7 (λ i l. h (countsIndex + i) (omega arith) (omega arith)))
+    rw (h firstIndex (omega arith) (omega arith), h latestIndex (omega arith) (omega arith), upto-ext (λ (i : ℕ). numberOf t (countsIndex + i)) (λ (i : ℕ). numberOf u (countsIndex + i)) 7 (λ i l. h (countsIndex + i) (omega arith) (omega arith)))
 
 -- the state of memory of the right length, and of another
 pub state-is : (t : List ℕ) (st : State) → length t ≡ size → entriesOf t ≡ st .entries → numberOf t lastIndex ≡ st .last → historyOf t ≡ st .history → stateOf t ≡ st

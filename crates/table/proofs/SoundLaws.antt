@@ -8,13 +8,14 @@ use borrow.Author.Count.{below-more}
 use lib.ListN.{length, List·getD-eq-default}
 use Rattle.wire.specs.Codec.{Bytes}
 use Rattle.wire.proofs.Laws.{is-bytes}
+use Rattle.map.specs.History.{startOf}
 use Rattle.map.specs.State.{Entry}
 use Rattle.map.specs.Step.{mostKeys, lastVersion}
-use Rattle.map.specs.Table.{Each, Pairs, Sizes, OtherKey, OtherVersion, Issued, Counts, Ascending}
+use Rattle.map.specs.Table.{Each, Pairs, Sizes, OtherKey, OtherVersion, Issued, Counts, lastSecond, Seconds, Ascending}
 use Rattle.table.specs.Bytes.{be8, upto}
-use Rattle.table.specs.Memory.{countIndex, lastIndex, firstIndex, countsIndex, numberAt, size, numberOf, rowAt, entry, entryOf, countOf, historyOf, stateOf, Permutation, Sound}
+use Rattle.table.specs.Memory.{countIndex, lastIndex, firstIndex, countsIndex, boundIndex, numberAt, size, numberOf, firstOf, rowAt, entry, entryOf, countOf, historyOf, stateOf, Permutation, Bounded, Sound}
 use Rattle.table.specs.Found.{entryAt}
-use Rattle.table.specs.Check.{Within, AllWithin, Rising, Differ, CountsWithin}
+use Rattle.table.specs.Check.{Within, AllWithin, Rising, Differ, CountsWithin, SecondsWithin}
 use Rattle.table.proofs.Lists.{lt-or-ge, length-upto, getD-upto}
 use Rattle.table.proofs.Order.{each-at, each-all, pairs-at, pairs-all}
 use Rattle.table.proofs.Parts.{length-part, bytes-part}
@@ -57,9 +58,9 @@ module _ (t : List ℕ) (h : length t ≡ size) (i : ℕ) (l : i < countOf t) wh
   unfolding entryOf entry
   deadline-is = ap (λ (e : Entry). e .deadline) (entry-is t h i l)
 
-  sizes-are : Bytes t → Within t (rowAt t i) → Sizes (entryAt t i)
+  sizes-are : Bytes t → (x : ℕ) → Within t x (rowAt t i) → Sizes (entryAt t i)
   unfolding entryOf entry
-  sizes-are b w =
+  sizes-are b x w =
       let k : ℕ = min (be8 t (rowAt t i + 16)) 64 in
       let v : ℕ = min (be8 t (rowAt t i + 24)) 256 in
       let m : countOf t ≤ 128 = count-most t in
@@ -92,9 +93,22 @@ counts-within t n =
           (lt-or-ge i 7);
     }
 
+-- the first second by the number that it is held as
+first-within : (n : ℕ) → n ≤ suc lastSecond → startOf (firstOf n) 0 ≤ lastSecond
+first-within zero h = omega arith
+first-within (suc n) h = omega arith
+
+within-first : (n : ℕ) → startOf (firstOf n) 0 ≤ lastSecond → n ≤ suc lastSecond
+within-first zero h = omega arith
+within-first (suc n) h = omega arith
+
+seconds-within : (t : List ℕ) → SecondsWithin t → Seconds (historyOf t)
+unfolding historyOf
+seconds-within t m = record { first = first-within (numberOf t firstIndex) (m .first); latest = m .latest }
+
 -- memory that passes the check is sound
 module _ (t : List ℕ) (h : length t ≡ size) (counted : numberOf t countIndex ≤ mostKeys) (last : numberOf t lastIndex ≤ lastVersion) (p : Permutation t) (all : AllWithin t)
-    (r : Rising t (countOf t) (numberOf t lastIndex)) (d : Differ t) (n : CountsWithin t) (b : Bytes t) where
+    (r : Rising t (countOf t) (numberOf t lastIndex)) (d : Differ t) (n : CountsWithin t) (m : SecondsWithin t) (b : Bytes t) where
   abbrev es : List Entry
   es = stateOf t .entries
 
@@ -114,21 +128,25 @@ module _ (t : List ℕ) (h : length t ≡ size) (counted : numberOf t countIndex
       by-pairs (λ e f. e .version < f .version)
       (λ i j l m. omega (arith, version-is t h i (omega arith), version-is t h j m, climbs t _ _ r i j l m))
 
+  bounds : Each (Bounded (numberOf t boundIndex)) es
+  bounds = by-each (Bounded (numberOf t boundIndex)) (λ i l q. let e = deadline-is t h i l in omega (arith, all i l .bound (omega arith)))
+
   pub checked : Sound t
   checked =
       record {
-        form = record { long = h; counted = counted; first = number-most t firstIndex b; places = p; lengths = λ i l. (all i l .key, all i l .value); order = order };
+        form = record { long = h; counted = counted; first = number-most t firstIndex b; places = p; lengths = λ i l. (all i l .key, all i l .value); order = order; bound = bounds };
         table = record {
           few = omega (arith, length-entries t h, count-most t);
           keys = by-pairs OtherKey
               (λ i j l m e. d i (omega arith) j m (omega arith) (sym (key-is t h j m) ∙ sym e ∙ key-is t h i (omega arith)));
-          sizes = by-each Sizes (λ i l. sizes-are t h i l b (all i l));
+          sizes = by-each Sizes (λ i l. sizes-are t h i l b _ (all i l));
           versions = by-pairs OtherVersion
               (λ i j l m e. omega (arith, version-is t h i (omega arith), version-is t h j m, climbs t _ _ r i j l m));
           issued = by-each (Issued (stateOf t .last))
               (λ i l. let v = version-is t h i l in (omega (arith, r .first i l), omega (arith, r .most i l, last-is t h)));
           last = omega (arith, last-is t h);
           counts = subst Counts (sym (history-is t h)) (counts-within t n);
+          seconds = subst Seconds (sym (history-is t h)) (seconds-within t m);
         };
       }
 
@@ -151,6 +169,7 @@ module _ (t : List ℕ) (s : Sound t) where
         key = s .form .lengths i l .0;
         value = s .form .lengths i l .1;
         deadline = omega (arith, deadline-is t (s .form .long) i l, one Sizes (s .table .sizes) i l .deadline);
+        bound = λ q. let e = deadline-is t (s .form .long) i l in omega (arith, one (Bounded (numberOf t boundIndex)) (s .form .bound) i l (omega arith));
       }
 
   pub sound-rising : Rising t (countOf t) (numberOf t lastIndex)
@@ -175,3 +194,9 @@ module _ (t : List ℕ) (s : Sound t) where
   unfolding historyOf
   sound-counts i l =
       omega (arith, subst Counts (history-is t (s .form .long)) (s .table .counts) .most i, getD-upto (λ (k : ℕ). numberOf t (countsIndex + k)) 7 i 0 l)
+
+  pub sound-seconds : SecondsWithin t
+  unfolding historyOf
+  sound-seconds =
+      let q = subst Seconds (history-is t (s .form .long)) (s .table .seconds) in
+      record { first = within-first (numberOf t firstIndex) (q .first); latest = q .latest }

@@ -12,11 +12,11 @@ use Rattle.map.specs.State.{Entry}
 use Rattle.map.specs.Step.{mostKeys}
 use Rattle.wire.specs.Write.{part}
 use Rattle.table.specs.Bytes.{be8, upto}
-use Rattle.table.specs.Memory.{headCount, countIndex, lastIndex, firstIndex, numberAt, placesAt, rowWidth, deadlineStart, keyLengthStart, valueLengthStart, keyStart, valueStart, size, numberOf, placeOf, rowAt, entry, entryOf, countOf, entriesOf, historyOf, Permutation}
+use Rattle.table.specs.Memory.{headCount, countIndex, lastIndex, firstIndex, boundIndex, numberAt, placesAt, rowWidth, deadlineStart, keyLengthStart, valueLengthStart, keyStart, valueStart, size, numberOf, placeOf, rowAt, entry, entryOf, countOf, entriesOf, historyOf, Permutation}
 use Rattle.table.specs.Write.{digits, withNumber, withKey, withValue, withEntry}
 use Rattle.table.proofs.Lists.{upto-ext}
 use Rattle.wire.proofs.WriteLaws.{sets-part}
-use Rattle.table.proofs.RowLaws.{length-digits, be8-sets, be8-before, SameRow, SameHistory, history-same}
+use Rattle.table.proofs.RowLaws.{length-digits, be8-sets, be8-before, SameRow, history-same}
 use Rattle.table.proofs.Regions.{Kept, kept-sets, kept-both, kept-wide, be8-kept, part-kept, number-kept, place-kept, row-in, row-from, permutation-same}
 
 abbrev pub Fit : List ℕ → ℕ → Type 0
@@ -166,12 +166,17 @@ pub record Shape (t : List ℕ) : Type 0 where
   pub places : Permutation t
   pub lengths : AllFit t
 
--- memory of a shape that has the entries, the last version and the history
-pub record Contains (u : List ℕ) (es : List Entry) (x : ℕ) (y : History) : Type 0 where
+-- memory of a shape that has the entries, the last version, the history and the bound
+pub record Contains (u : List ℕ) (es : List Entry) (x : ℕ) (y : History) (b : ℕ) : Type 0 where
   pub shape : Shape u
   pub entries : entriesOf u ≡ es
   pub last : numberOf u lastIndex ≡ x
   pub history : historyOf u ≡ y
+  pub bound : numberOf u boundIndex ≡ b
+
+-- the same under other names
+pub named : {u : List ℕ} {es fs : List Entry} {x x′ : ℕ} {y y′ : History} {z z′ : ℕ} → Contains u es x y z → es ≡ fs → x ≡ x′ → y ≡ y′ → z ≡ z′ → Contains u fs x′ y′ z′
+named b e f g h = record { shape = b .shape; entries = b .entries ∙ e; last = b .last ∙ f; history = b .history ∙ g; bound = b .bound ∙ h }
 
 abbrev pub held : List ℕ → ℕ → Entry
 held t i = entryOf t (rowAt t i)
@@ -180,10 +185,14 @@ pub count-is : (t : List ℕ) (m : ℕ) → numberOf t countIndex ≡ m → m �
 unfolding countOf
 count-is t m e l = omega arith
 
--- memory by its count and the entry of each row held, with the history of t
+-- the numbers of the header behind the last version are the same
+abbrev SameHead : List ℕ → List ℕ → Type 0
+SameHead u t = (i : ℕ) → firstIndex ≤ i → i < headCount → numberOf u i ≡ numberOf t i
+
+-- memory by its count and the entry of each row held, with the history and the bound of t
 pub contains : (t u : List ℕ) (m x : ℕ) (es : List Entry) → length u ≡ size → numberOf u countIndex ≡ m → m ≤ mostKeys → numberOf u lastIndex ≡ x
-    → numberOf t firstIndex < 2 ^ 64 → SameHistory u t → Permutation u
-    → ((i : ℕ) → i < m → Fit u (rowAt u i)) → upto (held u) m ≡ es → Contains u es x (historyOf t)
+    → numberOf t firstIndex < 2 ^ 64 → SameHead u t → Permutation u
+    → ((i : ℕ) → i < m → Fit u (rowAt u i)) → upto (held u) m ≡ es → Contains u es x (historyOf t) (numberOf t boundIndex)
 unfolding entriesOf
 contains t u m x es h c l e b y p f g =
     let n = count-is u m c l in
@@ -191,14 +200,15 @@ contains t u m x es h c l e b y p f g =
       shape = record { long = h; counted = omega arith; first = omega (arith, y firstIndex (omega arith) (omega arith)); places = p; lengths = λ i q. f i (omega arith) };
       entries = ap (upto (held u)) n ∙ g;
       last = e;
-      history = history-same u t y;
+      history = history-same u t (λ i p q. y i p (omega arith));
+      bound = y boundIndex (omega arith) (omega arith);
     }
 
 -- numbers of the header are written, but for the count
-pub numbers : (t u : List ℕ) (es : List Entry) (x : ℕ) (y : History) → Contains t es x y → Kept (numberAt lastIndex) placesAt t u
-    → numberOf u firstIndex < 2 ^ 64 → Contains u es (numberOf u lastIndex) (historyOf u)
+pub numbers : (t u : List ℕ) (es : List Entry) (x : ℕ) (y : History) (z : ℕ) → Contains t es x y z → Kept (numberAt lastIndex) placesAt t u
+    → numberOf u firstIndex < 2 ^ 64 → Contains u es (numberOf u lastIndex) (historyOf u) (numberOf u boundIndex)
 unfolding entriesOf
-numbers t u es x y b k q =
+numbers t u es x y z b k q =
     let s = b .shape in
     let p : (i : ℕ) → placeOf u i ≡ placeOf t i = λ i. place-kept k i (inr (omega arith)) in
     let r : (i : ℕ) → SameRow u (rowAt u i) t (rowAt t i) = λ i. row-from (kept-wide (omega arith) (omega arith) k) (s .long) i i (p i) in
@@ -209,16 +219,33 @@ numbers t u es x y b k q =
     ∙ ap (upto (held t)) (sym (count-is t (numberOf t countIndex) refl (s .counted))) ∙ b .entries)
 
 -- the last version is written
-pub issue : (t : List ℕ) (es : List Entry) (x z : ℕ) (y : History) → Contains t es x y → z < 2 ^ 64 → Contains (withNumber lastIndex z t) es z y
-issue t es x z y b l =
+pub issue : (t : List ℕ) (es : List Entry) (x z : ℕ) (y : History) (w : ℕ) → Contains t es x y w → z < 2 ^ 64 → Contains (withNumber lastIndex z t) es z y w
+issue t es x z y w b l =
     let s = b .shape in
     let u = withNumber lastIndex z t in
     let k = number-written lastIndex z t (s .long) (omega arith) in
     let e : (i : ℕ) → firstIndex ≤ i → i < headCount → numberOf u i ≡ numberOf t i = λ i p q. number-kept k i (inr (omega arith)) in
-    let c = numbers t u es x y b (kept-wide (omega arith) (omega arith) k) (omega (arith, s .first, e firstIndex (omega arith) (omega arith))) in
+    let c = numbers t u es x y w b (kept-wide (omega arith) (omega arith) k) (omega (arith, s .first, e firstIndex (omega arith) (omega arith))) in
     record {
       shape = c .shape;
       entries = c .entries;
       last = number-is lastIndex z t (s .long) (omega arith) l;
-      history = history-same u t e ∙ b .history;
+      history = history-same u t (λ i p q. e i p (omega arith)) ∙ b .history;
+      bound = e boundIndex (omega arith) (omega arith) ∙ b .bound;
+    }
+
+-- the bound is written
+pub bind : (t : List ℕ) (es : List Entry) (x : ℕ) (y : History) (w z : ℕ) → Contains t es x y w → z < 2 ^ 64 → Contains (withNumber boundIndex z t) es x y z
+bind t es x y w z b l =
+    let s = b .shape in
+    let u = withNumber boundIndex z t in
+    let k = number-written boundIndex z t (s .long) (omega arith) in
+    let e : (i : ℕ) → i < boundIndex → numberOf u i ≡ numberOf t i = λ i q. number-kept k i (inl (omega arith)) in
+    let c = numbers t u es x y w b (kept-wide (omega arith) (omega arith) k) (omega (arith, s .first, e firstIndex (omega arith))) in
+    record {
+      shape = c .shape;
+      entries = c .entries;
+      last = e lastIndex (omega arith) ∙ b .last;
+      history = history-same u t (λ i p q. e i q) ∙ b .history;
+      bound = number-is boundIndex z t (s .long) (omega arith) l;
     }

@@ -11,9 +11,10 @@ use Rattle.map.specs.State.{Entry, State, withEntries, withLast, find, hasKey}
 use Rattle.message.specs.declared.Operation.{Operation}
 use Rattle.map.specs.History.{adds}
 use Rattle.map.specs.Step.{mostKeys, lastVersion, isNone}
-use Rattle.map.specs.Table.{lastDeadline}
-use Rattle.table.specs.Memory.{countIndex, lastIndex, countsIndex, size, rowAt, entry, countOf, stateOf, Form}
-use Rattle.table.specs.Write.{withNumber, withNone, begun, counted, turned, inOrder, withValue, withEntry}
+use Rattle.map.specs.Table.{lastDeadline, lastSecond}
+use Rattle.table.specs.Memory.{countIndex, lastIndex, countsIndex, latestIndex, boundIndex, size, rowAt, entry, countOf, stateOf, Form}
+use Rattle.table.specs.Write.{withNumber, withNone, lowered, begun, counted, turned, less, inOrder, withValue, withEntry}
+use Rattle.table.specs.Sweep.{noBound, presentAt, swept}
 use Rattle.table.specs.declared.Outcome.{Outcome}
 use Rattle.table.specs.declared.Outcome.the-variants.{Done, Refused}
 
@@ -52,43 +53,41 @@ hasRoom t = eqb (length t) size && ltb (length (stateOf t .entries)) mostKeys
 unfoldable pub added : List ℕ → List ℕ → ℕ → List ℕ → Option (List ℕ)
 added k v d t =
     let n = suc (stateOf t .last) in
-    cond (fitsRow k v && (hasRoom t && ltb (stateOf t .last) lastVersion)) (some (withNumber lastIndex n (withEntry k v n d t))) none
+    cond (fitsRow k v && (hasRoom t && ltb (stateOf t .last) lastVersion)) (some (lowered d (withNumber lastIndex n (withEntry k v n d t)))) none
 
 -- entry i has another value and deadline, is of the next version, and stands behind the others
 unfoldable pub renewed : ℕ → List ℕ → ℕ → List ℕ → Option (List ℕ)
 renewed i v d t =
     let n = suc (stateOf t .last) in
     cond (leb (length v) valueLimit && (ltb i (length (stateOf t .entries)) && ltb (stateOf t .last) lastVersion))
-    (some (withNumber lastIndex n (turned i (countOf t - 1) (withValue (rowAt t i) v n d t)))) none
+    (some (lowered d (withNumber lastIndex n (turned i (countOf t - 1) (withValue (rowAt t i) v n d t))))) none
 
--- entry i less: its row is the first that is free
+-- entry i less
 unfoldable pub removed : ℕ → List ℕ → Option (List ℕ)
-removed i t =
-    let m = countOf t - 1 in
-    cond (ltb i (length (stateOf t .entries))) (some (withNumber countIndex m (turned i m t))) none
+removed i t = cond (ltb i (length (stateOf t .entries))) (some (less i t)) none
 
 -- all entries less
 unfoldable pub cleared : List ℕ → Option (List ℕ)
 cleared t = cond (eqb (length t) size) (some (withNumber countIndex 0 t)) none
 
--- memory of the right length made a table with no entries, a last version and no history: "the history since start or the last load"
+-- memory of the right length made a table with no entries, a last version and no history, "the history since start or the last load", and a bound that
+-- is above every deadline
 unfoldable pub started : ℕ → List ℕ → Option (List ℕ)
 started x t =
-    cond (eqb (length t) size && leb x lastVersion) (some (withNumber lastIndex x (inOrder (withNone t)))) none
+    cond (eqb (length t) size && leb x lastVersion) (some (withNumber boundIndex noBound (withNumber lastIndex x (inOrder (withNone t))))) none
 
 -- a fresh table: "The table holds the last version issued, 0 when fresh."
 abbrev pub made : List ℕ → Option (List ℕ)
 made t = started 0 t
 
--- "Each call is given a second, 0 to 4,294,967,295."
-abbrev pub lastSecond : ℕ
-lastSecond = 4_294_967_295
-
--- What a call that is served does to the history, before its step: its second is the first one where none was served before, and it is counted, by its
--- operation and by whether no entry has its key.
+-- What a call that is served does before its step, at a second of "0 to 4,294,967,295": what has expired at the present second goes, its second is the
+-- first one where none was served before, it is counted, by its operation and by whether no entry that stands has its key, and the present second is
+-- the latest one.
 unfoldable pub arrived : Operation → Bool → ℕ → List ℕ → Option (List ℕ)
 arrived o absent second t =
-    cond (eqb (length t) size && leb second lastSecond) (some (counted countsIndex (adds o absent) (begun second t))) none
+    let now = presentAt second t in
+    cond (eqb (length t) size && leb second lastSecond)
+    (some (withNumber latestIndex now (counted countsIndex (adds o absent) (begun second (swept now t))))) none
 
 -- the version of the last entry; 0 where there is none
 unfoldable pub newest : List Entry → ℕ
@@ -105,7 +104,7 @@ next k n t =
 
 -- an entry more as it is, of a version already issued
 unfoldable pub restored : List ℕ → List ℕ → ℕ → ℕ → List ℕ → Option (List ℕ)
-restored k v n d t = cond (fitting k v d && next k n t) (some (withEntry k v n d t)) none
+restored k v n d t = cond (fitting k v d && next k n t) (some (lowered d (withEntry k v n d t))) none
 
 -- memory that keeps its length, has the form of a table and stands for the state
 pub record Changed (old new : List ℕ) (st : State) : Type 0 where

@@ -1,10 +1,10 @@
--- The memory that a state is written to: its numbers, its rows in order, and 0 behind them.
+-- The memory that a state is written to: its numbers, the bound 0, its rows in order, and 0 behind them.
 use mathlib.Core.List.{List, [], _∷_}
 use mathlib.Core.Option.{Option, none, some}
 use Prim.Native.Nat.{ℕ, suc}
 use Rattle.map.specs.State.{Entry, State}
 use Rattle.table.specs.Bytes.{zeros}
-use Rattle.table.specs.Memory.{lastIndex, firstIndex, countsIndex, size}
+use Rattle.table.specs.Memory.{lastIndex, firstIndex, countsIndex, latestIndex, size}
 use Rattle.table.specs.Write.{withNumber, withNumbers, inOrder, withEntry}
 
 unfoldable pub withAll : List ℕ → List Entry → List ℕ
@@ -18,5 +18,6 @@ firstNumber (some n) = suc n
 
 unfoldable pub form : State → List ℕ
 form st =
-    withNumbers countsIndex (st .history .counts)
-    (withNumber firstIndex (firstNumber (st .history .first)) (withNumber lastIndex (st .last) (withAll (inOrder (zeros size)) (st .entries))))
+    withNumber latestIndex (st .history .latest)
+    (withNumbers countsIndex (st .history .counts)
+    (withNumber firstIndex (firstNumber (st .history .first)) (withNumber lastIndex (st .last) (withAll (inOrder (zeros size)) (st .entries)))))

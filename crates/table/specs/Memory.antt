@@ -1,7 +1,8 @@
 -- The table in lent memory. First a header of numbers, 8 bytes each, highest first: the count of entries, the last version issued, the second of
--- the first call served (one more than it, and 0 where none was served) and the seven counts of the history. Then the places, a byte for each row:
--- the row of each entry held, ascending by version, and behind them the rows that are free. Then 128 rows of fixed width, which never move. A row
--- has version, deadline, key length and value length, 8 bytes each, then 64 bytes for the key and 256 for the value.
+-- the first call served (one more than it, and 0 where none was served), the seven counts of the history, the latest second served, and a bound that no
+-- deadline of an entry held is below, but for the deadline 0. Then the places, a byte for each row: the row of each entry held, ascending by version, and
+-- behind them the rows that are free. Then 128 rows of fixed width, which never move. A row has version, deadline, key length and value length, 8 bytes
+-- each, then 64 bytes for the key and 256 for the value.
 use mathlib.Core.Path.{_≡_}
 use mathlib.Core.List.{List}
 use mathlib.Core.Bool.{cond}
@@ -13,12 +14,12 @@ use Rattle.message.specs.Request.{keyLimit, valueLimit}
 use Rattle.map.specs.History.{History, countsHeld}
 use Rattle.map.specs.State.{Entry, State, fresh}
 use Rattle.map.specs.Step.{mostKeys}
-use Rattle.map.specs.Table.{IsTable, Ascending}
+use Rattle.map.specs.Table.{Each, IsTable, Ascending}
 use Rattle.wire.specs.Write.{part}
 use Rattle.table.specs.Bytes.{be8, upto}
 
--- which numbers of the header are the count of entries, the last version issued, the first second and the first of the counts; how many numbers
--- it has, and where number i stands
+-- which numbers of the header are the count of entries, the last version issued, the first second, the first of the counts, the latest second and
+-- the bound; how many numbers it has, and where number i stands
 abbrev pub countIndex : ℕ
 countIndex = 0
 
@@ -31,8 +32,14 @@ firstIndex = 2
 abbrev pub countsIndex : ℕ
 countsIndex = 3
 
+abbrev pub latestIndex : ℕ
+latestIndex = countsIndex + countsHeld
+
+abbrev pub boundIndex : ℕ
+boundIndex = latestIndex + 1
+
 abbrev pub headCount : ℕ
-headCount = countsIndex + countsHeld
+headCount = boundIndex + 1
 
 abbrev pub numberAt : ℕ → ℕ
 numberAt i = 8 * i
@@ -99,7 +106,12 @@ firstOf zero = none
 firstOf (suc n) = some n
 
 unfoldable pub historyOf : List ℕ → History
-historyOf t = record { first = firstOf (numberOf t firstIndex); counts = upto (λ i. numberOf t (countsIndex + i)) countsHeld }
+historyOf t =
+    record {
+      first = firstOf (numberOf t firstIndex);
+      latest = numberOf t latestIndex;
+      counts = upto (λ i. numberOf t (countsIndex + i)) countsHeld;
+    }
 
 -- the state that any memory stands for; memory of another length stands for a fresh one
 unfoldable pub stateOf : List ℕ → State
@@ -110,8 +122,12 @@ pub record Permutation (t : List ℕ) : Type 0 where
   pub below : (i : ℕ) → i < mostKeys → placeOf t i < mostKeys
   pub once : (i j : ℕ) → i < mostKeys → j < mostKeys → placeOf t i ≡ placeOf t j → i ≡ j
 
--- what the memory adds to a table's conditions: its length, the permutation, that nothing is capped, and the order of entries. That the first
--- second's number is one of eight bytes holds of all bytes. The bytes of rows that are not held mean nothing.
+-- the deadline of an entry is not below the bound, or is 0
+abbrev pub Bounded : ℕ → Entry → Type 0
+Bounded b e = 0 < e .deadline → b ≤ e .deadline
+
+-- what the memory adds to a table's conditions: its length, the permutation, that nothing is capped, the order of entries, and the bound. That the
+-- first second's number is one of eight bytes holds of all bytes. The bytes of rows that are not held mean nothing.
 pub record Form (t : List ℕ) : Type 0 where
   pub long : length t ≡ size
   pub counted : numberOf t countIndex ≤ mostKeys
@@ -119,6 +135,7 @@ pub record Form (t : List ℕ) : Type 0 where
   pub places : Permutation t
   pub lengths : (i : ℕ) → i < countOf t → (be8 t (rowAt t i + keyLengthStart) ≤ keyLimit) × (be8 t (rowAt t i + valueLengthStart) ≤ valueLimit)
   pub order : Ascending (stateOf t .entries)
+  pub bound : Each (Bounded (numberOf t boundIndex)) (stateOf t .entries)
 
 -- "Sound means not refused 13."
 pub record Sound (t : List ℕ) : Type 0 where

@@ -11,17 +11,31 @@ use field::EntryVersion;
 use field::Second;
 ghost use mathlib.Core.Path.{_≡_};
 ghost use mathlib.Core.Bool.{true};
-ghost use Prim.Native.Nat.{_+_, _≤_};
+ghost use Prim.Native.Nat.{_+_, _≤_, _<_};
 ghost use lib.ListN.{length};
+ghost use Rattle.map.specs.Table.{lastDeadline};
 ghost use Rattle.table.specs.Memory.{lastIndex, rowWidth, size, numberOf, countOf, stateOf, Permutation};
 ghost use Rattle.table.specs.Found.{Tells};
 ghost use Rattle.table.specs.Change.{newest, fitsRow, hasRoom, fitting, next};
-ghost use Rattle.table.specs.Check.{Within, AllWithin, Rising, NoneBefore, Differ, CountsWithin};
+ghost use Rattle.table.specs.Check.{Within, AllWithin, Rising, NoneBefore, Differ, CountsWithin, SecondsWithin};
 
-// Whether the lengths and the deadline of the row at a are within their limits.
-fn within(t: &[u8], a: usize) -> bool
+// Whether a deadline is within its limit and not below a bound, or is 0.
+fn deadline_within(deadline: u64, bound: u64) -> bool
+    ensures { λ r. ⌜ Tells r ((deadline ≤ lastDeadline) × (0 < deadline → bound ≤ deadline)) ⌝ }
+{
+    if deadline == 0 {
+        return true;
+    }
+    if deadline > Row::LAST_DEADLINE {
+        return false;
+    }
+    bound <= deadline
+}
+
+// Whether the lengths and the deadline of the row at a are within their limits, and the deadline is not below a bound, or is 0.
+fn within(t: &[u8], a: usize, bound: u64) -> bool
     requires { ⌜ a + rowWidth ≤ length (now t) ⌝ }
-    ensures { λ r. ⌜ Tells r (Within (now (t .entry)) a) ⌝ }
+    ensures { λ r. ⌜ Tells r (Within (now (t .entry)) bound a) ⌝ }
 {
     if number::get64(t, a + Row::KEY_LENGTH) > Row::KEY as u64 {
         return false;
@@ -29,10 +43,7 @@ fn within(t: &[u8], a: usize) -> bool
     if number::get64(t, a + Row::VALUE_LENGTH) > Row::VALUE as u64 {
         return false;
     }
-    if number::get64(t, a + Row::DEADLINE_START) > Row::LAST_DEADLINE {
-        return false;
-    }
-    true
+    deadline_within(number::get64(t, a + Row::DEADLINE_START), bound)
 }
 
 // Whether those of the row of every entry are.
@@ -41,12 +52,27 @@ pub(crate) fn all_within(t: &[u8]) -> bool
     ensures { λ r. ⌜ Tells r (AllWithin (now (t .entry))) ⌝ }
 {
     let n = rows::count(t);
+    let bound = rows::header(t, Table::BOUND);
     let mut i = 0;
     while i < n {
-        if !within(t, rows::row_at(t, i)) {
+        if !within(t, rows::row_at(t, i), bound) {
             return false;
         }
         i += 1;
+    }
+    true
+}
+
+// Whether the first second, held as one more than it, and the latest one are within their limit.
+pub(crate) fn seconds_within(t: &[u8]) -> bool
+    requires { ⌜ length (now t) ≡ size ⌝ }
+    ensures { λ r. ⌜ Tells r (SecondsWithin (now (t .entry))) ⌝ }
+{
+    if rows::header(t, Table::FIRST) > Table::LAST_SECOND + 1 {
+        return false;
+    }
+    if rows::header(t, Table::LATEST) > Table::LAST_SECOND {
+        return false;
     }
     true
 }
@@ -57,7 +83,7 @@ pub(crate) fn counts_within(t: &[u8]) -> bool
     ensures { λ r. ⌜ Tells r (CountsWithin (now (t .entry))) ⌝ }
 {
     let mut i = Table::TOTAL;
-    while i < Table::NUMBERS {
+    while i < Table::LATEST {
         if rows::header(t, i) > Table::MOST_COUNT {
             return false;
         }

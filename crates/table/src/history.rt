@@ -8,9 +8,9 @@ ghost use mathlib.Core.Bool.{_&&_, _||_};
 ghost use Prim.Native.Nat.{_-_, _≤_, _<_};
 ghost use lib.ListN.{length};
 ghost use Rattle.map.specs.History.{onward, adds, startOf};
+ghost use Rattle.map.specs.Table.{lastSecond};
 ghost use Rattle.table.specs.Memory.{headCount, countsIndex, size, firstOf};
 ghost use Rattle.table.specs.Write.{begun, goneOn, counted};
-ghost use Rattle.table.specs.Change.{lastSecond};
 
 // One more, up to the largest count.
 fn onward(n: u64) -> u64

@@ -1,5 +1,6 @@
 // The table in memory that the caller lends. Every function takes memory of any length and any bytes.
 mod check;
+mod expiry;
 mod history;
 mod mark;
 mod named;
@@ -11,10 +12,12 @@ use field::Second;
 use message::Operation;
 use statistics::Statistics;
 ghost use mathlib.Core.Path.{_≡_};
+ghost use mathlib.Core.Bool.{not};
 ghost use Prim.Native.Nat.{_+_, _≤_};
 ghost use lib.ListN.{length};
 ghost use Rattle.table.specs.Memory.{rowWidth, stateOf, Sound};
 ghost use Rattle.map.specs.Step as map;
+ghost use Rattle.map.specs.Deadline.{expired, standing};
 ghost use Rattle.statistics.specs.Statistics.{listOf};
 ghost use Rattle.table.specs.Compare.{compared};
 ghost use Rattle.table.specs.Found.{entryAt, FoundIs, NumberAt, Tells};
@@ -47,7 +50,7 @@ pub struct Row {}
 
 impl Table {
     // Its length, how many keys it holds at most, and the largest version.
-    pub const SIZE: usize = 45264;
+    pub const SIZE: usize = 45280;
 
     pub const KEYS: usize = 128;
 
@@ -61,8 +64,8 @@ impl Table {
 
     pub const MOST_COUNT: u64 = 0x7fff_ffff_ffff_ffff;
 
-    // The length of a number, and which numbers are the count of entries, the last version issued, the first second (one more than it, 0 for none) and
-    // the seven counts.
+    // The length of a number, and which numbers are the count of entries, the last version issued, the first second (one more than it, 0 for none), the
+    // seven counts, the latest second, and the bound of the deadlines.
     pub const NUMBER: usize = 8;
 
     pub const COUNT: usize = 0;
@@ -85,13 +88,14 @@ impl Table {
 
     pub const REMOVE_MISSES: usize = 9;
 
-    // How many numbers there are.
-    pub const NUMBERS: usize = 10;
+    pub const LATEST: usize = 10;
+
+    pub const BOUND: usize = 11;
 
     // Where the places and the rows begin.
-    pub const PLACES: usize = 80;
+    pub const PLACES: usize = 96;
 
-    pub const ROWS: usize = 208;
+    pub const ROWS: usize = 224;
 }
 
 impl Row {
@@ -103,6 +107,9 @@ impl Row {
     pub const VALUE: usize = 256;
 
     pub const LAST_DEADLINE: u64 = 8_589_934_590;
+
+    // The bound of the deadlines where no entry has one.
+    pub const NO_BOUND: u64 = 8_589_934_591;
 
     // Where its fields begin.
     pub const VERSION_START: usize = 0;
@@ -177,6 +184,7 @@ pub fn start(t: &mut [u8], last: EntryVersion) -> bool
     rows::set_none(t);
     rows::set_order(t);
     rows::set_header(t, Table::LAST, last.0);
+    rows::set_header(t, Table::BOUND, Row::NO_BOUND);
     true
 }
 
@@ -191,6 +199,9 @@ pub fn is_table(t: &[u8]) -> bool
         return false;
     }
     if rows::header(t, Table::LAST) > Table::LAST_VERSION {
+        return false;
+    }
+    if !check::seconds_within(t) {
         return false;
     }
     if !check::counts_within(t) {
@@ -216,6 +227,16 @@ pub fn count(t: &[u8]) -> usize
         return 0;
     }
     rows::count(t)
+}
+
+// The latest second served.
+pub fn latest(t: &[u8]) -> Second
+    ensures { λ r. ⌜ r .0 ≡ stateOf (now (t .entry)) .history .latest ⌝ }
+{
+    if t.len() != Table::SIZE {
+        return Second(0);
+    }
+    Second(rows::header(t, Table::LATEST))
 }
 
 // The last version issued.
@@ -283,6 +304,23 @@ pub fn deadline_at(t: &[u8], i: usize) -> Second
     Second(number_at(t, i, Row::DEADLINE_START))
 }
 
+// Whether entry i stands at a second: its deadline is 0 or above it. One that is not held has the deadline 0.
+pub fn stands(t: &[u8], i: usize, second: Second) -> bool
+    ensures { λ r. ⌜ r ≡ not (expired (second .0) (entryAt (now (t .entry)) i)) ⌝ }
+{
+    expiry::in_time(deadline_at(t, i), second)
+}
+
+// How many entries stand at a second.
+pub fn standing(t: &[u8], second: Second) -> usize
+    ensures { λ r. ⌜ r ≡ length (standing (second .0) (stateOf (now (t .entry)) .entries)) ⌝ }
+{
+    if t.len() != Table::SIZE {
+        return 0;
+    }
+    expiry::count_standing(t, second)
+}
+
 // Where the first n entries stand in the memory, all where n is 0, ascending by version: for each of them four numbers, the start and the length of its
 // key, and those of its value, 0 and 0 where values are not asked for. It answers how many entries there are. A list shorter than 512 numbers, and
 // memory of another length, tell of none.
@@ -314,6 +352,7 @@ pub fn add(t: &mut [u8], key: &[u8], value: &[u8], deadline: Second) -> bool
         return false;
     }
     rows::append(t, key, value, deadline);
+    expiry::lower_bound(t, deadline);
     true
 }
 
@@ -334,6 +373,7 @@ pub fn restore(
         return false;
     }
     rows::restore(t, key, value, version, deadline);
+    expiry::lower_bound(t, deadline);
     true
 }
 
@@ -351,6 +391,7 @@ pub fn renew(t: &mut [u8], i: usize, value: &[u8], deadline: Second) -> bool
         return false;
     }
     rows::renew(t, i, value, deadline);
+    expiry::lower_bound(t, deadline);
     true
 }
 
@@ -376,8 +417,9 @@ pub fn clear(t: &mut [u8]) -> bool
     true
 }
 
-// What a call that is served does before its step: its second is the first one where none was served before, and it is counted, by its operation and
-// by whether no entry has its key. The entries stay. A second above the largest, and memory of another length, change nothing.
+// What a call that is served does before its step: the entries that have expired at the present second go, its second is the first one where none was
+// served before, it is counted, by its operation and by whether no entry that stands has its key, and the present second is the latest one. A second
+// above the largest, and memory of another length, change nothing.
 pub fn arrive(t: &mut [u8], op: Operation, absent: bool, second: Second) -> bool
     ensures { λ r. ⌜ Answers (now (t .entry)) (arrived op absent (second .0) (now (t .entry))) r (now (t .exit)) ⌝ }
 {
@@ -387,8 +429,11 @@ pub fn arrive(t: &mut [u8], op: Operation, absent: bool, second: Second) -> bool
     if second.0 > Table::LAST_SECOND {
         return false;
     }
+    let present = expiry::present(t, second);
+    expiry::sweep(t, present);
     history::begin(t, second);
     history::tally(t, op, absent);
+    rows::set_header(t, Table::LATEST, present.0);
     true
 }
 

@@ -16,7 +16,7 @@ ghost use Rattle.map.specs.Step.{mostKeys, lastVersion};
 ghost use Rattle.wire.specs.Write.{part};
 ghost use Rattle.table.specs.Bytes.{be8};
 ghost use Rattle.table.specs.Memory.{headCount, countIndex, lastIndex, rowWidth, size, numberOf, rowAt, entryOf, countOf};
-ghost use Rattle.table.specs.Write.{withNumber, withNone, turned, inOrder, withKey, withValue, withEntry};
+ghost use Rattle.table.specs.Write.{withNumber, withNone, turned, less, inOrder, withKey, withValue, withEntry};
 ghost use Rattle.table.specs.Found.{Tells};
 ghost use Rattle.table.specs.Check.{Has, FoundFrom};
 
@@ -237,7 +237,7 @@ pub(crate) fn renew(t: &mut [u8], i: usize, v: &[u8], deadline: Second)
 // Removes entry i. Its row is the first that is free.
 pub(crate) fn remove(t: &mut [u8], i: usize)
     requires { ⌜ (length (now t) ≡ size) × (i < countOf (now t)) ⌝ }
-    ensures { λ _. ⌜ now (t .exit) ≡ withNumber countIndex (countOf (now (t .entry)) - 1) (turned i (countOf (now (t .entry)) - 1) (now (t .entry))) ⌝ }
+    ensures { λ _. ⌜ now (t .exit) ≡ less i (now (t .entry)) ⌝ }
 {
     let left = count(t) - 1;
     turn(t, i, left);

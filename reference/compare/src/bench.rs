@@ -6,6 +6,7 @@ use std::hint::black_box;
 use std::time::{Duration, Instant};
 
 use reference::hex::to_digits;
+use reference::map::LARGEST_DEADLINE;
 use reference::operation::{BULK_GET, BULK_GET_KEYS, GET, PUT, STATS};
 use reference::serve::BULK_ROOM;
 use reference::{Entry, Read, Reply, Request, Table};
@@ -13,7 +14,7 @@ use reference::{Entry, Read, Reply, Request, Table};
 use crate::chance::Chance;
 use crate::fields::{join, of_reply, of_request};
 use crate::lines::LEAST;
-use crate::memory::{self, SIZE};
+use crate::memory::{self, put_number, BOUND, SIZE};
 use crate::messages::{reply_numbers, request_numbers};
 use crate::subject::{
     Asked, Piece, ReplyParts, RequestParts, ServesLines, Subject, GOOD, LINES_WORDS, REPLY_WORDS,
@@ -36,13 +37,16 @@ const CALLED: usize = 120;
 /// The bulk requests of a stream.
 const BULKS: usize = 16;
 const SECOND: u32 = 5;
+/// A deadline far behind that second.
+const FAR: u64 = 1_000_000;
 const REPLY_ROOM: usize = 512;
 
 /// What is said above the table of results.
 pub const CONDITIONS: &str = "\
 Medians of 21 rounds in nanoseconds for one message, request, check or line.
 The table has 128 entries with keys of 32 bytes, 24 of them the same, and
-values of 256 bytes. Cleared before each round: the table is set back to these
+values of 256 bytes. None has a deadline but where it is said; there each has
+one, and none expires. Cleared before each round: the table is set back to these
 entries, reply and output buffers are filled with zeros. Not cleared: the
 caches of the processor, so all is warm. Reading of the reference copies name,
 key and value, that of the library does not. serve_stream of the library checks
@@ -122,7 +126,18 @@ struct Setup {
 }
 
 impl Setup {
+    /// Entries without deadlines.
     fn new() -> Setup {
+        Setup::with(0)
+    }
+
+    /// Entries with deadlines far away.
+    fn dated() -> Setup {
+        Setup::with(FAR)
+    }
+
+    /// Entries whose deadlines are so far away, or none if that is 0.
+    fn with(far: u64) -> Setup {
         let mut chance = Chance::new(1);
         let front = chance.bytes(24);
         let mut table = Table::default();
@@ -132,13 +147,16 @@ impl Setup {
             let entry = Entry {
                 value: chance.bytes(256),
                 version: at,
-                deadline: 0,
+                deadline: if far == 0 { 0 } else { far + at },
             };
             table.entries.insert(key.clone(), entry);
             keys.push(key);
         }
         table.last = ENTRIES as u64;
         let mut memory = vec![0; SIZE];
+        // The bound that a server has where the deadlines are these.
+        let bound = if far == 0 { LARGEST_DEADLINE } else { far };
+        put_number(&mut memory, BOUND, bound + 1);
         memory::encode(&table, &mut memory);
         Setup {
             table,
@@ -201,29 +219,14 @@ fn bytes_of(requests: &[Request]) -> Vec<u8> {
 /// All benchmarks but that of request files.
 pub fn rows<S: Subject>(subject: &mut S) -> Vec<Row> {
     let mut setup = Setup::new();
-    let gets = bytes_of(&setup.requests(0));
-    let puts = bytes_of(&setup.requests(10));
-    let mixed = bytes_of(&setup.requests(1));
-    let last = bytes_of(&setup.gets_of_last());
-    let stats = bytes_of(&setup.stats());
-    vec![
+    let mut rows = vec![
         read_request(subject, &mut setup),
         write_request(subject, &mut setup),
         read_reply(subject, &mut setup),
         write_reply(subject, &mut setup),
-        stream(subject, &setup, "serve_stream, get", &gets),
-        stream(subject, &setup, "serve_stream, put over a held key", &puts),
-        stream(
-            subject,
-            &setup,
-            "serve_stream, nine gets to one put",
-            &mixed,
-        ),
-        stream(subject, &setup, "serve_stream, get of the last key", &last),
-        stream(subject, &setup, "serve_stream, stats", &stats),
-        calls(subject, &mut setup, "serve, get", 0),
-        calls(subject, &mut setup, "serve, put over a held key", 10),
-        calls(subject, &mut setup, "serve, nine gets to one put", 1),
+    ];
+    rows.extend(served_rows(subject, &mut setup));
+    rows.extend([
         bulk_stream(subject, &setup),
         bulk(subject, &setup, "serve, bulkGet of 128 entries", BULK_GET),
         bulk(
@@ -235,7 +238,35 @@ pub fn rows<S: Subject>(subject: &mut S) -> Vec<Row> {
         read_bulk(subject, &setup),
         write_bulk(subject, &setup),
         check(subject, &setup),
-    ]
+    ]);
+    rows
+}
+
+/// Streams and calls.
+fn served_rows<S: Subject>(subject: &mut S, setup: &mut Setup) -> Vec<Row> {
+    let mut dated = Setup::dated();
+    let dated_gets = bytes_of(&dated.requests(0));
+    let gets = bytes_of(&setup.requests(0));
+    let name = "serve_stream, get, all with deadlines";
+    let mut rows = vec![
+        stream(subject, setup, "serve_stream, get", &gets),
+        stream(subject, &dated, name, &dated_gets),
+    ];
+    for (name, requests) in [
+        ("serve_stream, put over a held key", setup.requests(10)),
+        ("serve_stream, nine gets to one put", setup.requests(1)),
+        ("serve_stream, get of the last key", setup.gets_of_last()),
+        ("serve_stream, stats", setup.stats()),
+    ] {
+        rows.push(stream(subject, setup, name, &bytes_of(&requests)));
+    }
+    rows.extend([
+        calls(subject, setup, "serve, get", 0),
+        calls(subject, &mut dated, "serve, get, all with deadlines", 0),
+        calls(subject, setup, "serve, put over a held key", 10),
+        calls(subject, setup, "serve, nine gets to one put", 1),
+    ]);
+    rows
 }
 
 fn read_request<S: Subject>(subject: &mut S, setup: &mut Setup) -> Row {
@@ -751,12 +782,12 @@ fn all_lines<S: ServesLines>(
 /// The results as a table.
 pub fn shown(rows: &[Row]) -> String {
     let mut text = format!(
-        "{:36}{:>7}{:>12}{:>12}{:>19}{:>10}{:>14}\n",
+        "{:38}{:>7}{:>12}{:>12}{:>19}{:>10}{:>14}\n",
         "", "bytes", "library", "reference", "reference/library", "copy", "library/copy"
     );
     for row in rows {
         text += &format!(
-            "{:36}{:>7}{:>12.1}{:>12.1}{:>19.2}{:>10.1}{:>14.1}\n",
+            "{:38}{:>7}{:>12.1}{:>12.1}{:>19.2}{:>10.1}{:>14.1}\n",
             row.name,
             row.bytes,
             row.subject,

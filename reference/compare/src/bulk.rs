@@ -1,7 +1,7 @@
 //! Part l: bulk requests and their replies.
 //!
-//! What a call lists is compared with the rows of the table's memory, every
-//! reply is walked entry by entry, and bulk requests come at every place of a
+//! What a call lists is compared with the rows of the table's memory that
+//! stand, every reply is walked entry by entry, and bulk requests come at every place of a
 //! stream.
 
 use reference::listing::MOST_LISTED;
@@ -12,12 +12,12 @@ use reference::{read_request, serve, write_number, Listed, Read, Request};
 
 use crate::calls::{replied, state_is, Call, World};
 use crate::chance::Chance;
-use crate::difference::{hold, same, same_bytes, Difference, Outcome};
+use crate::difference::{hold, same, same_bytes, Outcome};
 use crate::entries;
 use crate::fields::{join, of_request};
-use crate::lent::{Lent, Words};
+use crate::lent::Words;
 use crate::make;
-use crate::memory::{rows, Row};
+use crate::memory::{standing, Row};
 use crate::streams::compared_stream;
 use crate::subject::{verdict_code, Subject, FULL, GOOD, STREAM_WORDS};
 use crate::trial::Trial;
@@ -126,7 +126,7 @@ fn listing<S: Subject>(
     let row = [&input[..], &trial.chance.bytes(tail)].concat();
     let call = Call {
         input: &row,
-        second: make::second(&mut trial.chance),
+        second: make::second_for(&mut trial.chance, &world.table),
         room,
     };
     let before = world.memory.clone();
@@ -137,7 +137,12 @@ fn listing<S: Subject>(
         .and_then(|()| same("the bytes taken by the papers", taken, answer.taken));
     right
         .and_then(|()| match code {
-            GOOD => listed(trial, &before, request, &reply),
+            GOOD => listed(
+                trial,
+                &standing(before.slice(), call.second),
+                request,
+                &reply,
+            ),
             _ => Ok(()),
         })
         .map_err(|found| {
@@ -148,14 +153,13 @@ fn listing<S: Subject>(
         })
 }
 
-/// The reply is the lowest rows of the memory, and is walked through them.
-fn listed<S: Subject>(
+/// The reply is the lowest of the rows that stand, and is walked through them.
+pub fn listed<S: Subject>(
     trial: &mut Trial<S>,
-    memory: &Lent,
+    rows: &[Row],
     request: &Request,
     reply: &[u8],
 ) -> Outcome {
-    let rows = rows(memory.slice()).unwrap_or_default();
     let values = request.operation == BULK_GET;
     let count = match request.bulk as usize {
         0 => rows.len(),
@@ -260,7 +264,7 @@ fn whole_row<S: Subject>(trial: &mut Trial<S>, start: &World, row: &[u8], room: 
     loop {
         let call = Call {
             input: &row[taken..],
-            second: make::second(&mut trial.chance),
+            second: make::second_for(&mut trial.chance, &world.table),
             room,
         };
         let more = compared_stream(trial, &mut world, call)?.taken;
@@ -280,7 +284,7 @@ fn nothing_lost<S: Subject>(
     row: &[u8],
     room: usize,
 ) -> Outcome {
-    let second = make::second(&mut trial.chance);
+    let second = make::second_for(&mut trial.chance, &start.table);
     let mut world = start.clone();
     let expected = one_by_one(&mut world, row, second);
     let mut got = Vec::new();
@@ -327,11 +331,14 @@ fn one_by_one(world: &mut World, row: &[u8], second: u32) -> Vec<u8> {
 fn changed_value<S: Subject>(trial: &mut Trial<S>) -> Outcome {
     let held = 1 + trial.chance.below(MOST_KEYS);
     let mut one = world(&mut trial.chance, held);
-    let place = trial.chance.below(held);
+    let second = make::second_for(&mut trial.chance, &one.table);
     let mut other = one.clone();
-    let Some(key) = rows(one.memory.slice()).map(|rows| rows[place].key.to_vec()) else {
-        return Err(Difference::new("a table that was made has not the form"));
-    };
+    let rows = standing(one.memory.slice(), second);
+    if rows.is_empty() {
+        return Ok(());
+    }
+    let place = trial.chance.below(rows.len());
+    let key = rows[place].key.to_vec();
     for side in [&mut one, &mut other] {
         let mut table = side.table.clone();
         let value = trial.chance.bytes(100);
@@ -344,7 +351,7 @@ fn changed_value<S: Subject>(trial: &mut Trial<S>) -> Outcome {
             bulk: number,
             ..make::request_of(&mut trial.chance, operation)
         };
-        differ_there(trial, &mut one, &mut other, &asked, place)?;
+        differ_there(trial, &mut one, &mut other, &asked, (place, second))?;
     }
     Ok(())
 }
@@ -354,17 +361,17 @@ fn differ_there<S: Subject>(
     one: &mut World,
     other: &mut World,
     request: &Request,
-    place: usize,
+    (place, second): (usize, u32),
 ) -> Outcome {
     let call = Call {
         input: &join(&of_request(request)),
-        second: 9,
+        second,
         room: BULK_ROOM,
     };
     let memory = one.memory.clone();
     let (_, mine) = replied(trial, one, call)?;
     let (_, theirs) = replied(trial, other, call)?;
-    let rows = rows(memory.slice()).unwrap_or_default();
+    let rows = standing(memory.slice(), second);
     let before = listing_bytes(&rows[..place], true).len() - 1;
     let end = reply_front(request).len() + before + entry_bytes(&rows[place], true).len();
     let values = end - rows[place].value.len()..end;

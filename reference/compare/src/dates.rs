@@ -4,6 +4,7 @@
 //! hand.
 
 use reference::hex::to_digits;
+use reference::map::LARGEST_DEADLINE;
 use reference::operation::{
     sends_entry_version, PUT, PUT_IF_ABSENT, REPLACE, REPLACE_IF_UNMODIFIED,
 };
@@ -103,6 +104,9 @@ fn write(chance: &mut Chance, operation: u8) -> Request {
     }
 }
 
+/// Deadlines that stand at every second.
+const STANDING: [u64; 4] = [0, 4_294_967_296, LARGEST_DEADLINE - 1, LARGEST_DEADLINE];
+
 /// A table that holds the key with another deadline, or does not hold it.
 fn start(chance: &mut Chance, operation: u8) -> World {
     let mut table = Table {
@@ -112,7 +116,7 @@ fn start(chance: &mut Chance, operation: u8) -> World {
     let entry = Entry {
         value: vec![7],
         version: HELD,
-        deadline: make::deadline(chance),
+        deadline: chance.pick(&STANDING),
     };
     if operation != PUT_IF_ABSENT {
         table.entries.insert(KEY.to_vec(), entry);

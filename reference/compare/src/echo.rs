@@ -3,26 +3,27 @@
 //! fault at a time into it, and the harness has to find it.
 
 mod bulk;
+mod expiry;
 
 use reference::history::{COUNTS, RETRIEVALS, STORES};
 use reference::lines::{LINE_END, LINE_LIMIT};
 use reference::map::{LARGEST_DEADLINE, LARGEST_VERSION, LONGEST_SPAN, MOST_KEYS};
 use reference::number::LARGEST_VLONG;
 use reference::operation::{
-    greatest_bulk, sends_entry_version, sends_value, BULK_GET, CLEAR, GET, GET_WITH_VERSION, PUT,
-    REMOVE, STATS,
+    sends_entry_version, sends_value, BULK_GET, CLEAR, GET, GET_WITH_VERSION, PUT, REMOVE, STATS,
 };
 use reference::serve::{answer_request, error_id, LEAST_ROOM};
 use reference::{
-    is_text, load, read_reply, same_key, serve_line, store, write_reply, write_request, History,
-    Read, Reply, Request, Statistics, Table, Verdict,
+    is_text, load, read_reply, same_key, serve_line, write_reply, write_request, History, Read,
+    Reply, Request, Statistics, Table, Verdict,
 };
 
+use self::expiry::Arrival;
 use crate::fields::{of_reply, of_request, place, Kind};
 use crate::lines::LEAST;
 use crate::memory::{
-    self, number, put_history, put_number, row_at, COUNT, COUNTED, DEADLINE, LAST, PLACES, ROWS,
-    SIZE,
+    self, number, put_history, put_number, row_at, BOUND, COUNT, COUNTED, DEADLINE, LAST, LATEST,
+    PLACES, ROWS, SIZE,
 };
 use crate::messages::{reply_numbers, request_numbers};
 use crate::subject::{
@@ -150,6 +151,33 @@ pub enum Fault {
     EntriesRoomFirst,
     EntriesNeedOneMore,
     ValueLeaksToEntry,
+    // Entries that expire.
+    EqualStands,
+    BoundEqualSkips,
+    PresentIsCall,
+    LatestFalls,
+    RefusedSweeps,
+    RefusedMovesSecond,
+    BulkTwelveSweeps,
+    UnservedMovesSecond,
+    TenCountsExpired,
+    DeadlineFromCall,
+    PastIsGoneAtOnce,
+    PastTakesNoVersion,
+    PastIsNow,
+    ReusesVersions,
+    BulkShowsExpired,
+    StatsCountExpired,
+    TimeByPresent,
+    BoundTooHigh,
+    WriteKeepsBound,
+    BoundUnchecked,
+    LatestUnchecked,
+    FirstUnchecked,
+    StoresExpired,
+    StoresEqual,
+    StoresLastStanding,
+    LoadKeepsLatest,
     // Keys.
     ComparesFromFront,
     OnePairTooFew,
@@ -275,6 +303,7 @@ impl Echo {
             return None;
         }
         self.forgive(&mut memory);
+        self.forgive_seconds(&mut memory);
         let free = row_at(&memory, MOST_KEYS - 1) + memory::ROW - 1;
         let full = number(&memory, COUNT) >= MOST_KEYS as u64;
         if self.has(Fault::LooksBehind) && !full && memory[free] == 0x55 {
@@ -352,7 +381,9 @@ impl Echo {
         mut table: Table,
         room: usize,
     ) -> (u64, usize, Vec<u8>) {
-        match self.read(input) {
+        let read = self.read(input);
+        self.arrive_unserved(&read, second, memory);
+        match read {
             Read::More => {
                 let taken = if self.has(Fault::MoreTakes) {
                     input.len()
@@ -367,15 +398,13 @@ impl Echo {
                 (u64::from(refusal), 0, message)
             }
             Read::Whole(request, taken) if self.lacks_room(&request, &table, room) => {
-                if self.has(Fault::BulkTwelveIsFirst) {
-                    table.history.first.get_or_insert(u64::from(second));
-                    self.put_back(&table, memory);
-                }
+                self.change_unlisted(second, &mut table, memory);
                 let nothing = self.has(Fault::BulkTwelveTakesNothing);
                 (12, if nothing { 0 } else { taken }, Vec::new())
             }
             Read::Whole(request, taken) => {
-                let (message, verdict) = self.step(request, second, &mut table);
+                let bound = number(memory, BOUND);
+                let (message, verdict) = self.step(request, second, &mut table, bound);
                 if verdict == Verdict::Served || self.counts_refused(verdict) {
                     self.put_back(&table, memory);
                 }
@@ -388,12 +417,15 @@ impl Echo {
         match self.fault {
             Some(Fault::RefusedPutCounts) => verdict == Verdict::Refused(10),
             Some(Fault::RefusedCallIsFirst) => verdict == Verdict::Refused(9),
+            Some(Fault::RefusedSweeps | Fault::RefusedMovesSecond) => true,
             _ => false,
         }
     }
 
     fn put_back(&self, table: &Table, memory: &mut [u8]) {
+        let bound = number(memory, BOUND);
         memory::encode(table, memory);
+        self.change_bound(memory, bound);
         let count = table.entries.len();
         if self.has(Fault::LeavesOrder) && count > 1 {
             memory.swap(PLACES + count - 1, PLACES + count - 2);
@@ -401,23 +433,40 @@ impl Echo {
     }
 
     /// The reference's step with a fault before or after it.
-    fn step(&self, mut request: Request, second: u32, table: &mut Table) -> (Vec<u8>, Verdict) {
-        if let Some(refusal) = self.wrong_refusal(&request, table) {
+    fn step(
+        &self,
+        mut request: Request,
+        second: u32,
+        table: &mut Table,
+        bound: u64,
+    ) -> (Vec<u8>, Verdict) {
+        if let Some(refusal) = self.wrong_refusal(&request, second, table) {
             let message = reference::reply::error_bytes(request.id, refusal);
             return (message, Verdict::Refused(refusal));
         }
         self.change_request(&mut request, table);
         let before = table.clone();
+        let arrival = Arrival {
+            request: &request,
+            second,
+            bound,
+        };
+        self.before_step(&arrival, table);
         let mut answer = answer_request(&request, second, table);
-        if greatest_bulk(request.operation).is_some() && answer.1 == Verdict::Served {
-            self.change_listing(&request, &before, &mut answer.0);
+        if answer.1 == Verdict::Served {
+            self.change_listing(&request, second, &before, &mut answer.0);
+            self.change_shown(&arrival, &before, &mut answer.0);
         }
+        self.after_step(&arrival, &before, table, answer.1);
         self.change_table(&request, second, &before, table);
         self.change_history(&request, second, &before, table);
         answer
     }
 
-    fn wrong_refusal(&self, request: &Request, table: &Table) -> Option<u8> {
+    fn wrong_refusal(&self, request: &Request, second: u32, table: &Table) -> Option<u8> {
+        if self.counts_expired(request, second, table) {
+            return Some(10);
+        }
         let writes = sends_value(request.operation) && request.name.is_empty();
         let first = request.value.first().copied().unwrap_or(0);
         match self.fault {
@@ -855,7 +904,7 @@ impl Stores for Echo {
         let Some(table) = self.table(table) else {
             return 13;
         };
-        let file = store(&table);
+        let file = self.stored_form(table);
         let needed = file.len() + usize::from(self.has(Fault::StoreNeedsOneMore));
         if out.len() < needed {
             return 12;
@@ -885,7 +934,9 @@ impl Stores for Echo {
             return 17;
         };
         let history = memory::history(table);
+        let latest = number(table, LATEST);
         memory::encode(&loaded, table);
+        self.change_loaded(table, latest);
         if self.has(Fault::LoadKeepsCounts) {
             put_history(table, &history);
         }

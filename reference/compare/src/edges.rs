@@ -131,6 +131,7 @@ fn longest_statistics<S: Subject>(trial: &mut Trial<S>) -> Outcome {
     table.history = History {
         first: Some(0),
         counts: [LARGEST_VLONG; COUNTS],
+        latest: 0,
     };
     let request = Request {
         id: LARGEST_VLONG,

@@ -8,7 +8,7 @@
 //!
 //! The parts: `messages` (a), `serving` (b), `streams` (c), `tables` (d),
 //! `values` (e), `lines` (f), `stored` (g), `edges` (h), `dates` (i),
-//! `keys` (j), `statistics` (k), `bulk` (l).
+//! `keys` (j), `statistics` (k), `bulk` (l), `expiry` (m).
 //!
 //! `cargo test --offline` tests the harness without the library. With it:
 //! `cargo run --release --offline --features library,lines,stored -- quick`;
@@ -26,6 +26,7 @@ pub mod difference;
 pub mod echo;
 pub mod edges;
 pub mod entries;
+pub mod expiry;
 #[cfg(feature = "library")]
 pub mod ffi;
 pub mod fields;

@@ -70,17 +70,18 @@ fn file(chance: &mut Chance, world: &World) -> Vec<u8> {
     file
 }
 
-fn second_digits(chance: &mut Chance) -> Vec<u8> {
-    let mut line = to_digits(&make::second(chance).to_be_bytes());
+fn second_digits(chance: &mut Chance, world: &World) -> Vec<u8> {
+    let second = make::second_for(chance, &world.table);
+    let mut line = to_digits(&second.to_be_bytes());
     line.push(b' ');
     line
 }
 
 fn line(chance: &mut Chance, world: &World) -> Vec<u8> {
     if chance.one_in(12) {
-        return long_line(chance);
+        return long_line(chance, world);
     }
-    let mut line = second_digits(chance);
+    let mut line = second_digits(chance, world);
     let frame = frame(chance, world);
     line.extend(to_digits(&frame));
     if chance.one_in(5) {
@@ -105,13 +106,13 @@ fn frame(chance: &mut Chance, world: &World) -> Vec<u8> {
 }
 
 /// A line about the limit or far above it, most of the time good up to it.
-fn long_line(chance: &mut Chance) -> Vec<u8> {
+fn long_line(chance: &mut Chance, world: &World) -> Vec<u8> {
     let length = match chance.below(3) {
         0 => LINE_LIMIT - 2 + chance.below(6),
         1 => LINE_LIMIT + 1 + 2 * chance.below(3),
         _ => LINE_LIMIT + chance.below(6000),
     };
-    let mut line = second_digits(chance);
+    let mut line = second_digits(chance, world);
     if chance.one_in(2) {
         line.extend(b"a0010a170000010000");
     }

@@ -1,7 +1,7 @@
 //! Well-formed things by chance: numbers, texts, requests, replies, tables.
 
 use reference::fields::{KEY_LIMIT, NAME_LIMIT, TEXT_LIMIT, VALUE_LIMIT};
-use reference::history::COUNTS;
+use reference::history::{COUNTS, LARGEST_SECOND};
 use reference::map::{LARGEST_DEADLINE, LARGEST_VERSION, LONGEST_SPAN, MOST_KEYS};
 use reference::number::LARGEST_VLONG;
 use reference::operation::{
@@ -72,12 +72,47 @@ pub fn second(chance: &mut Chance) -> u32 {
     }
 }
 
-/// A lifespan, often about the border between spans and dates.
+/// The second of a call to a server with this table: mostly about the latest
+/// one served, at times about the next deadline or the one of any entry, and
+/// rarely any. So the entries expire a few at a time.
+pub fn second_for(chance: &mut Chance, table: &Table) -> u32 {
+    let latest = table.history.latest;
+    let mut deadlines = table.entries.values().map(|entry| entry.deadline);
+    let near = match chance.below(400) {
+        0 => u64::from(second(chance)),
+        1..=3 if !table.entries.is_empty() => {
+            let place = chance.below(table.entries.len());
+            about(chance, deadlines.nth(place).unwrap_or(0))
+        }
+        4..=50 => {
+            let next = deadlines.filter(|deadline| *deadline >= latest).min();
+            about(chance, next.unwrap_or(latest))
+        }
+        51..=80 => 0,
+        _ => about(chance, latest),
+    };
+    near.min(LARGEST_SECOND) as u32
+}
+
+/// A second before this one, this one, or one behind it.
+pub fn about(chance: &mut Chance, second: u64) -> u64 {
+    let other = chance.below(20) as u64;
+    match chance.below(6) {
+        0 | 1 => second,
+        2 => second + 1,
+        3 => second.saturating_sub(1),
+        4 => second + other,
+        _ => second.saturating_sub(other),
+    }
+}
+
+/// A lifespan, often about the border between spans and dates, or a short one.
 pub fn lifespan(chance: &mut Chance) -> u32 {
-    match chance.below(5) {
+    match chance.below(6) {
         0 => LONGEST_SPAN,
         1 => LONGEST_SPAN + 1,
         2 => LONGEST_SPAN - 2 + chance.below(6) as u32,
+        3 => 1 + chance.below(6) as u32,
         _ => int(chance),
     }
 }
@@ -266,8 +301,8 @@ fn count(chance: &mut Chance) -> u64 {
     }
 }
 
-/// What a sound table may remember: nothing, or counts that need not fit each
-/// other and a first second that may be above the largest second.
+/// What a sound table may remember: nothing, or counts and seconds that need
+/// not fit each other.
 pub fn history(chance: &mut Chance) -> History {
     if chance.one_in(4) {
         return History::default();
@@ -275,13 +310,20 @@ pub fn history(chance: &mut Chance) -> History {
     let first = match chance.below(6) {
         0 => None,
         1 => Some(0),
-        2 => Some(u64::from(u32::MAX) + chance.below(3) as u64),
-        3 => Some(chance.number() >> 1),
+        2 => Some(LARGEST_SECOND - chance.below(3) as u64),
         _ => Some(u64::from(second(chance))),
+    };
+    let latest = match chance.below(8) {
+        0 => 0,
+        1 => LARGEST_SECOND - chance.below(30) as u64,
+        2 => u64::from(LONGEST_SPAN) + chance.below(30) as u64,
+        3 => chance.below(300) as u64,
+        _ => chance.number() % (LARGEST_SECOND + 1),
     };
     History {
         first,
         counts: [0; COUNTS].map(|_| count(chance)),
+        latest,
     }
 }
 
@@ -323,12 +365,25 @@ fn common_keys(chance: &mut Chance) -> Vec<Vec<u8>> {
     (0..MOST_KEYS + 12).map(key).collect()
 }
 
-pub fn deadline(chance: &mut Chance) -> u64 {
+fn deadline(chance: &mut Chance) -> u64 {
     match chance.below(4) {
         0 => 0,
         1 => LARGEST_DEADLINE,
         2 => LARGEST_DEADLINE - 1,
         _ => chance.number() % (LARGEST_DEADLINE + 1),
+    }
+}
+
+/// Deadlines of a table with this latest second: at times all far away, at
+/// times many about it.
+fn deadline_for(chance: &mut Chance, latest: u64, far: bool) -> u64 {
+    match chance.below(8) {
+        0..=2 => 0,
+        _ if far => chance.pick(&[LARGEST_DEADLINE, LARGEST_SECOND + 1, LARGEST_SECOND + 2]),
+        3 => deadline(chance),
+        4 => latest + chance.below(1000) as u64,
+        5 => LARGEST_SECOND - 1 + chance.below(4) as u64,
+        _ => about(chance, latest),
     }
 }
 
@@ -365,6 +420,7 @@ pub fn table_of(chance: &mut Chance, keys: &[Vec<u8>]) -> Table {
         ..Table::default()
     };
     let mut greatest = table.last;
+    let far = chance.one_in(2);
     for (left, key) in keys.iter().enumerate().rev() {
         let spare = (greatest - left as u64 - 1).min(2) as usize;
         let version = greatest - chance.up_to(spare) as u64;
@@ -373,7 +429,7 @@ pub fn table_of(chance: &mut Chance, keys: &[Vec<u8>]) -> Table {
         let entry = Entry {
             value: chance.bytes(length),
             version,
-            deadline: deadline(chance),
+            deadline: deadline_for(chance, table.history.latest, far),
         };
         table.entries.insert(key.clone(), entry);
     }
@@ -427,11 +483,24 @@ pub fn request_for(chance: &mut Chance, table: &Table, keys: &[Vec<u8>]) -> Requ
     if sends_value(operation) {
         let length = length(chance, VALUE_LIMIT);
         request.value = chance.bytes(length);
+        request.lifespan = lifespan_for(chance, table);
     }
     if sends_entry_version(operation) {
         request.entry_version = entry_version(chance, table, &request.key);
     }
     request
+}
+
+/// A lifespan for an entry of this table: mostly one that lasts, so that tables
+/// stay full for a while, at times a date about the latest second.
+fn lifespan_for(chance: &mut Chance, table: &Table) -> u32 {
+    let date = about(chance, table.history.latest);
+    match chance.below(20) {
+        0..=9 => 0,
+        10..=13 => LONGEST_SPAN - chance.below(3) as u32,
+        14 | 15 => date.min(LARGEST_SECOND) as u32,
+        _ => lifespan(chance),
+    }
 }
 
 fn key_for(chance: &mut Chance, keys: &[Vec<u8>]) -> Vec<u8> {

@@ -1,6 +1,9 @@
-//! The table in 45,264 bytes: a head of ten numbers, then 128 places, each a
+//! The table in 45,280 bytes: a head of twelve numbers, then 128 places, each a
 //! byte that names a row, then 128 rows. The first places name the rows held,
 //! which ascend by version. Numbers are eight bytes, highest first.
+//!
+//! The last number of the head is a lower bound of the deadlines that are not
+//! 0 of the rows held. Which one a server writes is its choice.
 
 use std::fmt::Write;
 
@@ -10,7 +13,7 @@ use reference::history::COUNTS;
 use reference::map::MOST_KEYS;
 use reference::{Entry, History, Table};
 
-pub const PLACES: usize = 8 * 10;
+pub const PLACES: usize = 8 * 12;
 pub const ROWS: usize = PLACES + MOST_KEYS;
 pub const ROW: usize = 352;
 pub const SIZE: usize = ROWS + ROW * MOST_KEYS;
@@ -22,6 +25,10 @@ pub const LAST: usize = 8;
 pub const FIRST: usize = 16;
 /// The seven counts.
 pub const COUNTED: usize = 24;
+/// The latest second served.
+pub const LATEST: usize = 80;
+/// No deadline but 0 is below it.
+pub const BOUND: usize = 88;
 
 /// Places in a row.
 pub const VERSION: usize = 0;
@@ -38,6 +45,13 @@ pub struct Row<'a> {
     pub deadline: u64,
     pub key: &'a [u8],
     pub value: &'a [u8],
+}
+
+impl Row<'_> {
+    /// Whether it stands at this second.
+    pub fn stands(&self, now: u64) -> bool {
+        self.deadline == 0 || now < self.deadline
+    }
 }
 
 pub fn number(memory: &[u8], at: usize) -> u64 {
@@ -59,12 +73,14 @@ pub fn history(memory: &[u8]) -> History {
     History {
         first: number(memory, FIRST).checked_sub(1),
         counts,
+        latest: number(memory, LATEST),
     }
 }
 
 pub fn put_history(memory: &mut [u8], history: &History) {
     let first = history.first.map_or(0, |second| second + 1);
     put_number(memory, FIRST, first);
+    put_number(memory, LATEST, history.latest);
     for (at, count) in history.counts.iter().enumerate() {
         put_number(memory, COUNTED + 8 * at, *count);
     }
@@ -118,16 +134,44 @@ pub fn rows(memory: &[u8]) -> Option<Vec<Row<'_>>> {
     (0..count).map(|at| row(memory, at)).collect()
 }
 
+/// The least deadline that is not 0.
+fn least(deadlines: impl Iterator<Item = u64>) -> Option<u64> {
+    deadlines.filter(|deadline| *deadline > 0).min()
+}
+
+/// The greatest bound that the rows held allow; nothing if they allow any.
+pub fn greatest_bound(rows: &[Row]) -> Option<u64> {
+    least(rows.iter().map(|row| row.deadline))
+}
+
+/// Whether the bound is above none of the deadlines.
+fn is_bound(memory: &[u8], rows: &[Row]) -> bool {
+    greatest_bound(rows).is_none_or(|greatest| number(memory, BOUND) <= greatest)
+}
+
+/// The present second of a call at this second, by the latest one served.
+pub fn present(memory: &[u8], second: u32) -> u64 {
+    number(memory, LATEST).max(u64::from(second))
+}
+
+/// The rows that stand for a call at this second; none if `rows` finds none.
+pub fn standing(memory: &[u8], second: u32) -> Vec<Row<'_>> {
+    let now = present(memory, second);
+    let rows = rows(memory).unwrap_or_default().into_iter();
+    rows.filter(|row| row.stands(now)).collect()
+}
+
 fn ascend(rows: &[Row]) -> bool {
     rows.windows(2)
         .all(|pair| pair[0].version < pair[1].version)
 }
 
 /// The state that the memory stands for, or nothing if it has not the form:
-/// `rows` finds none, the rows do not ascend, or a key is there twice.
+/// `rows` finds none, the rows do not ascend, the bound is above one of their
+/// deadlines, or a key is there twice.
 pub fn decode(memory: &[u8]) -> Option<Table> {
     let rows = rows(memory)?;
-    if !ascend(&rows) {
+    if !ascend(&rows) || !is_bound(memory, &rows) {
         return None;
     }
     let mut table = Table {
@@ -165,10 +209,28 @@ fn set_places(memory: &mut [u8]) {
     memory[PLACES..ROWS].copy_from_slice(&order);
 }
 
+/// Has the bound above none of the deadlines. One that is not is kept; else
+/// the number that stands there says which one it is: the greatest, the one
+/// below, or any.
+fn set_bound(memory: &mut [u8], table: &Table) {
+    let bound = number(memory, BOUND);
+    let Some(greatest) = least(table.entries.values().map(|entry| entry.deadline)) else {
+        return;
+    };
+    let lower = match bound % 4 {
+        _ if bound <= greatest => bound,
+        0 | 1 => greatest,
+        2 => greatest - 1,
+        _ => bound % (greatest + 1),
+    };
+    put_number(memory, BOUND, lower);
+}
+
 /// Writes the table to the memory. In the rows that are free, and behind each
 /// key and value, the bytes are kept.
 pub fn encode(table: &Table, memory: &mut [u8]) {
     set_places(memory);
+    set_bound(memory, table);
     let mut entries: Vec<(&Vec<u8>, &Entry)> = table.entries.iter().collect();
     entries.sort_by_key(|(_, entry)| entry.version);
     put_number(memory, COUNT, entries.len() as u64);
@@ -196,13 +258,15 @@ fn is_entry(row: &Row, table: &Table) -> bool {
     entry.version == row.version && entry.deadline == row.deadline && entry.value == row.value
 }
 
-/// Whether the memory stands for just this table. Rows that ascend are
-/// different entries, so it is enough that each is one and their number fits.
+/// Whether the memory stands for just this table, with a bound that may be
+/// there. Rows that ascend are different entries, so it is enough that each is
+/// one and their number fits.
 pub fn holds(memory: &[u8], table: &Table) -> bool {
     let Some(rows) = rows(memory) else {
         return false;
     };
     ascend(&rows)
+        && is_bound(memory, &rows)
         && rows.len() == table.entries.len()
         && number(memory, LAST) == table.last
         && history(memory) == table.history
@@ -257,6 +321,39 @@ mod tests {
         let mut other = table.clone();
         other.history.first = table.history.first.map_or(Some(0), |_| None);
         assert!(!holds(&memory, &other));
+        let mut other = table.clone();
+        other.history.latest ^= 1;
+        assert!(!holds(&memory, &other));
+    }
+
+    #[test]
+    fn the_size_is_that_of_the_layout() {
+        assert_eq!((PLACES, ROWS, SIZE), (96, 224, 45_280));
+        assert_eq!((LATEST, BOUND), (COUNTED + 8 * COUNTS, PLACES - 8));
+    }
+
+    #[test]
+    fn a_bound_above_a_deadline_is_no_table() {
+        let mut chance = Chance::new(8);
+        let keys: Vec<Vec<u8>> = (0..3).map(|at| vec![at]).collect();
+        let mut table = make::table_of(&mut chance, &keys);
+        for (entry, deadline) in table.entries.values_mut().zip([0, 700, 600]) {
+            entry.deadline = deadline;
+        }
+        let mut memory = chance.bytes(SIZE);
+        encode(&table, &mut memory);
+        for (bound, sound) in [(0, true), (600, true), (601, false), (u64::MAX, false)] {
+            put_number(&mut memory, BOUND, bound);
+            assert_eq!(is_table(&memory), sound, "{bound}");
+            assert_eq!(holds(&memory, &table), sound, "{bound}");
+        }
+        table
+            .entries
+            .values_mut()
+            .for_each(|entry| entry.deadline = 0);
+        encode(&table, &mut memory);
+        assert_eq!(number(&memory, BOUND), u64::MAX);
+        assert!(is_table(&memory) && holds(&memory, &table));
     }
 
     #[test]

@@ -8,7 +8,8 @@ use crate::difference::{Difference, Outcome};
 use crate::subject::{ComparesKeys, ServesLines, Stores, Subject};
 use crate::trial::{Counts, Trial};
 use crate::{
-    bulk, dates, edges, keys, lines, messages, serving, statistics, stored, streams, tables, values,
+    bulk, dates, edges, expiry, keys, lines, messages, serving, statistics, stored, streams,
+    tables, values,
 };
 
 /// One part, and how many rounds of it a quick run plays. A long run plays
@@ -75,6 +76,11 @@ pub fn statistics_part<S: Stores>() -> Part<S> {
 /// Part l, bulk requests and their replies.
 pub fn bulk_part<S: Subject>() -> Part<S> {
     part(11, "bulk", 200, bulk::round)
+}
+
+/// Part m, entries that expire.
+pub fn expiry_part<S: Stores>() -> Part<S> {
+    part(12, "expiry", 1_500, expiry::round)
 }
 
 /// Plays one round. The same seed, part and round are the same inputs.

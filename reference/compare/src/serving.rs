@@ -21,7 +21,7 @@ pub fn round<S: Subject>(trial: &mut Trial<S>) -> Outcome {
         let input = input(trial, &request);
         let call = Call {
             input: &input,
-            second: make::second(&mut trial.chance),
+            second: make::second_for(&mut trial.chance, &world.table),
             room: room_for(&mut trial.chance, &input),
         };
         compared(trial, &mut world, call)?;

@@ -2,11 +2,12 @@
 //! the requests and the statuses of their replies alone.
 //!
 //! Calls that are refused come among them and before the first one served, the
-//! clock goes back, and the table is stored and loaded, or made anew.
+//! clock goes back, entries expire, and the table is stored and loaded, or made
+//! anew.
 
-use std::collections::BTreeSet;
+use std::collections::BTreeMap;
 
-use reference::operation::{CLEAR, GET, PUT, PUT_IF_ABSENT, REMOVE, REMOVE_IF_UNMODIFIED, STATS};
+use reference::operation::{sends_value, CLEAR, GET, PUT, REMOVE, REMOVE_IF_UNMODIFIED, STATS};
 use reference::{
     load, read_request, step, store, Read, Reply, Request, Statistics, Table, Verdict,
 };
@@ -28,19 +29,36 @@ struct Log {
     first: Option<u32>,
     /// Operation and status of each.
     served: Vec<(u8, u8)>,
-    /// The keys held, by the statuses.
-    held: BTreeSet<Vec<u8>>,
+    /// The keys held, by the statuses, each with its deadline.
+    held: BTreeMap<Vec<u8>, u64>,
     /// Writes that added a key.
     added: u64,
+    /// The latest second of them.
+    latest: u32,
 }
 
 impl Log {
     /// A log that begins where the table holds these keys.
     fn new(table: &Table) -> Log {
         Log {
-            held: table.entries.keys().cloned().collect(),
+            held: table
+                .entries
+                .iter()
+                .map(|(key, entry)| (key.clone(), entry.deadline))
+                .collect(),
             ..Log::default()
         }
+    }
+
+    /// The present second of a call at this second.
+    fn present(&self, second: u32) -> u64 {
+        u64::from(self.latest.max(second))
+    }
+
+    /// How many of the keys stand at this second.
+    fn standing(&self, now: u64) -> u64 {
+        let deadlines = self.held.values();
+        deadlines.filter(|end| **end == 0 || **end > now).count() as u64
     }
 
     fn often(&self, operation: u8, status: u8) -> u64 {
@@ -53,7 +71,7 @@ impl Log {
         let first = self.first.unwrap_or(second);
         [
             u64::from(second.max(first) - first),
-            self.held.len() as u64,
+            self.standing(self.present(second)),
             self.added,
             self.often(PUT, 0),
             self.often(GET, 0) + self.often(GET, 2),
@@ -65,16 +83,31 @@ impl Log {
     }
 
     fn note(&mut self, request: &Request, reply: &Reply, second: u32) {
+        let now = self.present(second);
         self.first.get_or_insert(second);
+        self.latest = self.latest.max(second);
         self.served.push((request.operation, reply.status));
+        self.held.retain(|_, end| *end == 0 || *end > now);
         match (request.operation, reply.status) {
-            (PUT | PUT_IF_ABSENT, 0) => {
-                self.added += u64::from(self.held.insert(request.key.clone()));
+            (operation, 0) if sends_value(operation) => {
+                let end = deadline(request, now);
+                let before = self.held.insert(request.key.clone(), end);
+                self.added += u64::from(before.is_none());
             }
             (REMOVE | REMOVE_IF_UNMODIFIED, 0) => drop(self.held.remove(&request.key)),
             (CLEAR, _) => self.held.clear(),
             _ => {}
         }
+    }
+}
+
+/// The deadline that a request gives at the present second.
+fn deadline(request: &Request, now: u64) -> u64 {
+    let lifespan = u64::from(request.lifespan);
+    match (request.flags & 2, lifespan) {
+        (2, _) | (_, 0) => 0,
+        (_, 1..=2_592_000) => now + lifespan,
+        _ => lifespan,
     }
 }
 
@@ -89,7 +122,7 @@ pub fn round<S: Stores>(trial: &mut Trial<S>) -> Outcome {
         let input = input(&mut trial.chance, &world);
         let call = Call {
             input: &input,
-            second: second(&mut trial.chance, noon),
+            second: second(&mut trial.chance, noon, &world.table),
             room: room_for(&mut trial.chance, &input),
         };
         noted(trial, &mut world, call, &mut log)?;
@@ -111,13 +144,15 @@ fn begun<S: Stores>(trial: &mut Trial<S>, world: &mut World) -> Result<Log, Diff
     Ok(Log::new(&world.table))
 }
 
-/// Seconds about noon: before, at and behind it, and the outermost ones.
-fn second(chance: &mut Chance, noon: u32) -> u32 {
+/// Seconds about noon: before, at and behind it, those that the table is
+/// about, and the outermost ones.
+fn second(chance: &mut Chance, noon: u32, table: &Table) -> u32 {
     let step = chance.below(100) as u32;
-    match chance.below(8) {
-        0 => 0,
-        1 => u32::MAX,
-        2 | 3 => noon.saturating_sub(step),
+    match chance.below(24) {
+        0..=2 => 0,
+        3 => u32::MAX,
+        4..=9 => noon.saturating_sub(step),
+        10..=16 => make::second_for(chance, table),
         _ => noon.saturating_add(step),
     }
 }

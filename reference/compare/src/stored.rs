@@ -27,8 +27,10 @@ pub fn round<S: Stores>(trial: &mut Trial<S>) -> Outcome {
             let file = damaged(&mut trial.chance, &file);
             loaded(trial, &file, SIZE)?;
         }
-        let file = store(&broken_table(&mut trial.chance, &world));
-        loaded(trial, &file, SIZE)?;
+        let mut broken = broken_table(&mut trial.chance, &world);
+        // All entries stand at second 0.
+        broken.history.latest = 0;
+        loaded(trial, &store(&broken), SIZE)?;
         wrong_memory(trial, &world)?;
     }
     Ok(())

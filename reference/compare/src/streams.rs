@@ -52,7 +52,7 @@ pub fn round<S: Subject>(trial: &mut Trial<S>) -> Outcome {
         let end = seen_end(&mut trial.chance, taken, row.len());
         let call = Call {
             input: &row[taken..end],
-            second: make::second(&mut trial.chance),
+            second: make::second_for(&mut trial.chance, &world.table),
             room: stream_room(&mut trial.chance),
         };
         let more = one_call(trial, &mut world, call)?;

@@ -5,7 +5,7 @@
 //! (12 first, if the room is too little) and changes nothing.
 
 use reference::fields::{KEY_LIMIT, VALUE_LIMIT};
-use reference::history::COUNTS;
+use reference::history::{COUNTS, LARGEST_SECOND};
 use reference::map::{LARGEST_DEADLINE, LARGEST_VERSION, MOST_KEYS};
 
 use reference::number::LARGEST_VLONG;
@@ -17,8 +17,9 @@ use crate::fields::{join, of_request};
 use crate::lent::{Lent, Words};
 use crate::make;
 use crate::memory::{
-    decode, is_table, number, put_number, row_at, shown, COUNT, COUNTED, DEADLINE, FIRST, KEY,
-    KEY_LENGTH, LAST, PLACES, ROW, ROWS, SIZE, VALUE, VALUE_LENGTH, VERSION,
+    decode, greatest_bound, is_table, number, put_number, row_at, rows, shown, BOUND, COUNT,
+    COUNTED, DEADLINE, FIRST, KEY, KEY_LENGTH, LAST, LATEST, PLACES, ROW, ROWS, SIZE, VALUE,
+    VALUE_LENGTH, VERSION,
 };
 use crate::subject::{Subject, GOOD, SERVE_WORDS, STREAM_WORDS};
 use crate::trial::Trial;
@@ -42,7 +43,7 @@ pub fn round<S: Subject>(trial: &mut Trial<S>) -> Outcome {
 fn noise<S: Subject>(trial: &mut Trial<S>) -> Outcome {
     let length = trial
         .chance
-        .pick(&[0, 1, 8, 16, 80, SIZE - 1, SIZE, SIZE + 1, 2 * SIZE]);
+        .pick(&[0, 1, 8, 16, 96, SIZE - 1, SIZE, SIZE + 1, 2 * SIZE]);
     let mut memory = Lent::random(&mut trial.chance, length);
     if length >= SIZE && trial.chance.one_in(2) {
         let count = trial.chance.below(3) as u64;
@@ -50,6 +51,9 @@ fn noise<S: Subject>(trial: &mut Trial<S>) -> Outcome {
         memory.slice_mut()[LAST] &= 0x7f;
         for at in 0..COUNTS {
             memory.slice_mut()[COUNTED + 8 * at] &= 0x7f;
+        }
+        for second in [FIRST, LATEST] {
+            memory.slice_mut()[second..second + 4].fill(0);
         }
     }
     let key = vec![vec![1]];
@@ -121,7 +125,7 @@ fn served<S: Subject>(trial: &mut Trial<S>, world: &mut World) -> Outcome {
     let input = join(&of_request(&request));
     let call = Call {
         input: &input,
-        second: make::second(&mut trial.chance),
+        second: make::second_for(&mut trial.chance, &world.table),
         room: room_for(&mut trial.chance, &input),
     };
     compared(trial, world, call)?;
@@ -168,8 +172,9 @@ fn refused<S: Subject>(
 /// table; the check does not go by the words.
 pub fn damage(chance: &mut Chance, memory: &mut [u8]) -> &'static str {
     let count = number(memory, COUNT) as usize;
-    match chance.below(5) {
+    match chance.below(6) {
         0 => damage_head(chance, memory),
+        5 => damage_seconds(chance, memory),
         1 => damage_places(chance, memory, count),
         2 if count > 0 => damage_row(chance, memory, count),
         3 if count > 1 => damage_two_rows(chance, memory, count),
@@ -192,11 +197,35 @@ fn damage_places(chance: &mut Chance, memory: &mut [u8], count: usize) -> &'stat
     "a row number twice, above 127 or in another place"
 }
 
+/// A second or the bound at the edge, behind it, or anywhere.
+fn damage_seconds(chance: &mut Chance, memory: &mut [u8]) -> &'static str {
+    let rows = rows(memory).unwrap_or_default();
+    let greatest = greatest_bound(&rows).unwrap_or(LARGEST_DEADLINE + 1);
+    let (any, more) = (chance.number(), chance.below(3) as u64);
+    let far = 1 << chance.below(64);
+    match chance.below(9) {
+        0 => put_number(memory, LATEST, LARGEST_SECOND + more),
+        1 => put_number(memory, LATEST, any),
+        2 => put_number(memory, LATEST, far),
+        3 => put_number(memory, FIRST, LARGEST_SECOND + more),
+        4 => put_number(memory, FIRST, any),
+        5 => put_number(
+            memory,
+            BOUND,
+            greatest.saturating_add(more).saturating_sub(1),
+        ),
+        6 => put_number(memory, BOUND, any),
+        7 => put_number(memory, BOUND, far),
+        _ => put_number(memory, BOUND, u64::MAX),
+    }
+    "the first second, the latest second or the bound"
+}
+
 fn damage_head(chance: &mut Chance, memory: &mut [u8]) -> &'static str {
     let count = number(memory, COUNT);
     let last = number(memory, LAST);
     let counted = COUNTED + 8 * chance.below(COUNTS);
-    match chance.below(9) {
+    match chance.below(8) {
         0 => put_number(memory, COUNT, count + 1),
         1 => put_number(memory, COUNT, count.saturating_sub(1)),
         2 => put_number(memory, COUNT, MOST_KEYS as u64 + 1),
@@ -204,7 +233,6 @@ fn damage_head(chance: &mut Chance, memory: &mut [u8]) -> &'static str {
         4 => put_number(memory, LAST, LARGEST_VERSION + chance.below(2) as u64),
         5 => put_number(memory, counted, LARGEST_VLONG + chance.below(2) as u64),
         6 => put_number(memory, counted, chance.number()),
-        7 => put_number(memory, FIRST, chance.number()),
         _ => put_number(
             memory,
             LAST,

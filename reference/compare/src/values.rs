@@ -15,7 +15,7 @@ use crate::difference::{hold, same, Difference, Outcome};
 use crate::fields::{join, of_request};
 use crate::lent::{Lent, Words};
 use crate::make;
-use crate::memory::{history, number, rows, shown, Row, LAST};
+use crate::memory::{decode, history, number, rows, shown, Row, LAST};
 use crate::subject::{Subject, SERVE_WORDS};
 use crate::trial::Trial;
 
@@ -160,7 +160,8 @@ fn called<S: Subject>(
     change: &mut Change,
 ) -> Result<usize, Difference> {
     let room = room_for(&mut trial.chance, &one.row[taken..]);
-    let second = make::second(&mut trial.chance);
+    let table = decode(one.memory.slice()).unwrap_or_default();
+    let second = make::second_for(&mut trial.chance, &table);
     one.reply = Lent::random(&mut trial.chance, room);
     two.reply = one.reply.clone();
     let before = one.memory.clone();

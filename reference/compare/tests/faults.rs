@@ -3,7 +3,8 @@
 
 use compare::echo::{Echo, Fault};
 use compare::run::{
-    bulk_part, dates_part, keys_part, lines_part, parts, play, statistics_part, stored_part, Part,
+    bulk_part, dates_part, expiry_part, keys_part, lines_part, parts, play, statistics_part,
+    stored_part, Part,
 };
 use compare::subject::GOOD;
 use compare::trial::Counts;
@@ -18,6 +19,7 @@ fn all_parts() -> Vec<Part<Echo>> {
     all.push(statistics_part());
     all.push(keys_part());
     all.push(bulk_part());
+    all.push(expiry_part());
     all
 }
 
@@ -126,6 +128,59 @@ fn statistics_are_those_counted_from_the_replies() {
 fn bulk_replies_are_the_rows() {
     let counts = sound_rounds("bulk", 4);
     all_given(&counts, &[GOOD, 0, 2, 4, 5, 6, 8, 9, 12, 16]);
+}
+
+#[test]
+fn entries_expire_alike() {
+    let counts = sound_rounds("expiry", 40);
+    all_given(&counts, &[GOOD, 0, 4, 5, 8, 9, 10, 11, 12, 13]);
+}
+
+#[test]
+fn faults_of_entries_that_expire_are_found() {
+    use Fault::*;
+    let faults = [
+        EqualStands,
+        BoundEqualSkips,
+        PresentIsCall,
+        LatestFalls,
+        RefusedSweeps,
+        RefusedMovesSecond,
+        BulkTwelveSweeps,
+        UnservedMovesSecond,
+        TenCountsExpired,
+        DeadlineFromCall,
+        PastIsGoneAtOnce,
+        PastTakesNoVersion,
+        PastIsNow,
+        ReusesVersions,
+        BulkShowsExpired,
+        StatsCountExpired,
+        TimeByPresent,
+        BoundTooHigh,
+        WriteKeepsBound,
+    ];
+    are_found("expiry", &faults);
+    are_found("serving", &faults);
+    are_found("streams", &faults);
+}
+
+#[test]
+fn faults_of_seconds_in_tables_and_files_are_found() {
+    use Fault::*;
+    let checks = [BoundUnchecked, LatestUnchecked, FirstUnchecked];
+    are_found("tables", &checks);
+    are_found("expiry", &checks);
+    are_found("stored", &checks);
+    let files = [
+        StoresExpired,
+        StoresEqual,
+        StoresLastStanding,
+        LoadKeepsLatest,
+    ];
+    are_found("stored", &files);
+    are_found("expiry", &files);
+    is_found("statistics", LoadKeepsLatest);
 }
 
 #[test]

@@ -32,7 +32,8 @@ fn the_five_lines() {
 }
 
 /// Puts for 2,592,000 and for 2,592,001 seconds at the last second: the first
-/// is a span, the second a date. The third has a date and flag 0x0002.
+/// is a span, the second a date, which is past. The third has a date and flag
+/// 0x0002.
 #[test]
 fn a_span_and_a_date_at_the_last_second() {
     let file = "\
@@ -43,7 +44,6 @@ ffffffff a0010c0100020100000164819a9e01000100
     let stored = "\
 010000000000000003
 00000000000000010000000100278cff01620100
-00000000000000020000000000278d0101630100
 0000000000000003000000000000000001640100
 ";
     let (out, table) = streamed(file.as_bytes(), 100);

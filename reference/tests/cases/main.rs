@@ -2,6 +2,7 @@
 
 mod bulk;
 mod chance;
+mod expiry;
 mod help;
 mod keys;
 mod lines;

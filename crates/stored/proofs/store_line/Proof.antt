@@ -1,8 +1,8 @@
 -- `stored::store_line` meets its contract. Assumes nothing.
 use mathlib.Core.Path.{_≡_, sym, _∙_, ap}
-use mathlib.Core.List.{[]}
 use Prim.Native.Nat.{_-_, _≤_}
 use native.Mathlib.Omega.{arith}
+use borrow.Author.Tests.{not-true, not-false}
 use lib.ListN.{take, drop}
 use Rattle.wire.specs.Codec.{Bytes}
 use Rattle.wire.proofs.WriteLaws.{laid-none}
@@ -12,7 +12,7 @@ use Rattle.hex.specs.Hex.{line}
 use Rattle.stored.specs.File.{form1, entryLine, headLine}
 use Rattle.stored.specs.StoreLoad.{lineAt}
 use Rattle.stored.proofs.LineLaws.{head-most, head-good, entry-most}
-use Rattle.stored.proofs.StoreLaws.{line-head, line-entry, line-none, held-good, last-small, wrote-front}
+use Rattle.stored.proofs.StoreLaws.{line-head, held-good, last-small, wrote-front}
 use borrow.Author.Needs.{needs}
 use Rattle.stored.proofs.store_line.Statement.{statement}
 use Rattle.stored.proofs.store_line.Tie as tie
@@ -43,9 +43,7 @@ returns c = let s = c .before .before .before .before .before .before .before .b
 
 returns-2 : tie.Need-returns-2
 returns-2 c = let s = c .before .before .before .before .before .before .args in
-    let e : lineAt form1 (stateOf (s .t .now)) (s .i) ≡ [] =
-    ap (lineAt form1 (stateOf (s .t .now))) (omega arith) ∙ line-none form1 (stateOf (s .t .now)) (s .i - 1) (omega arith) in
-    rw e (laid-none (s .at) (s .out .now))
+    rw (c .before .has-line .ensures .1 (not-true _ (c .if2 .taken))) (laid-none (s .at) (s .out .now))
 
 part-put-line-end-2 : tie.Need-part-put-line-end-2
 part-put-line-end-2 c = let f = entry-front (c .before .before) in omega (arith, f .1)
@@ -54,7 +52,7 @@ returns-3 : tie.Need-returns-3
 returns-3 c = let s = c .before .before .before .before .before .before .before .before .before .before .before .before .before .before .before .args in
     let w = c .before .before .before .before .before .before .before in
     let e : lineAt form1 (stateOf (s .t .now)) (s .i) ≡ line (take (w .write-entry .result - 0) (drop 0 (w .write-entry .last .1 .1 .0))) =
-    ap (lineAt form1 (stateOf (s .t .now))) (omega arith) ∙ line-entry form1 (s .t .now) (s .i - 1) (omega arith) ∙ ap line (sym (entry-front w .0)) in
+    w .before .before .before .has-line .ensures .0 (not-false _ (w .before .before .if2 .left)) ∙ ap line (sym (entry-front w .0)) in
     rw e (c .before .before .put-line2 .ensures)
 
 pub store-line-spec : {M : Type 1} → statement M

@@ -2,7 +2,7 @@
 use native.Mathlib.Omega.{arith}
 use borrow.Author.Tests.{not-true, not-false}
 use Rattle.table.proofs.Lists.{says-no, refuted}
-use Rattle.table.proofs.SoundLaws.{checked, sound-within, sound-rising, sound-differ, sound-last, sound-counts}
+use Rattle.table.proofs.SoundLaws.{checked, sound-within, sound-rising, sound-differ, sound-last, sound-counts, sound-seconds}
 use Rattle.table.proofs.is_table.Statement.{statement}
 use Rattle.table.proofs.is_table.Tie as tie
 
@@ -16,28 +16,33 @@ returns-3 : tie.Need-returns-3
 returns-3 c = says-no (λ s. omega (arith, sound-last (c .before .before .before .before .before .before .args .t .now) s))
 
 returns-4 : tie.Need-returns-4
-returns-4 c = says-no (λ s. refuted (c .before .counts-within .ensures) (not-true _ (c .if4 .taken)) (sound-counts (c .before .before .before .before .before .before .before .before .args .t .now) s))
+returns-4 c = says-no (λ s. refuted (c .before .seconds-within .ensures) (not-true _ (c .if4 .taken)) (sound-seconds (c .before .before .before .before .before .before .before .before .args .t .now) s))
 
 returns-5 : tie.Need-returns-5
-returns-5 c = says-no (λ s. refuted (c .before .is-permutation .ensures) (not-true _ (c .if5 .taken)) (s .form .places))
+returns-5 c = says-no (λ s. refuted (c .before .counts-within .ensures) (not-true _ (c .if5 .taken)) (sound-counts (c .before .before .before .before .before .before .before .before .before .before .args .t .now) s))
 
 returns-6 : tie.Need-returns-6
-returns-6 c = says-no (λ s. refuted (c .before .all-within .ensures) (not-true _ (c .if6 .taken)) (sound-within (c .before .before .before .before .before .before .before .before .before .before .before .before .args .t .now) s))
+returns-6 c = says-no (λ s. refuted (c .before .is-permutation .ensures) (not-true _ (c .if6 .taken)) (s .form .places))
 
 returns-7 : tie.Need-returns-7
-returns-7 c = says-no (λ s. refuted (c .before .rising .ensures) (not-true _ (c .if7 .taken)) (sound-rising (c .before .before .before .before .before .before .before .before .before .before .before .before .before .before .args .t .now) s))
+returns-7 c = says-no (λ s. refuted (c .before .all-within .ensures) (not-true _ (c .if7 .taken)) (sound-within (c .before .before .before .before .before .before .before .before .before .before .before .before .before .before .args .t .now) s))
 
 returns-8 : tie.Need-returns-8
-returns-8 c =
+returns-8 c = says-no (λ s. refuted (c .before .rising .ensures) (not-true _ (c .if8 .taken)) (sound-rising (c .before .before .before .before .before .before .before .before .before .before .before .before .before .before .before .before .args .t .now) s))
+
+returns-9 : tie.Need-returns-9
+returns-9 c =
     let r = c .before .before in
     let a = r .before .before in
     let p = a .before .before in
     let n = p .before .before in
-    let e = n .before .before .before .before .before in
+    let m = n .before .before in
+    let e = m .before .before .before .before .before in
     let t = e .before .before .args .t .now in (
-      λ d. checked t (e .if1 .left) (omega arith) (omega arith) (p .is-permutation .ensures .0 (not-false _ (a .before .if5 .left)))
-          (a .all-within .ensures .0 (not-false _ (r .before .if6 .left))) (r .rising .ensures .0 (not-false _ (c .before .if7 .left)))
-          (c .differ .ensures .0 d) (n .counts-within .ensures .0 (not-false _ (p .before .if4 .left))) (λ i. omega (arith, e .before .shared-slice-known .given i)),
+      λ d. checked t (e .if1 .left) (omega arith) (omega arith) (p .is-permutation .ensures .0 (not-false _ (a .before .if6 .left)))
+          (a .all-within .ensures .0 (not-false _ (r .before .if7 .left))) (r .rising .ensures .0 (not-false _ (c .before .if8 .left)))
+          (c .differ .ensures .0 d) (n .counts-within .ensures .0 (not-false _ (p .before .if5 .left))) (m .seconds-within .ensures .0 (not-false _ (n .before .if4 .left)))
+          (λ i. omega (arith, e .before .shared-slice-known .given i)),
       λ s. c .differ .ensures .1 (sound-differ t s),
     )
 
@@ -59,4 +64,6 @@ is-table-spec =
     (λ c κs. omega arith)
     returns-7
     (λ c κs. omega arith)
-    returns-8)
+    returns-8
+    (λ c κs. omega arith)
+    returns-9)

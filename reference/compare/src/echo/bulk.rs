@@ -47,22 +47,34 @@ impl Echo {
         }
     }
 
+    /// A fault in what a bulk request refused 12 leaves.
+    pub(super) fn change_unlisted(&self, second: u32, table: &mut Table, memory: &mut [u8]) {
+        let now = table.history.present(second);
+        match self.fault {
+            Some(Fault::BulkTwelveIsFirst) => {
+                table.history.first.get_or_insert(u64::from(second));
+            }
+            Some(Fault::BulkTwelveSweeps) => table.entries.retain(|_, entry| entry.stands(now)),
+            _ => return,
+        }
+        self.put_back(table, memory);
+    }
+
     /// A fault in what a bulk reply lists.
-    pub(super) fn change_listing(&self, request: &Request, table: &Table, message: &mut Vec<u8>) {
+    pub(super) fn change_listing(
+        &self,
+        request: &Request,
+        second: u32,
+        table: &Table,
+        message: &mut Vec<u8>,
+    ) {
+        if !is_bulk(request.operation) {
+            return;
+        }
         let Read::Whole(mut reply, _) = read_reply(request.operation, false, message) else {
             return;
         };
-        let all = |request: &Request| {
-            let request = Request {
-                bulk: 0,
-                ..request.clone()
-            };
-            let (message, _) = answer_request(&request, 0, &mut table.clone());
-            match read_reply(request.operation, false, &message) {
-                Read::Whole(reply, _) => reply.entries,
-                _ => Vec::new(),
-            }
-        };
+        let all = |request| all_listed(request, second, table);
         let count = reply.entries.len();
         match self.fault {
             Some(Fault::BulkCountIgnored) => reply.entries = all(request),
@@ -195,6 +207,19 @@ impl Echo {
             _ => {}
         }
         None
+    }
+}
+
+/// What the request lists if it asks for all.
+fn all_listed(request: &Request, second: u32, table: &Table) -> Vec<Listed> {
+    let request = Request {
+        bulk: 0,
+        ..request.clone()
+    };
+    let (message, _) = answer_request(&request, second, &mut table.clone());
+    match read_reply(request.operation, false, &message) {
+        Read::Whole(reply, _) => reply.entries,
+        _ => Vec::new(),
     }
 }
 

@@ -2,7 +2,7 @@
 use mathlib.Core.Path.{_≡_, sym, ap, subst, _∙_}
 use mathlib.Core.List.{List}
 use mathlib.Core.Bool.{true}
-use mathlib.Core.Option.{none, some}
+use mathlib.Core.Option.{none}
 use Prim.Native.Nat.{ℕ, _≤_}
 use native.Mathlib.Omega.{arith}
 use lib.ListN.{length}
@@ -11,18 +11,18 @@ use Rattle.message.specs.Request.{Request, requestIn, isEmpty}
 use Rattle.message.proofs.Sizes.{request-small}
 use Rattle.map.specs.Plan.{Change}
 use Rattle.map.specs.Step as map
-use Rattle.map.specs.State.{State}
+use Rattle.map.specs.State.{State, find, hasKey}
 use Rattle.map.specs.Table.{IsTable}
 use Rattle.map.proofs.Keeps.{keeps-table}
 use Rattle.table.specs.Memory.{stateOf}
 use Rattle.service.specs.Serve.{room}
-use Rattle.service.specs.Stream.{Becomes}
 use Rattle.service.proofs.Calls.{room-least}
-use Rattle.plan.specs.Plan.{asPlan, asChange, asJudged, heldVersion, Holds, refusalOf}
+use Rattle.plan.specs.declared.Held.{Held}
+use Rattle.plan.specs.Plan.{asPlan, asChange, asJudged, heldVersion, HoldsAt, refusalOf}
 use Rattle.plan.specs.declared.Judged.the-variants as judged
-use Rattle.plan.proofs.PlanLaws.{version-held, holds-same}
-use Rattle.server.specs.Act.{at, after, Planned, Agreed}
-use Rattle.server.proofs.StepLaws.{does-refused, does-answered, planned-arrived, refusal-arrived, step-named, step-refused, step-made}
+use Rattle.plan.proofs.PlanLaws.{version-held}
+use Rattle.server.specs.Act.{at, after, Planned, Agreed, Arrives}
+use Rattle.server.proofs.StepLaws.{does-refused, does-answered, held-come, refusal-come, step-named, step-refused, step-made}
 use borrow.Author.Needs.{needs}
 use Rattle.server.proofs.act.perform.Statement.{statement}
 use Rattle.server.proofs.act.perform.Tie as tie
@@ -59,67 +59,72 @@ module _ (c : tie.After-refusal-of) where
   abbrev found : tie.After-held-in
   found = c .before .before .before .before
 
+  abbrev clock : tie.After-present-second
+  clock = found .before .before
+
+  abbrev named : tie.After-key-in
+  named = clock .before .before
+
   abbrev start : tie.Start
-  start = begin (found .before .before .before .before)
+  start = begin (named .before .before)
 
   abbrev change : Change
   change = asChange (c .before .before .plan-of .result .change)
 
-  holds : Holds (start .args .t .now) (asked start .args .key) (found .held-in .result)
-  holds = subst (λ k. Holds (start .args .t .now) k (found .held-in .result)) (found .before .key-in .ensures) (found .held-in .ensures)
-
-  same : heldVersion (found .held-in .result) ≡ map.versionOf (map.held (asked start) (state start))
-  unfolding map.held
-  same = version-held _ _ (found .held-in .result) holds
-
-  planned : map.planned (asked start) (state start) ≡ asPlan (c .before .before .plan-of .result)
-  unfolding map.planned
-  planned = sym (c .before .before .plan-of .ensures ∙ rw same)
-
   abbrev context : map.Context
   context = at (start .args .second .0)
 
+  abbrev come : State
+  come = map.arrive context (asked start) (state start)
+
+  holds : HoldsAt (map.present context (state start)) (start .args .t .now) (asked start .args .key) (found .held-in .result)
+  holds =
+      subst (λ k. HoldsAt (map.present context (state start)) (start .args .t .now) k (found .held-in .result)) (named .key-in .ensures)
+      (subst (λ n. HoldsAt n (start .args .t .now) (named .key-in .result .now) (found .held-in .result)) (clock .present-second .ensures) (found .held-in .ensures))
+
+  same : heldVersion (found .held-in .result) ≡ map.versionOf (map.held (asked start) come)
+  same = held-come context (asked start) _ (start .pre .0 .sound) (found .held-in .result) holds
+
+  planned : map.planned (asked start) come ≡ asPlan (c .before .before .plan-of .result)
+  unfolding map.planned
+  planned = sym (c .before .before .plan-of .ensures ∙ rw same)
+
+  judged-come : asJudged (c .refusal-of .result) ≡ refusalOf come (heldVersion (found .held-in .result)) change
+  judged-come = (rw (clock .present-second .ensures) at (c .refusal-of .ensures)) ∙ sym (refusal-come context (asked start) (state start) (heldVersion (found .held-in .result)) change)
+
   unnamed : isEmpty (asked start .name) ≡ true
   unnamed =
-      let i = found .before .before .before in
+      let i = named .before in
       let n = i .before .name-in in
       rw (← (n .ensures)) (eq-eqb (length (n .result .now)) 0 (i .if1 .left))
 
   refused : (k : ℕ) → c .refusal-of .result ≡ judged.Refused k → (map.step context (asked start) (state start) ≡ map.refused k) × ((1 ≤ k) × (k ≤ 11))
-  refused k h = step-refused context _ _ _ same change unnamed (rw planned) k (sym (c .refusal-of .ensures) ∙ ap asJudged h)
+  refused k h = step-refused context _ _ _ same change unnamed (rw planned) k (sym judged-come ∙ ap asJudged h)
 
-  -- the call is not refused: the step, and what the code has of it on the table that has counted the call
+  -- the call is not refused: the step, and what the code has of it on the table behind `arrive`
   module _ (f : c .refusal-of .result ≡ judged.Free) where
-    abbrev come : State
-    come = map.arrive context (asked start) (state start)
+    free : refusalOf come (heldVersion (found .held-in .result)) change ≡ none
+    free = sym judged-come ∙ ap asJudged f
 
-    free : refusalOf (state start) (heldVersion (found .held-in .result)) change ≡ none
-    free = sym (c .refusal-of .ensures) ∙ ap asJudged f
-
-    made : map.step context (asked start) (state start) ≡ map.answered (map.answer context (asked start) come) (after context (asked start) come change)
+    made : map.step context (asked start) (state start) ≡ map.answered (map.answer context (asked start) come) (after (asked start) come change)
     made = step-made context _ _ _ same change unnamed (rw planned) free
 
-    fits : IsTable (after context (asked start) come change)
+    fits : IsTable (after (asked start) come change)
     fits = keeps-table context (asked start) (state start) (start .pre .0 .sound .table) _ _ made (start .pre .1) (start .pre .0 .second)
 
-    module _ {u : List ℕ} (w : Becomes (start .args .t .now) (some come) u) where
-      holds-on : Holds u (asked start .args .key) (found .held-in .result)
-      unfolding map.arrive
-      holds-on = holds-same _ u _ (ap (λ (st : State). st .entries) (w .0)) (found .held-in .result) holds
+    module _ {u : List ℕ} {x : Held} (w : Arrives (start .args .t .now) (asked start) (start .args .second .0) u x) where
+      same-on : heldVersion x ≡ heldVersion (found .held-in .result)
+      unfolding map.held
+      same-on =
+          version-held u (asked start .args .key) x (w .holds)
+          ∙ ap (λ (st : State). map.versionOf (find (hasKey (asked start .args .key)) (st .entries))) (w .table .0)
+          ∙ sym same
 
-      given : Planned u (asked start) (found .held-in .result) (c .before .before .plan-of .result .status)
-      given = record { sound = w .1; valid = start .pre .1; holds = holds-on; status = rw (w .0, planned-arrived context (asked start) (state start), planned) }
+      given : Planned u (asked start) x (c .before .before .plan-of .result .status)
+      given = record { sound = w .table .1; valid = start .pre .1; holds = w .holds; status = rw (w .table .0, planned) }
 
-      agreed : Agreed u (asked start) (start .args .second .0) (found .held-in .result) change
-      agreed =
-          record {
-            sound = w .1;
-            valid = start .pre .1;
-            holds = holds-on;
-            within = start .pre .0 .second;
-            free = rw (w .0, refusal-arrived context (asked start) (state start)) free;
-            left = rw (w .0) fits;
-          }
+      agreed : Agreed u (asked start) x change
+      agreed = record { sound = w .table .1; valid = start .pre .1; holds = w .holds; free = rw (w .table .0, same-on) free; left = rw (w .table .0) fits }
 
 refuse-requires-2 : tie.Need-refuse-requires-2
 refuse-requires-2 c κs =
@@ -127,8 +132,8 @@ refuse-requires-2 c κs =
     let s = start (j .before .before) in
     (least s, (request-small (asked s) (s .pre .1) .id, refused (j .before .before) _ (j .j .given .1) .1))
 
--- the call is noted
-module _ (c : tie.After-note-call) where
+-- the call has come
+module _ (c : tie.After-arrive) where
   abbrev told : tie.After-enum-told
   told = c .before .before
 
@@ -141,8 +146,8 @@ module _ (c : tie.After-note-call) where
   abbrev q : Request
   q = asked (start first)
 
-note-call-requires : tie.Need-note-call-requires
-note-call-requires c κs = omega (arith, start (c .before .before .before) .pre .0 .second)
+arrive-requires : tie.Need-arrive-requires
+arrive-requires c κs = omega (arith, start (c .before .before .before) .pre .0 .second)
 
 respond-requires : tie.Need-respond-requires
 respond-requires c κs =
@@ -154,7 +159,8 @@ change-requires : tie.Need-change-requires
 change-requires c κs =
     let a = c .before .before .before .before .before .before .before .before in
     let s = start (first a) in
-    agreed (first a) (is-free a) (a .note-call .ensures (q a .name) (q a .args .key) (q a .args .value) (s .pre .0 .sound) (holds (first a)))
+    let x = a .arrive .ensures (q a .name) (q a .args .key) (q a .args .value) (named (first a) .key-in .ensures) (s .pre .0 .sound) (holds (first a)) in
+    agreed (first a) (is-free a) x
 
 returns-2 : tie.Need-returns-2
 returns-2 c =
@@ -168,9 +174,9 @@ returns-3 c =
     let w = d .before .before .before .before in
     let a = w .before .before .before .before .before in
     let s = start (first a) in
-    let x = a .note-call .ensures (q a .name) (q a .args .key) (q a .args .value) (s .pre .0 .sound) (holds (first a)) in
+    let x = a .arrive .ensures (q a .name) (q a .args .key) (q a .args .value) (named (first a) .key-in .ensures) (s .pre .0 .sound) (holds (first a)) in
     let r = w .respond .ensures (q a .name) (q a .args .key) (q a .args .value) (given (first a) (is-free a) x) in
-    does-answered (q a) (made (first a) (is-free a)) (fits (first a) (is-free a)) (rw (x .0) at r) (rw (x .0) at (d .change .ensures))
+    does-answered (q a) (made (first a) (is-free a)) (fits (first a) (is-free a)) (rw (x .table .0) at r) (rw (x .table .0) at (d .change .ensures))
 
 pub perform-spec : {M : Type 1} → statement M
 perform-spec =
@@ -184,10 +190,11 @@ perform-spec =
     (λ c κs. search needs)
     (λ c κs. search needs)
     (λ c κs. search needs)
+    (λ c κs. search needs)
     (λ c. search needs)
     refuse-requires-2
     (λ c. search needs)
-    note-call-requires
+    arrive-requires
     respond-requires
     change-requires
     (λ c. search needs)

@@ -17,7 +17,7 @@ loop-holds : tie.Need-loop-holds Inv-loop μ-loop
 loop-holds c = (omega arith, seen-none (c .args .t .now))
 
 cast-row : tie.Need-cast-row Inv-loop μ-loop
-cast-row c = omega (arith, c .shared-slice-known .given (80 + c .before .before .loop .i))
+cast-row c = omega (arith, c .shared-slice-known .given (96 + c .before .before .loop .i))
 
 returns : tie.Need-returns Inv-loop μ-loop
 unfolding placeOf

@@ -1,10 +1,11 @@
 -- `table::rows::remove` meets its contract. Assumes nothing.
-use Prim.Native.Nat.{_-_}
 use native.Mathlib.Omega.{arith}
+use Rattle.table.specs.Write.{less}
 use Rattle.table.proofs.rows.remove.Statement.{statement}
 use Rattle.table.proofs.rows.remove.Tie as tie
 
 returns : tie.Need-returns
+unfolding less
 returns c = let n = c .before .before in
     let w = n .before .before .before .before in
     let m = w .before .before in

@@ -1,0 +1,187 @@
+-- Expiry over every run. Assumes nothing.
+use mathlib.Core.Path.{_≡_, refl, ap, _∙_}
+use mathlib.Core.List.{List, [], _∷_, _++_}
+use mathlib.Core.Bool.{Bool, true, false, cond, _&&_}
+use mathlib.Core.Option.{Option, none, some}
+use Prim.Native.Nat.{ℕ, suc, _≤_}
+use native.Mathlib.Nat.{le-refl, le-max-right, max-eq-left}
+use native.Mathlib.Omega.{arith}
+use lib.ListN.{length, getD}
+use lib.Dec.{eqb, ltb}
+use borrow.Author.Tests.{leb-true}
+use Rattle.wire.proofs.Laws.{never}
+use Rattle.wire.proofs.Basics.{pick}
+use Rattle.message.specs.declared.Form.{Form}
+use Rattle.message.specs.declared.Form.the-variants as form
+use Rattle.message.specs.Request.{Request, isEmpty}
+use Rattle.message.specs.Reply.{formOf, bodyAt, allowed, table}
+use Rattle.map.specs.State.{Entry, State}
+use Rattle.map.specs.Deadline.{standing}
+use Rattle.map.specs.Plan.{Change, keep, store, drop, empty}
+use Rattle.map.specs.Shown.{Shown, nothing, noValue, value, versioned, counted, listed, shows, byVersion, wanted, lowest, listedBy}
+use Rattle.map.specs.Step.{mostKeys, lastVersion, Context, Answer, Outcome, refused, answered, wantsOld, entry, stored, isNone, names, held, full, planned, statistics, answer, act, core, present, swept, noted, arrive, step, stateAfter, run}
+use Rattle.map.specs.Table.{Each}
+use Rattle.map.specs.Counted.{ends}
+use Rattle.map.specs.Reply.{Piece, itemPieces, listPieces, shownPieces, pieces}
+use Rattle.map.specs.Expiry.{Stands, ShowsEach, PiecesHave, InTime, AllInTime, Rises, greatest}
+use Rattle.map.proofs.Each.{Maybe, each-find}
+use Rattle.wire.proofs.SameLaws.{same-refl}
+use Rattle.map.proofs.Answered.{changed, did}
+use Rattle.map.proofs.Laws.{find-stored}
+use Rattle.map.proofs.ListedLaws.{listed-each}
+use Rattle.map.proofs.CountLaws.{latest-step}
+use Rattle.map.proofs.Standing.{standing-stand, standing-all}
+
+-- an answer shows entries of the state that it is given from
+shows-each : (P : Entry → Type 0) (g : Form) (ns : List ℕ) (es : List Entry) (f : Option Entry) → Each P es → Maybe P f → ShowsEach P (shows g ns es f)
+unfolding shows
+shows-each P form.Nothing ns es f h i = tt
+shows-each P (form.Value lim) ns es none h i = tt
+shows-each P (form.Value lim) ns es (some e) h i = pick (ShowsEach P) (eqb lim 0) (λ q. tt) i
+shows-each P form.Versioned ns es none h i = tt
+shows-each P form.Versioned ns es (some e) h i = i
+shows-each P form.Statistics ns es f h i = tt
+shows-each P form.Text ns es f h i = tt
+shows-each P (form.Listed values) ns es f h i = h
+
+answer-each : (P : Entry → Type 0) (c : Context) (r : Request) (st : State) → Each P (st .entries) → ShowsEach P (answer c r st .shown)
+unfolding answer held
+answer-each P c r st h =
+    shows-each P (formOf (wantsOld r) (allowed (bodyAt (planned r st .status) (table (r .op))))) (statistics c st) (listedBy r st) (held r st)
+    (listed-each r st P h) (each-find (names r) P (st .entries) h)
+
+-- and so do the pieces of its reply
+pieces-append : (P : Entry → Type 0) (ps qs : List Piece) → PiecesHave P ps → PiecesHave P qs → PiecesHave P (ps ++ qs)
+pieces-append P [] qs h i = i
+pieces-append P (p ∷ ps) qs h i = (h .0, pieces-append P ps qs (h .1) i)
+
+item-have : (P : Entry → Type 0) (values : Bool) (e : Entry) → P e → PiecesHave P (itemPieces values e)
+item-have P true e h = (tt, (tt, (h, tt)))
+item-have P false e h = (tt, tt)
+
+list-have : (P : Entry → Type 0) (values : Bool) (es : List Entry) → Each P es → PiecesHave P (listPieces values es)
+unfolding listPieces
+list-have P values [] h = (tt, tt)
+list-have P values (e ∷ es) h = pieces-append P (itemPieces values e) (listPieces values es) (item-have P values e (h .0)) (list-have P values es (h .1))
+
+shown-have : (P : Entry → Type 0) (s : Shown) → ShowsEach P s → PiecesHave P (shownPieces s)
+unfolding shownPieces
+shown-have P nothing h = tt
+shown-have P noValue h = (tt, tt)
+shown-have P (value e) h = (tt, (h, tt))
+shown-have P (versioned e) h = (tt, (tt, (h, tt)))
+shown-have P (counted ns) h = (tt, tt)
+shown-have P (listed values es) h = list-have P values es h
+
+pub pieces-have : (P : Entry → Type 0) (r : Request) (a : Answer) → ShowsEach P (a .shown) → PiecesHave P (pieces r a)
+unfolding pieces
+pieces-have P r a h = (tt, shown-have P (a .shown) h)
+
+-- what is refused 10 is full
+both : (a b : Bool) → (a && b) ≡ true → b ≡ true
+both true b e = e
+both false b e = never (cc)
+
+act-ten : (r : Request) (st : State) (a : Answer) (d : Change) → act r st a d ≡ refused 10 → full r st ≡ true
+unfolding act
+act-ten r st a keep e = never (cc)
+act-ten r st a drop e = never (cc)
+act-ten r st a empty e = never (cc)
+act-ten r st a store e = go (full r st) (ltb (st .last) lastVersion) e
+  where
+    go : (f l : Bool) → cond f (refused 10) (cond l (answered a (stored r st)) (refused 11)) ≡ refused 10 → f ≡ true
+    go true l q = refl
+    go false true q = never (cc)
+    go false false q = let z : _≡_ {A = ℕ} 11 10 = cc in absurd (omega arith)
+
+core-ten : (c : Context) (r : Request) (st : State) → core c r st ≡ refused 10 → full r st ≡ true
+unfolding core
+core-ten c r st e = go (isEmpty (r .name)) e
+  where
+    go : (b : Bool) → cond b (act r st (answer c r st) (planned r st .change)) (refused 9) ≡ refused 10 → full r st ≡ true
+    go true q = act-ten r st (answer c r st) (planned r st .change) q
+    go false q = let z : _≡_ {A = ℕ} 9 10 = cc in absurd (omega arith)
+
+module _ (c : Context) (r : Request) (st : State) where
+  -- what an answer shows stands at the present second
+  pub shows-standing : (a : Answer) (t : State) → step c r st ≡ answered a t → ShowsEach (Stands (present c st)) (a .shown)
+  unfolding arrive noted swept
+  shows-standing a t e =
+      rw (did c r st a t e .same) (answer-each (Stands (present c st)) c r (arrive c r st) (standing-stand (present c st) (st .entries)))
+
+  in-time : (o : Outcome) → step c r st ≡ o → InTime o
+  in-time (refused k) e = tt
+  in-time (answered a t) e = rw (latest-step c r st a t e) (shows-standing a t e)
+
+  -- "The present second": behind a step that is answered it is the latest one, and a step that is refused leaves the latest one
+  latest-after : (o : Outcome) → step c r st ≡ o → stateAfter st o .history .latest ≡ greatest (st .history .latest) ((c, r) ∷ []) (record { request = r; outcome = o; state = stateAfter st o } ∷ [])
+  unfolding greatest
+  latest-after (refused k) e = refl
+  latest-after (answered a t) e = latest-step c r st a t e
+
+  pub rises-after : (o : Outcome) → step c r st ≡ o → st .history .latest ≤ stateAfter st o .history .latest
+  rises-after (refused k) e = le-refl _
+  rises-after (answered a t) e = rw (latest-step c r st a t e) (le-max-right _ _)
+
+  -- a step that is refused changes nothing: neither the entries that it took for absent nor the latest second
+  pub refused-keeps : (k : ℕ) → step c r st ≡ refused k → stateAfter st (step c r st) ≡ st
+  refused-keeps k e = rw e
+
+  -- "Refusal 10 counts only entries that still stand."
+  pub ten-stands : step c r st ≡ refused 10 → mostKeys ≤ length (standing (present c st) (st .entries))
+  unfolding step arrive noted swept full
+  ten-stands e = let f = core-ten c r (arrive c r st) e in leb-true mostKeys _ (both (isNone (held r (arrive c r st))) _ f)
+
+  -- every listing and statistic is of what stands
+  pub lists-standing : listedBy r (arrive c r st) ≡ lowest (wanted r) (byVersion (standing (present c st) (st .entries)))
+  unfolding listedBy arrive noted swept
+  lists-standing = refl
+
+  pub counts-standing : getD (statistics c (arrive c r st)) 1 0 ≡ length (standing (present c st) (st .entries))
+  unfolding statistics arrive noted swept
+  counts-standing = refl
+
+  -- What moved since C-14, as one law: at a second that is not below the latest one and before every deadline nothing is dropped, and deadlines are
+  -- reckoned from the call's own second.
+  pub nothing-expired : st .history .latest ≤ c .second → Each (Stands (c .second)) (st .entries)
+      → (step c r st ≡ core c r (noted c r st)) × (noted c r st .history .latest ≡ c .second)
+  unfolding step arrive noted swept
+  nothing-expired l h =
+      let own : present c st ≡ c .second = max-eq-left l in
+      (rw (standing-all (present c st) (st .entries) (rw own h)), own)
+
+-- "Deadlines are reckoned from it": what a step stores has the deadline from the present second
+pub stores-from : (c : Context) (r : Request) (st : State) (a : Answer) (t : State) → step c r st ≡ answered a t → planned r (arrive c r st) .change ≡ store
+    → held r t ≡ some (entry (present c st) r (suc (st .last)))
+unfolding changed stored held entry arrive noted swept
+stores-from c r st a t e q =
+    rw (
+      did c r st a t e .state,
+      q,
+      find-stored (r .args .key) (standing (present c st) (st .entries)) (entry (present c st) r (suc (st .last))),
+      same-refl (r .args .key),
+    )
+
+-- no reply of a run shows an entry at or behind its deadline
+pub all-in-time : (xs : List (Context × Request)) (st : State) → AllInTime (run xs st)
+unfolding run
+all-in-time [] st = tt
+all-in-time (x ∷ xs) st =
+    let o = step (x .0) (x .1) st in
+    (in-time (x .0) (x .1) st o refl, all-in-time xs (stateAfter st o))
+
+-- the present second never falls on a run
+pub rises : (xs : List (Context × Request)) (st : State) → Rises (st .history .latest) (run xs st)
+unfolding run
+rises [] st = tt
+rises (x ∷ xs) st =
+    let o = step (x .0) (x .1) st in
+    (rises-after (x .0) (x .1) st o refl, rises xs (stateAfter st o))
+
+-- "the greatest among this call's and those of earlier calls served": what is left by a run
+pub latest-run : (xs : List (Context × Request)) (st : State) → ends st (run xs st) .history .latest ≡ greatest (st .history .latest) xs (run xs st)
+unfolding run ends greatest
+latest-run [] st = refl
+latest-run (x ∷ xs) st =
+    let o = step (x .0) (x .1) st in
+    latest-run xs (stateAfter st o) ∙ ap (λ (n : ℕ). greatest n xs (run xs (stateAfter st o))) (latest-after (x .0) (x .1) st o refl)

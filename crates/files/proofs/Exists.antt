@@ -1,6 +1,6 @@
 -- What `serve_next` ensures can be done, whatever it is given: so runs exist. Assumes nothing.
 use mathlib.Core.Path.{_≡_, refl}
-use mathlib.Core.Logic.{_⊎_, inl, inr, ⊎-elim}
+use mathlib.Core.Logic.{inl, inr, ⊎-elim}
 use mathlib.Core.Bool.{Bool, true, false, cond, _&&_, not}
 use mathlib.Core.List.{List, [], _∷_}
 use mathlib.Core.Option.{Option, none, some}
@@ -9,12 +9,13 @@ use native.Mathlib.Omega.{arith}
 use lib.ListN.{length, take, drop, getD, length-append, length-drop}
 use lib.Seq.{sets}
 use lib.Dec.{eqb, ltb, leb}
-use borrow.Author.Tests.{eqb-true}
 use Rattle.wire.specs.Codec as wire
 use Rattle.wire.specs.Codec.{Read, Valid, Bytes}
-use Rattle.wire.proofs.Laws.{never}
+use Rattle.wire.specs.Field.{bigEndian}
+use Rattle.wire.proofs.FieldLaws.{big-laws, big-valid}
 use Rattle.hex.specs.Hex.{toHex, fromHex}
-use Rattle.hex.specs.Number.{bigBehind, secondOf, second}
+use Rattle.hex.specs.Number.{fromDigits}
+use Rattle.hex.proofs.Values.{digits-read}
 use Rattle.hex.proofs.HexLaws.{hex-length, to-from}
 use Rattle.message.specs.Request.{Request, request}
 use Rattle.message.proofs.RequestLaws.{request-laws}
@@ -88,28 +89,11 @@ module _ (c : Context) (h : c .second < 0x1_0000_0000) (st : State) (f : Fit st)
       go false = record { fit = f; short = omega arith }
 
 -- four bytes are a second
-second-small : (s : List ℕ) (n : ℕ) → second s ≡ some n → n < 0x1_0000_0000
-unfolding second bigBehind
-second-small s n e = go (fromHex s) refl e
-  where
-    four : (bs : List ℕ) → Bytes bs → length bs ≡ 4 → bigBehind 0 bs < 0x1_0000_0000
-    four [] b l = absurd (omega arith)
-    four (x ∷ []) b l = absurd (omega arith)
-    four (x ∷ y ∷ []) b l = absurd (omega arith)
-    four (x ∷ y ∷ z ∷ []) b l = absurd (omega arith)
-    four (x ∷ y ∷ z ∷ w ∷ []) b l = omega (arith, b 0, b 1, b 2, b 3)
-    four (x ∷ y ∷ z ∷ w ∷ v ∷ bs) b l = absurd (omega arith)
-
-    go : (o : Option (List ℕ)) → fromHex s ≡ o → secondOf o ≡ some n → n < 0x1_0000_0000
-    go none p q = never (cc)
-    go (some bs) p q = test (eqb (length bs) 4) refl q
-      where
-        test : (t : Bool) → eqb (length bs) 4 ≡ t → cond t (some (bigBehind 0 bs)) none ≡ some n → n < 0x1_0000_0000
-        test true t q = let m : bigBehind 0 bs ≡ n = cc in omega (arith, four bs (to-from s bs p .1) (eqb-true (length bs) 4 t))
-        test false t q = never (cc)
+second-small : (s : List ℕ) (n : ℕ) → fromDigits (bigEndian 4) s ≡ some n → n < 0x1_0000_0000
+second-small s n e = big-valid 4 n (digits-read (bigEndian 4) (big-laws 4) s n e .good)
 
 module _ (st : State) (f : Fit st) where
-  asked-fits : (l : List ℕ) (x : Option ℕ) (y : Option (List ℕ)) → second (take 8 l) ≡ x → fromHex (drop 9 l) ≡ y → Fits st (onAsked st (asksOf x y))
+  asked-fits : (l : List ℕ) (x : Option ℕ) (y : Option (List ℕ)) → fromDigits (bigEndian 4) (take 8 l) ≡ x → fromHex (drop 9 l) ≡ y → Fits st (onAsked st (asksOf x y))
   asked-fits l none y p q = record { fit = f; short = omega arith }
   asked-fits l (some n) none p q = record { fit = f; short = omega arith }
   asked-fits l (some n) (some bs) p q =
@@ -119,8 +103,8 @@ module _ (st : State) (f : Fit st) where
   unfolding lineStep asks
   line-fits l = go (leb (length l) longest && eqb (getD l 8 0) 0x20)
     where
-      go : (t : Bool) → Fits st (onAsked st (cond t (asksOf (second (take 8 l)) (fromHex (drop 9 l))) none))
-      go true = asked-fits l (second (take 8 l)) (fromHex (drop 9 l)) refl refl
+      go : (t : Bool) → Fits st (onAsked st (cond t (asksOf (fromDigits (bigEndian 4) (take 8 l)) (fromHex (drop 9 l))) none))
+      go true = asked-fits l (fromDigits (bigEndian 4) (take 8 l)) (fromHex (drop 9 l)) refl refl
       go false = record { fit = f; short = omega arith }
 
 -- a turn and turns that have room

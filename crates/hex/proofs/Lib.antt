@@ -3,4 +3,5 @@ pub mod HexLaws
 pub mod Pairs
 pub mod Paste
 pub mod InPlace
+pub mod Values
 pub mod Second

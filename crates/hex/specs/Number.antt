@@ -1,10 +1,10 @@
--- Digits read as numbers: one digit, and the eight digits of a second.
+-- Digits read as numbers: one digit, and those of a value.
 use mathlib.Core.List.{List, [], _∷_}
 use mathlib.Core.Bool.{Bool, true, cond, _&&_}
 use mathlib.Core.Option.{Option, none, some}
-use Prim.Native.Nat.{ℕ, _+_, _*_}
+use Prim.Native.Nat.{ℕ}
 use lib.ListN.{length}
-use lib.Dec.{eqb}
+use Rattle.wire.specs.Codec.{Codec, exactly}
 use Rattle.hex.specs.Hex.{isDigit, digitValue, fromHex}
 use Rattle.hex.specs.declared.NumberRead.{NumberRead}
 use Rattle.hex.specs.declared.NumberRead.the-variants.{Value, Bad}
@@ -18,18 +18,13 @@ unfoldable pub areDigits : List ℕ → Bool
 areDigits [] = true
 areDigits (a ∷ s) = isDigit a && areDigits s
 
--- bytes read as a number, highest first, behind the number of the bytes before them
-unfoldable pub bigBehind : ℕ → List ℕ → ℕ
-bigBehind v [] = v
-bigBehind v (b ∷ bs) = bigBehind (v * 256 + b) bs
+-- what bytes and digits say in a format: the value that takes all of them, if there is one
+abbrev pub fromBytes : {A : Type 0} → Codec A → Option (List ℕ) → Option A
+fromBytes c none = none
+fromBytes c (some bs) = exactly (length bs) (c .dec bs)
 
-abbrev pub secondOf : Option (List ℕ) → Option ℕ
-secondOf none = none
-secondOf (some bs) = cond (eqb (length bs) 4) (some (bigBehind 0 bs)) none
-
--- "eight lowercase digits (the second)": four bytes, highest first; anything else is none
-unfoldable pub second : List ℕ → Option ℕ
-second s = secondOf (fromHex s)
+unfoldable pub fromDigits : {A : Type 0} → Codec A → List ℕ → Option A
+fromDigits c s = fromBytes c (fromHex s)
 
 abbrev pub asNumber : NumberRead → Option ℕ
 asNumber (Value n) = some n

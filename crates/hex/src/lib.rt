@@ -8,7 +8,8 @@ ghost use Rattle.wire.specs.Write.{laid};
 ghost use Rattle.hex.specs.Hex.{digitOf, isDigit, digitValue, toHex, line};
 ghost use Rattle.wire.specs.Write.{part};
 ghost use Rattle.hex.specs.Coding.{decoded};
-ghost use Rattle.hex.specs.Number.{valueOf, areDigits, asNumber, second};
+ghost use Rattle.wire.specs.Field.{bigEndian};
+ghost use Rattle.hex.specs.Number.{valueOf, areDigits, fromDigits, asNumber};
 
 // What decoding finds: so many bytes, digits that are none or odd in number, or too little room.
 pub enum Decoded {
@@ -185,7 +186,7 @@ pub fn make_line(out: &mut [u8], at: usize, n: usize) -> usize
 
 // Eight digits as a number, highest first.
 pub fn number(s: &[u8]) -> NumberRead
-    ensures { λ r. ⌜ asNumber r ≡ second (now (s .entry)) ⌝ }
+    ensures { λ r. ⌜ asNumber r ≡ fromDigits (bigEndian 4) (now (s .entry)) ⌝ }
 {
     if s.len() != 8 {
         return NumberRead::Bad;

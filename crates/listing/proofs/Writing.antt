@@ -13,7 +13,7 @@ use Rattle.wire.specs.Number.{vLong}
 use Rattle.wire.specs.Field.{limited}
 use Rattle.wire.specs.Listed.{item}
 use Rattle.wire.specs.Write.{Room, Wrote, putAt}
-use Rattle.wire.proofs.Laws.{never, and, and-false, seq-valid, type-valid, bytes-drop, bytes-take}
+use Rattle.wire.proofs.Laws.{never, and, and-false, seq-valid, type-valid, bytes-part}
 use Rattle.wire.proofs.FieldLaws.{limited-good, limited-long, limited-length}
 use Rattle.wire.proofs.ListedEnc.{item-enc}
 use Rattle.wire.proofs.ListedWrite.{wrote-item, Measured, measured-none, measured-bad, measured-on, measured-all}
@@ -151,10 +151,6 @@ entry-most values p n q =
     most true = lit≤ tt
     most false = lit≤ tt
 
--- a part is of bytes
-part-bytes : (s : List ℕ) (p : Span) → Bytes s → Bytes (partOf s p)
-part-bytes s p b = bytes-take (p .len) (drop (p .start) s) (bytes-drop (p .start) s b)
-
 -- those before the i-th have a written form, whatever the bytes are
 abbrev pub Judged : List ℕ → ℕ → Type 0
 Judged numbers i = (bytes : List ℕ) → Bytes bytes → (size : ℕ) × Measured (itemOf true) 128 (listedIn bytes numbers) i size
@@ -172,7 +168,7 @@ module _ (numbers : List ℕ) where
         _,
         entry-on bytes numbers true few i l (named bytes numbers i l refl refl refl refl) (m .0) (m .1) _
             (pair-length (partOf bytes p) (partOf bytes q)
-            (part-bytes bytes p b) (omega (arith, length-take (p .len) (drop (p .start) bytes))) (part-bytes bytes q b) (omega (arith, length-take (q .len) (drop (q .start) bytes)))),
+            (bytes-part bytes (p .start) (p .len) b) (omega (arith, length-take (p .len) (drop (p .start) bytes))) (bytes-part bytes (q .start) (q .len) b) (omega (arith, length-take (q .len) (drop (q .start) bytes)))),
       )
 
   pub judged-all : (i : ℕ) → i ≡ length numbers / 4 → Judged numbers i → Short numbers

@@ -6,7 +6,7 @@ use Rattle.wire.specs.Number.{numberDec, numberEnc, number, vInt, vLong}
 use Rattle.field.specs.FieldRead.{limitedText}
 use Rattle.text.specs.Text.{textAfter, isText}
 use Rattle.hex.specs.Hex.{digitOf, isDigit, digitValue, toHex, fromHex}
-use Rattle.hex.specs.Number.{bigBehind, second}
+use Rattle.hex.specs.Number.{fromDigits}
 use Rattle.message.specs.Edition.{editionOf}
 use Rattle.message.specs.Operation.{findCode}
 use Rattle.message.specs.Refusal.{rows, rowOf, refusal}
@@ -25,6 +25,6 @@ use Rattle.map.specs.State.{fresh, find, without}
 use Rattle.map.specs.Deadline.{deadline, expired}
 
 pub edges : All cases fresh
-unfolding cases limitedText empty byte raw guard seq as-type bigEndian limited numberDec numberEnc number vInt vLong textAfter isText digitOf isDigit digitValue toHex fromHex bigBehind second editionOf findCode rows rowOf refusal bodyAt textBody fieldsOf fields message errorReply shapeOf argsOf operation transaction request-fields request start idIn flat shownPieces pieces sameList find without deadline expired plans plan shows entry stored held full planned answer act core swept noted arrive step onStep onRead asks onFrame lineStep
+unfolding cases limitedText empty byte raw guard seq as-type bigEndian limited numberDec numberEnc number vInt vLong textAfter isText digitOf isDigit digitValue toHex fromHex fromDigits editionOf findCode rows rowOf refusal bodyAt textBody fieldsOf fields message errorReply shapeOf argsOf operation transaction request-fields request start idIn flat shownPieces pieces sameList find without deadline expired plans plan shows entry stored held full planned answer act core swept noted arrive step onStep onRead asks onFrame lineStep
 edges =
     ((refl, refl), ((refl, refl), ((refl, refl), ((refl, refl), ((refl, refl), ((refl, refl), ((refl, tt), ((refl, tt), ((refl, tt), ((refl, refl), (refl, (refl, (refl, (refl, (refl, tt)))))))))))))))

@@ -7,8 +7,9 @@ use lib.ListN.{length, take, drop, getD}
 use lib.Dec.{eqb, leb}
 use Rattle.wire.specs.Codec as wire
 use Rattle.wire.specs.Codec.{Read}
+use Rattle.wire.specs.Field.{bigEndian}
 use Rattle.hex.specs.Hex.{toHex, fromHex}
-use Rattle.hex.specs.Number.{second}
+use Rattle.hex.specs.Number.{fromDigits}
 use Rattle.message.specs.Request.{Request, request}
 use Rattle.map.specs.State.{State}
 use Rattle.map.specs.Step.{Context}
@@ -31,7 +32,7 @@ asksOf (some s) (some b) = some (record { context = record { second = s }; frame
 
 -- "eight lowercase digits (the second), one space, an even number of lowercase digits"
 unfoldable pub asks : List ℕ → Option Asks
-asks s = cond (leb (length s) longest && eqb (getD s 8 0) 0x20) (asksOf (second (take 8 s)) (fromHex (drop 9 s))) none
+asks s = cond (leb (length s) longest && eqb (getD s 8 0) 0x20) (asksOf (fromDigits (bigEndian 4) (take 8 s)) (fromHex (drop 9 s))) none
 
 -- `refused 14` and `refused 15`
 abbrev pub refused14 : List ℕ

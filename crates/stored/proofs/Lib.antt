@@ -1,4 +1,3 @@
-pub mod Spelt
 pub mod LineLaws
 pub mod StoreLaws
 pub mod FileLaws

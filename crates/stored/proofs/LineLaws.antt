@@ -1,31 +1,31 @@
 -- The lines of a stored file: their formats keep the laws, a line read is the line written, and lines can be told apart. Assumes nothing.
 use mathlib.Core.Path.{_≡_, refl, sym, ap, _∙_}
-use mathlib.Core.List.{List, [], _∷_, _++_, append-assoc, append-nil}
-use mathlib.Core.Bool.{Bool, true, false, cond}
-use mathlib.Core.Option.{Option, none, some}
+use mathlib.Core.List.{List, [], _∷_, _++_, append-assoc}
+use mathlib.Core.Bool.{Bool, true, false}
+use mathlib.Core.Option.{some}
 use Prim.Native.Nat.{ℕ, suc, _+_, _/_, _%_, _≤_, _<_, _^_}
 use native.Mathlib.Omega.{arith}
 use native.Mathlib.Decide.{decLt}
 use lib.ListN.{length, take, drop}
-use lib.Seq.{take-length, take-at, take-append-seam, drop-append-add}
+use lib.Seq.{take-at, take-append-seam, drop-append-add}
 use lib.Dec.{eqb}
-use borrow.Author.Tests.{eqb-true, eq-eqb, ne-eqb}
+use borrow.Author.Tests.{eqb-true, ne-eqb}
 use Rattle.bytes.specs.Bytes.{indexOf, indexAfter}
-use Rattle.wire.specs.Codec.{Read, whole, more, refused, Codec, Valid, Bytes, byte, guard, seq, all}
+use Rattle.wire.specs.Codec.{Codec, Valid, Bytes, byte, guard, seq, all}
 use Rattle.wire.specs.Field.{bigEndian, limited}
-use Rattle.wire.proofs.Laws.{Laws, never, seq-laws, guard-laws, type-laws, byte-laws, guard-valid, seq-valid, type-good, seq-good, guard-good, bytes-are}
+use Rattle.wire.proofs.Laws.{Laws, seq-laws, guard-laws, type-laws, byte-laws, guard-valid, seq-valid, type-good, seq-good, guard-good, bytes-are}
 use Rattle.wire.proofs.FieldLaws.{big-laws, big-good, limited-laws, limited-good}
 use Rattle.message.specs.Request.{keyLimit, valueLimit}
 use Rattle.message.proofs.Most.{Most, type-most, seq-most, guard-most, byte-most, big-most, limited-most}
 use Rattle.map.specs.State.{Entry, State}
 use Rattle.map.specs.Table.{Each, IsTable}
 use Rattle.map.proofs.Each.{each-both}
-use Rattle.hex.specs.Hex.{digitOf, toHex, fromHex, line}
-use Rattle.hex.proofs.HexLaws.{to-from, from-to}
+use Rattle.hex.specs.Hex.{digitOf, toHex, line}
+use Rattle.hex.specs.Number.{fromDigits}
+use Rattle.hex.proofs.Values.{digits-back}
 use Rattle.hex.proofs.Digits.{of-decimal, of-letter}
 use Rattle.stored.specs.File.{Form, form1, formByte, Fields, toEntry, fromEntry, entryLine, headLine}
-use Rattle.stored.specs.StoreLoad.{exactly, readBytes, readLine, NoEnd}
-use Rattle.stored.proofs.Spelt.{Spelt, type-spelt, seq-spelt, guard-spelt, byte-spelt, big-spelt, limited-spelt}
+use Rattle.stored.specs.StoreLoad.{NoEnd}
 
 -- the formats
 abbrev pub fields : Codec Fields
@@ -37,11 +37,6 @@ fields-laws = seq-laws _ _ (big-laws 8) (λ _. seq-laws _ _ (big-laws 8) (λ _. 
 pub entry-laws : (f : Form) → Laws (entryLine f)
 unfolding entryLine
 entry-laws form1 = type-laws all toEntry fromEntry fields fields-laws (λ e v. refl) (λ p v. (refl, refl))
-
-pub entry-spelt : (f : Form) → Spelt (entryLine f)
-unfolding entryLine
-entry-spelt form1 =
-    type-spelt all toEntry fromEntry (seq-spelt (big-spelt 8) (λ _. seq-spelt (big-spelt 8) (λ _. seq-spelt (limited-spelt keyLimit) (λ _. limited-spelt valueLimit))))
 
 -- an entry's line is made of at most 339 bytes
 pub entry-most : (f : Form) → Most (entryLine f) 339
@@ -76,10 +71,6 @@ head-laws f =
     let w = seq-valid (guard (λ b. eqb b (formByte f)) 17 byte) (λ _. bigEndian 8) p v in
     (ap {B = ℕ × ℕ} (λ (b : ℕ). (b, p .1)) (sym (eqb-true (p .0) (formByte f) (guard-valid (λ b. eqb b (formByte f)) 17 byte (p .0) (w .0) .0))), refl))
 
-pub head-spelt : (f : Form) → Spelt (headLine f)
-unfolding headLine
-head-spelt f = type-spelt _ _ _ (seq-spelt (guard-spelt _ _ byte-spelt) (λ _. big-spelt 8))
-
 pub head-most : (f : Form) → Most (headLine f) 9
 unfolding headLine
 head-most f = type-most _ _ _ (seq-most (guard-most _ _ byte-most) (λ _ _. big-most 8))
@@ -89,43 +80,6 @@ unfolding headLine byte
 head-good form1 n h =
     type-good all (λ p. p .1) (λ n. (0x01, n)) (seq (guard (λ b. eqb b 0x01) 17 byte) (λ _. bigEndian 8)) {b = n} refl
     (seq-good (guard (λ b. eqb b 0x01) 17 byte) (λ _. bigEndian 8) (guard-good (λ b. eqb b 0x01) 17 byte {a = 0x01} refl refl) (big-good 8 n h))
-
--- what is read of a line is what is written so
-module _ {A : Type 0} (c : Codec A) (l : Laws c) where
-  pub record Reads (s : List ℕ) (a : A) : Type 0 where
-    pub good : Valid c a
-    pub same : s ≡ toHex (c .enc a)
-
-  taken : (bs : List ℕ) (r : Read A) (a : A) → exactly (length bs) r ≡ some a → r ≡ whole a (length bs)
-  taken bs (whole b n) a e = go (eqb n (length bs)) refl e
-    where
-      go : (t : Bool) → eqb n (length bs) ≡ t → cond t (some b) none ≡ some a → whole b n ≡ whole a (length bs)
-      go true p q = cc (eqb-true n (length bs) p)
-      go false p q = never (cc)
-  taken bs more a e = never (cc)
-  taken bs (refused k) a e = never (cc)
-
-  pub bytes-read : (bs : List ℕ) (a : A) → Bytes bs → exactly (length bs) (c .dec bs) ≡ some a → Valid c a × (bs ≡ c .enc a)
-  bytes-read bs a b e =
-      let x = l .exact bs a (length bs) b (taken bs (c .dec bs) a e) in
-      (x .good, sym (take-length bs) ∙ x .same)
-
-  pub line-read : (s : List ℕ) (a : A) → readLine c s ≡ some a → Reads s a
-  unfolding readLine
-  line-read s a e = go (fromHex s) refl e
-    where
-      go : (o : Option (List ℕ)) → fromHex s ≡ o → readBytes c o ≡ some a → Reads s a
-      go none p q = never (cc)
-      go (some bs) p q =
-          let h = to-from s bs p in
-          let x = bytes-read bs a (h .1) q in
-          record { good = x .0; same = h .0 ∙ ap toHex (x .1) }
-
-  pub line-back : Spelt c → (a : A) → Valid c a → readLine c (toHex (c .enc a)) ≡ some a
-  unfolding readLine
-  line-back b a v =
-      let e : c .dec (c .enc a) ≡ whole a (length (c .enc a)) = ap (c .dec) (sym (append-nil (c .enc a))) ∙ l .round a [] v in
-      rw (from-to (c .enc a) (b .bytes a v), e, eq-eqb (length (c .enc a)) (length (c .enc a)) refl)
 
 -- digits are no line end
 digit-no-end : (n : ℕ) → digitOf n ≡ 0x0a → ⊥
@@ -165,9 +119,9 @@ unfolding line
 line-cons bs y = append-assoc (toHex bs) (0x0a ∷ []) y
 
 -- two lines that begin the same list say the same
-pub same-line : {A : Type 0} (c : Codec A) → Laws c → Spelt c → (a b : A) (x y : List ℕ) → Valid c a → Valid c b → line (c .enc a) ++ x ≡ line (c .enc b) ++ y
+pub same-line : {A : Type 0} (c : Codec A) → Laws c → (a b : A) (x y : List ℕ) → Valid c a → Valid c b → line (c .enc a) ++ x ≡ line (c .enc b) ++ y
     → (a ≡ b) × (x ≡ y)
-same-line c l s a b x y v w e =
+same-line c l a b x y v w e =
     let p = ends-split (toHex (c .enc a)) (toHex (c .enc b)) x y (no-end (c .enc a)) (no-end (c .enc b)) (sym (line-cons (c .enc a) x) ∙ e ∙ line-cons (c .enc b) y) in
-    let q : some a ≡ some b = sym (line-back c l s a v) ∙ ap (readLine c) (p .0) ∙ line-back c l s b w in
+    let q : some a ≡ some b = sym (digits-back c l a v) ∙ ap (fromDigits c) (p .0) ∙ digits-back c l b w in
     (cc, p .1)

@@ -11,7 +11,7 @@ use lib.ListN.{length, take, drop, length-append}
 use lib.Seq.{take-at}
 use lib.Dec.{leb, eqb}
 use borrow.Author.Tests.{leb-false}
-use Rattle.wire.specs.Codec.{Read, whole, more, refused, after, Codec, Bytes, byte, readAt}
+use Rattle.wire.specs.Codec.{Read, whole, more, refused, after, Codec, Bytes, byte, readAt, exactly}
 use Rattle.wire.specs.Field.{bigEndian, limited}
 use Rattle.wire.proofs.Laws.{Laws, never, after-after}
 use Rattle.wire.proofs.At.{at-front, at-seq, at-type, at-guard, at-cond}
@@ -20,14 +20,16 @@ use Rattle.message.proofs.Most.{Most}
 use Rattle.field.specs.FieldRead.{stopped}
 use Rattle.field.proofs.Parts.{not-whole}
 use Rattle.hex.specs.Hex.{fromHex}
+use Rattle.hex.specs.Number.{fromDigits}
 use Rattle.hex.specs.Coding.{decodedTo, decoded}
 use Rattle.hex.specs.declared.Decoded.{Decoded}
 use Rattle.hex.specs.declared.Decoded.the-variants as d
 use Rattle.hex.proofs.Decoded as decoded-type
 use Rattle.hex.proofs.HexLaws.{to-from}
+use Rattle.hex.proofs.Values.{bytes-read}
 use Rattle.stored.specs.File.{form1, entryLine, headLine}
-use Rattle.stored.specs.StoreLoad.{exactly, readLine, headLoaded, lineLoaded, loaded}
-use Rattle.stored.proofs.LineLaws.{entry-laws, entry-most, head-laws, head-most, bytes-read}
+use Rattle.stored.specs.StoreLoad.{headLoaded, lineLoaded, loaded}
+use Rattle.stored.proofs.LineLaws.{entry-laws, entry-most, head-laws, head-most}
 
 -- what stops a field stops the line
 pub stopped-none : {A B : Type 0} (n : ℕ) (r : Read A) → exactly {A = B} n (stopped r) ≡ none
@@ -48,13 +50,13 @@ entry-at s = sym (at-front (entryLine form1) s) ∙ simp (at-type, at-seq, after
 
 -- the bytes that were decoded, as a part of the list
 pub record Digits {A : Type 0} (c : Codec A) (s new : List ℕ) (n : ℕ) : Type 0 where
-  pub read : readLine c s ≡ exactly (length (take (n - 0) (drop 0 new))) (c .dec (take (n - 0) (drop 0 new)))
+  pub read : fromDigits c s ≡ exactly (length (take (n - 0) (drop 0 new))) (c .dec (take (n - 0) (drop 0 new)))
   pub within : n ≤ length new
 
 module _ {A : Type 0} (c : Codec A) (s old new : List ℕ) where
   decoded-some : (n : ℕ) (bs : List ℕ) (t : Bool) → fromHex s ≡ some bs
       → _≡_ {A = Decoded × List ℕ} (d.Bytes n, new) (cond t (d.Bytes (length bs), bs ++ drop (length bs) old) (d.Short, old)) → Digits c s new n
-  unfolding readLine
+  unfolding fromDigits
   decoded-some n bs true p e =
       let q : d.Bytes n ≡ d.Bytes (length bs) = ap (λ (x : Decoded × List ℕ). x .0) e in
       let m : n ≡ length bs = cc in
@@ -82,18 +84,18 @@ module _ {A : Type 0} (c : Codec A) (s old new : List ℕ) where
         go (some a) e = let x = bytes-read c l bs a b e in absurd (omega (arith, ap length (x .1), most .most a (x .0)))
 
     decoded-none : (r : Decoded) (bs : List ℕ) (t : Bool) → leb (length bs) (length old) ≡ t → fromHex s ≡ some bs → OneOf (1 ∷ 2 ∷ []) (tagOf decoded-type.the-type r)
-        → _≡_ {A = Decoded × List ℕ} (r, new) (cond t (d.Bytes (length bs), bs ++ drop (length bs) old) (d.Short, old)) → readLine c s ≡ none
-    unfolding readLine
+        → _≡_ {A = Decoded × List ℕ} (r, new) (cond t (d.Bytes (length bs), bs ++ drop (length bs) old) (d.Short, old)) → fromDigits c s ≡ none
+    unfolding fromDigits
     decoded-none r bs true q p k e =
         let x : r ≡ d.Bytes (length bs) = ap (λ (x : Decoded × List ℕ). x .0) e in
         not-whole (subst (λ (y : Decoded). OneOf (1 ∷ 2 ∷ []) (tagOf decoded-type.the-type y)) x k)
     decoded-none r bs false q p k e = rw p (too-long bs (to-from s bs p .1) (leb-false (length bs) (length old) q))
 
-    digits-none : (r : Decoded) → OneOf (1 ∷ 2 ∷ []) (tagOf decoded-type.the-type r) → (r, new) ≡ decoded s old → readLine c s ≡ none
-    unfolding decoded readLine
+    digits-none : (r : Decoded) → OneOf (1 ∷ 2 ∷ []) (tagOf decoded-type.the-type r) → (r, new) ≡ decoded s old → fromDigits c s ≡ none
+    unfolding decoded fromDigits
     digits-none r k e = go (fromHex s) refl e
       where
-        go : (o : Option (List ℕ)) → fromHex s ≡ o → _≡_ {A = Decoded × List ℕ} (r, new) (decodedTo old o) → readLine c s ≡ none
+        go : (o : Option (List ℕ)) → fromHex s ≡ o → _≡_ {A = Decoded × List ℕ} (r, new) (decodedTo old o) → fromDigits c s ≡ none
         go none p q = rw p
         go (some bs) p q = decoded-none r bs (leb (length bs) (length old)) refl p k q
 

@@ -14,7 +14,7 @@ use Rattle.table.specs.Memory.{stateOf, Sound}
 use Rattle.map.proofs.CountLaws.{fresh-counts}
 use Rattle.hex.specs.Hex.{line}
 use Rattle.stored.specs.File.{Form, entryLine, headLine, entryLines, linesOf, lasting, file, afresh, Stores}
-use Rattle.stored.proofs.LineLaws.{entry-laws, entry-spelt, table-good, head-laws, head-spelt, head-good, same-line}
+use Rattle.stored.proofs.LineLaws.{entry-laws, table-good, head-laws, head-good, same-line}
 use Rattle.stored.proofs.FileLaws.{file-afresh}
 use Rattle.hex.proofs.HexLaws.{line-length}
 
@@ -58,7 +58,7 @@ module _ (f : Form) where
   same-front [] fs y v w p = (fs, refl, p)
   same-front (a ∷ es) [] y v w p = absurd (some-line a (entryLines f es ++ y) (rw append-assoc at p))
   same-front (a ∷ es) (b ∷ fs) y v w p =
-      let q = same-line (entryLine f) (entry-laws f) (entry-spelt f) a b (entryLines f es ++ y) (entryLines f fs) (v .0) (w .0) (rw append-assoc at p) in
+      let q = same-line (entryLine f) (entry-laws f) a b (entryLines f es ++ y) (entryLines f fs) (v .0) (w .0) (rw append-assoc at p) in
       let r = same-front es fs y (v .1) (w .1) (q .1) in
       (r .0, cc (q .0, r .1), r .2)
 
@@ -72,7 +72,7 @@ module _ (f : Form) where
   pub file-front : (s t : State) (y : List ℕ) → IsTable s → IsTable t → linesOf f s ++ y ≡ linesOf f t → Front s t y
   unfolding linesOf
   file-front s t y hs ht p =
-      let q = same-line (headLine f) (head-laws f) (head-spelt f) (s .last) (t .last) (entryLines f (s .entries) ++ y) (entryLines f (t .entries))
+      let q = same-line (headLine f) (head-laws f) (s .last) (t .last) (entryLines f (s .entries) ++ y) (entryLines f (t .entries))
       (head-good f (s .last) (omega (arith, hs .last))) (head-good f (t .last) (omega (arith, ht .last))) (rw append-assoc at p) in
       let r = same-front (s .entries) (t .entries) y (table-good f s hs) (table-good f t ht) (q .1) in
       record { entries = r .0; all = r .1; last = sym (q .0); behind = r .2 }

@@ -13,8 +13,8 @@ use Rattle.wire.specs.Codec.{Codec, Valid, Bytes, byte, raw, guard, seq, as-typ
 use Rattle.wire.specs.Number.{vLong}
 use Rattle.wire.specs.Field.{bigEndian, limited}
 use Rattle.wire.specs.Write.{Wrote, putAt, laid}
-use Rattle.wire.proofs.Laws.{type-valid, seq-valid, raw-good}
-use Rattle.wire.proofs.FieldLaws.{big-length, big-good, limited-length, limited-valid}
+use Rattle.wire.proofs.Laws.{type-valid, seq-valid, raw-good, bytes-part}
+use Rattle.wire.proofs.FieldLaws.{big-length, big-good, big-small, limited-length, limited-valid}
 use Rattle.wire.proofs.WriteLaws.{wrote-seq, wrote-guard, wrote-type, put-wrote}
 use Rattle.message.specs.Request.{keyLimit, valueLimit}
 use Rattle.message.proofs.Most.{Most}
@@ -28,7 +28,6 @@ use Rattle.table.specs.Bytes.{be8}
 use Rattle.table.specs.Memory.{lastIndex, numberAt, size, numberOf, rowAt, entry, entryOf, entriesOf, historyOf, stateOf}
 use Rattle.table.specs.Found.{entryAt}
 use Rattle.table.proofs.Lists.{lt-or-ge}
-use Rattle.table.proofs.Parts.{bytes-part}
 use Rattle.table.proofs.RowLaws.{entry-is}
 use Rattle.table.proofs.Answers.{held-row, no-row}
 use Rattle.stored.specs.File.{Form, form1, toEntry, fromEntry, entryLine, headLine, lineOf}
@@ -42,19 +41,10 @@ unfolding raw
 line-put s old at b h e f = let w = put-wrote (raw (length s)) s at old (raw-good s b) (omega arith) _ _ e in f ∙ line-over s old at (w .list) refl h
 
 -- what memory holds in a row has a written form
-dig : (x b n : ℕ) → x < n → b < 256 → x * 256 + b < n * 256
-dig x b n h g = omega arith
-
-be8-small : (t : List ℕ) (a : ℕ) → Bytes t → be8 t a < 256 ^ 8
-unfolding be8
-be8-small t a h =
-    let x = dig _ _ _ (dig _ _ _ (dig _ _ _ (dig _ _ _ (dig _ _ _ (dig _ _ _ (dig _ _ _ (h a) (h (a + 1))) (h (a + 2))) (h (a + 3))) (h (a + 4))) (h (a + 5))) (h (a + 6))) (h (a + 7)) in
-    omega (arith, x)
-
 row-good : (f : Form) (t : List ℕ) (a : ℕ) → Bytes t → Valid (entryLine f) (entryOf t a)
 unfolding entryOf entry
 row-good f t a b =
-    entry-good f (entryOf t a) (be8-small t a b) (be8-small t (a + 8) b) (simp length-take (omega arith)) (bytes-part t (a + 32) (min (be8 t (a + 16)) keyLimit) b)
+    entry-good f (entryOf t a) (big-small 8 t a b) (big-small 8 t (a + 8) b) (simp length-take (omega arith)) (bytes-part t (a + 32) (min (be8 t (a + 16)) keyLimit) b)
     (simp length-take (omega arith)) (bytes-part t (a + 96) (min (be8 t (a + 24)) valueLimit) b)
 
 blank-good : (f : Form) → Valid (entryLine f) (entry [] [] 0 0)
@@ -152,5 +142,5 @@ unfolding stateOf numberOf
 last-small t b = go (eqb (length t) size) refl
   where
     go : (x : Bool) → eqb (length t) size ≡ x → cond x (record { entries = entriesOf t; last = numberOf t lastIndex; history = historyOf t }) fresh .last < 256 ^ 8
-    go true e = be8-small t (numberAt lastIndex) b
+    go true e = big-small 8 t (numberAt lastIndex) b
     go false e = omega arith

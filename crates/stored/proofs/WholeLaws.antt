@@ -19,15 +19,17 @@ use Rattle.map.specs.History.{noHistory}
 use Rattle.map.specs.State.{Entry, State}
 use Rattle.map.specs.Table.{Each, IsTable}
 use Rattle.hex.specs.Hex.{toHex, line}
+use Rattle.hex.specs.Number.{fromDigits}
+use Rattle.hex.proofs.Values.{digits-read, digits-back}
 use Rattle.table.specs.Memory.{size, entry, stateOf, Sound}
 use Rattle.table.specs.Change.{Left, isSome}
 use Rattle.table.specs.declared.Outcome.the-variants.{Done, Refused}
 use Rattle.table.proofs.Restores.{started-is, started-says, started-long, restored-long, restored-sound, each-restored, each-mid}
 use Rattle.table.proofs.HasForm.{started-sound}
 use Rattle.stored.specs.File.{Form, form1, entryLine, headLine, entryLines, linesOf, Stores}
-use Rattle.stored.specs.StoreLoad.{readLine, startWith, restoreTo, headLoaded, lineLoaded, loaded, NoEnd, Loads, no-line, a-line, Ends, LoadsLines, Loaded}
+use Rattle.stored.specs.StoreLoad.{startWith, restoreTo, headLoaded, lineLoaded, loaded, NoEnd, Loads, no-line, a-line, Ends, LoadsLines, Loaded}
 use Rattle.stored.specs.declared.Loading.{Loading}
-use Rattle.stored.proofs.LineLaws.{entry-laws, entry-spelt, table-good, head-laws, head-spelt, head-good, line-read, line-back, no-end, first-end, ends-split, line-cons}
+use Rattle.stored.proofs.LineLaws.{entry-laws, table-good, head-laws, head-good, no-end, first-end, ends-split, line-cons}
 use Rattle.stored.proofs.StoreLaws.{parts}
 use Rattle.stored.proofs.FileLaws.{lines-append, file-afresh}
 use Rattle.stored.proofs.OneTable.{file-front}
@@ -65,12 +67,12 @@ loads-both (a-line l o e r) q = rw append-assoc (a-line l o e (loads-both r q))
 
 loaded-long : (f : Form) (b : Bool) (l t u : List ℕ) → loaded f b l t ≡ some u → length u ≡ length t
 unfolding headLoaded lineLoaded
-loaded-long f false l t u e = go (readLine (headLine f) l) e
+loaded-long f false l t u e = go (fromDigits (headLine f) l) e
   where
     go : (o : Option ℕ) → startWith t o ≡ some u → length u ≡ length t
     go none q = never (cc)
     go (some n) q = started-long n t u q
-loaded-long f true l t u e = go (readLine (entryLine f) l) e
+loaded-long f true l t u e = go (fromDigits (entryLine f) l) e
   where
     go : (o : Option Entry) → restoreTo t o ≡ some u → length u ≡ length t
     go none q = never (cc)
@@ -143,28 +145,28 @@ module _ {f : Form} {b : Bool} {p t u : List ℕ} {r : Loading} (q : List ℕ) (
 -- a first line that is loaded is the lines of the table that it leaves, which has no history
 head-sound : (l t u : List ℕ) → headLoaded form1 l t ≡ some u → Sound u × (linesOf form1 (stateOf u) ≡ l ++ (0x0a ∷ [])) × (stateOf u .history ≡ noHistory)
 unfolding headLoaded linesOf entryLines line
-head-sound l t u e = go (readLine (headLine form1) l) refl e
+head-sound l t u e = go (fromDigits (headLine form1) l) refl e
   where
-    go : (o : Option ℕ) → readLine (headLine form1) l ≡ o → startWith t o ≡ some u
+    go : (o : Option ℕ) → fromDigits (headLine form1) l ≡ o → startWith t o ≡ some u
         → Sound u × (linesOf form1 (stateOf u) ≡ l ++ (0x0a ∷ [])) × (stateOf u .history ≡ noHistory)
     go none p q = never (cc)
     go (some n) p q =
         let s = started-says n t u q in
         let d = started-sound n t u (s .0) (s .1) (rw q refl) in
-        let x = line-read (headLine form1) (head-laws form1) l n p in
+        let x = digits-read (headLine form1) (head-laws form1) l n p in
         (d .0, ap (linesOf form1) (d .1) ∙ append-nil (line (headLine form1 .enc n)) ∙ ap (λ (y : List ℕ). y ++ (0x0a ∷ [])) (sym (x .same)), ap (λ (st : State). st .history) (d .1))
 
 -- an entry's line that is loaded is behind the lines of the table before it
 line-sound : (l t u : List ℕ) → Sound t → lineLoaded form1 l t ≡ some u
     → Sound u × (linesOf form1 (stateOf u) ≡ linesOf form1 (stateOf t) ++ (l ++ (0x0a ∷ []))) × (stateOf u .history ≡ stateOf t .history)
 unfolding lineLoaded linesOf entryLines entry line
-line-sound l t u h e = go (readLine (entryLine form1) l) refl e
+line-sound l t u h e = go (fromDigits (entryLine form1) l) refl e
   where
-    go : (o : Option Entry) → readLine (entryLine form1) l ≡ o → restoreTo t o ≡ some u
+    go : (o : Option Entry) → fromDigits (entryLine form1) l ≡ o → restoreTo t o ≡ some u
         → Sound u × (linesOf form1 (stateOf u) ≡ linesOf form1 (stateOf t) ++ (l ++ (0x0a ∷ []))) × (stateOf u .history ≡ stateOf t .history)
     go none p q = never (cc)
     go (some x) p q =
-        let y = line-read (entryLine form1) (entry-laws form1) l x p in
+        let y = digits-read (entryLine form1) (entry-laws form1) l x p in
         let k = parts x (y .good) .1 .1 in
         let d = restored-sound (x .key) (x .value) (x .version) (x .deadline) t u h
         (bytes-are _ (limited-valid keyLimit (x .key) (k .0) .1)) (bytes-are _ (limited-valid valueLimit (x .value) (k .1) .1)) q in
@@ -206,7 +208,7 @@ stuck b bs z u false h e =
 head-loads : (st : State) (t : List ℕ) → IsTable st → length t ≡ size → isSome (headLoaded form1 (toHex (headLine form1 .enc (st .last))) t) ≡ true
 unfolding headLoaded
 head-loads st t h l =
-    rw (line-back (headLine form1) (head-laws form1) (head-spelt form1) (st .last) (head-good form1 (st .last) (omega (arith, h .last)))) (ap isSome (started-is (st .last) t l (h .last)))
+    rw (digits-back (headLine form1) (head-laws form1) (st .last) (head-good form1 (st .last) (omega (arith, h .last)))) (ap isSome (started-is (st .last) t l (h .last)))
 
 line-loads : {bytes : List ℕ} {st : State} (u : List ℕ) (e : Entry) (es : List Entry) → Stores form1 bytes st → length u ≡ size → st .entries ≡ stateOf u .entries ++ (e ∷ es)
     → st .last ≡ stateOf u .last → isSome (lineLoaded form1 (toHex (entryLine form1 .enc e)) u) ≡ true
@@ -214,7 +216,7 @@ unfolding lineLoaded
 line-loads {st = st} u e es q h p l =
     let v : Valid (entryLine form1) e =
     each-mid (λ e. Valid (entryLine form1) e) (stateOf u .entries) e es (subst (Each (λ e. Valid (entryLine form1) e)) p (table-good form1 st (q .table))) in
-    rw (line-back (entryLine form1) (entry-laws form1) (entry-spelt form1) e v) (ap isSome (each-restored st e es u (q .table) (q .order) h p l))
+    rw (digits-back (entryLine form1) (entry-laws form1) e v) (ap isSome (each-restored st e es u (q .table) (q .order) h p l))
 
 rest-loads : {bytes : List ℕ} {st : State} (u y : List ℕ) (g : Bool) (es : List Entry) → Stores form1 bytes st → length u ≡ size → st .entries ≡ stateOf u .entries ++ es
     → st .last ≡ stateOf u .last → y ≡ entryLines form1 es → Ends form1 true y u g → (g ≡ true) × (y ≡ [])

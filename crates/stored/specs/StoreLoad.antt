@@ -5,16 +5,16 @@ use mathlib.Core.Bool.{Bool, true, false, cond}
 use mathlib.Core.Option.{Option, none, some}
 use Prim.Native.Nat.{ℕ, zero, suc, _≤_}
 use lib.ListN.{length, take, drop, getD}
-use lib.Dec.{eqb, ltb}
+use lib.Dec.{ltb}
 use Rattle.bytes.specs.Bytes.{indexOf}
-use Rattle.wire.specs.Codec.{Read, whole, more, refused, Codec}
 use Rattle.wire.specs.Write.{Sent, kept, sent}
 use Rattle.map.specs.State.{Entry, State}
 use Rattle.table.specs.Memory.{size, entry, stateOf, Sound}
 use Rattle.table.specs.Change.{started, restored}
 use Rattle.table.specs.declared.Outcome.{Outcome}
 use Rattle.table.specs.declared.Outcome.the-variants.{Done, Refused}
-use Rattle.hex.specs.Hex.{fromHex, line}
+use Rattle.hex.specs.Hex.{line}
+use Rattle.hex.specs.Number.{fromDigits}
 use Rattle.stored.specs.File.{Form, entryLine, headLine, lineOf, file, Stores}
 use Rattle.stored.specs.declared.Loading.{Loading}
 
@@ -29,20 +29,6 @@ pub record Storing (f : Form) (t old : List ℕ) (r : Sent) (new : List ℕ) : T
   pub sound : Sound t → (r, new) ≡ sent (file f (stateOf t)) old
   pub unsound : (Sound t → ⊥) → _≡_ {A = Sent × List ℕ} (r, new) (kept 13, old)
 
--- a value that takes all the bytes
-abbrev pub exactly : {A : Type 0} → ℕ → Read A → Option A
-exactly n (whole a m) = cond (eqb m n) (some a) none
-exactly n more = none
-exactly n (refused k) = none
-
-abbrev pub readBytes : {A : Type 0} → Codec A → Option (List ℕ) → Option A
-readBytes c none = none
-readBytes c (some bs) = exactly (length bs) (c .dec bs)
-
--- what a line without its line end says
-unfoldable pub readLine : {A : Type 0} → Codec A → List ℕ → Option A
-readLine c s = readBytes c (fromHex s)
-
 -- the memory that the first line starts, and the one that an entry's line leaves
 abbrev pub startWith : List ℕ → Option ℕ → Option (List ℕ)
 startWith t none = none
@@ -53,10 +39,10 @@ restoreTo t none = none
 restoreTo t (some e) = restored (e .key) (e .value) (e .version) (e .deadline) t
 
 unfoldable pub headLoaded : Form → List ℕ → List ℕ → Option (List ℕ)
-headLoaded f s t = startWith t (readLine (headLine f) s)
+headLoaded f s t = startWith t (fromDigits (headLine f) s)
 
 unfoldable pub lineLoaded : Form → List ℕ → List ℕ → Option (List ℕ)
-lineLoaded f s t = restoreTo t (readLine (entryLine f) s)
+lineLoaded f s t = restoreTo t (fromDigits (entryLine f) s)
 
 -- the memory that a line leaves: the first line of a file where none is loaded yet, else an entry's line
 abbrev pub loaded : Form → Bool → List ℕ → List ℕ → Option (List ℕ)

@@ -11,13 +11,14 @@ use message::Request;
 ghost use mathlib.Core.Path.{_≡_};
 ghost use Prim.Native.Nat.{_≤_};
 ghost use lib.ListN.{length};
+ghost use Rattle.wire.specs.Codec.{exactly};
 ghost use Rattle.wire.specs.Write.{Wrote, laid};
 ghost use Rattle.table.specs.Memory.{stateOf};
 ghost use Rattle.table.specs.Found.{entryAt};
 ghost use Rattle.table.specs.Change.{Answers};
 ghost use Rattle.hex.specs.Hex.{line};
 ghost use Rattle.stored.specs.File.{form1, entryLine, headLine, lineOf};
-ghost use Rattle.stored.specs.StoreLoad.{exactly, startWith, restoreTo};
+ghost use Rattle.stored.specs.StoreLoad.{startWith, restoreTo};
 
 // Room for the bytes of a line.
 pub(crate) fn room() -> [u8; 339]

@@ -4,15 +4,14 @@ use mathlib.Core.Path.{_≡_, refl, sym, ap, _∙_, subst}
 use mathlib.Core.List.{List, [], _∷_, _++_, append-nil}
 use mathlib.Core.Logic.{⊎-elim, inl, inr}
 use mathlib.Core.Option.{Option, none, some}
-use mathlib.Core.Bool.{true}
-use Prim.Native.Nat.{ℕ, suc, _+_, _%_, _≤_, _<_, _^_}
+use Prim.Native.Nat.{ℕ, suc, _+_, _≤_, _<_, _^_}
 use native.Mathlib.Omega.{arith}
 use lib.ListN.{length, length-append, List·getD-eq-default}
 use lib.Seq.{append-snoc, ext-getD, sets, length-sets}
-use lib.Dec.{ltb}
-use borrow.Author.Tests.{lt-ltb}
-use Rattle.wire.specs.Codec.{Bytes, isBytes}
+use Rattle.wire.specs.Codec.{Bytes}
+use Rattle.wire.specs.Field.{bigEndian}
 use Rattle.wire.proofs.Laws.{bytes-are}
+use Rattle.wire.proofs.FieldLaws.{big-length, big-bytes}
 use Rattle.map.specs.History.{noHistory}
 use Rattle.map.specs.State.{Entry, State}
 use Rattle.map.specs.Step.{mostKeys, lastVersion}
@@ -20,13 +19,12 @@ use Rattle.map.specs.Table.{Each, Sizes, IsTable, Ascending}
 use Rattle.table.specs.Bytes.{upto, zeros}
 use Rattle.table.specs.Memory.{headCount, countIndex, lastIndex, firstIndex, countsIndex, latestIndex, boundIndex, numberAt, placesAt, deadlineStart, keyLengthStart, valueLengthStart, keyStart, valueStart, size, numberOf, firstOf, rowAt, entry, countOf, entriesOf, historyOf, stateOf, Bounded, Sound}
 use Rattle.table.specs.Change.{Left, made, started}
-use Rattle.table.specs.Write.{digits, withNumber, withNumbers, inOrder, withKey, withValue, withEntry}
+use Rattle.table.specs.Write.{withNumber, withNumbers, inOrder, withKey, withValue, withEntry}
 use Rattle.table.specs.Form.{withAll, firstNumber, form}
 use Rattle.map.proofs.Each.{each-map, each-both}
 use Rattle.map.proofs.CountLaws.{fresh-counts}
 use Rattle.table.proofs.Lists.{length-upto, getD-upto, lt-or-ge}
 use Rattle.table.proofs.Parts.{bytes-sets}
-use Rattle.table.proofs.RowLaws.{length-digits}
 use Rattle.table.proofs.Regions.{Kept, kept-both, kept-wide, number-kept}
 use Rattle.table.proofs.Writes.{Contains, named, number-written, number-is, numbers, issue}
 use Rattle.table.proofs.Numbers.{length-zeros, zero-at, no-number, no-history, numbers-kept, numbers-at, latest-written}
@@ -38,20 +36,13 @@ record Held (n : ℕ) (t : List ℕ) : Type 0 where
   long : length t ≡ n
   bytes : Bytes t
 
-mod-byte : (x : ℕ) → ltb (x % 256) 256 ≡ true
-mod-byte x = lt-ltb (x % 256) 256 (omega arith)
-
-bytes-digits : (x : ℕ) → Bytes (digits x)
-unfolding digits isBytes
-bytes-digits x = bytes-are (digits x) (simp mod-byte)
-
 held-sets : {n : ℕ} {t : List ℕ} (a : ℕ) (vs : List ℕ) → Held n t → Bytes vs → a + length vs ≤ n → Held n (sets t a vs)
 held-sets {n} {t} a vs h b l =
     let m : a + length vs ≤ length t = omega (arith, h .long) in
     record { long = length-sets t a vs ∙ h .long; bytes = bytes-sets t a vs m (h .bytes) b }
 
-held-sets8 : {n : ℕ} {t : List ℕ} (a x : ℕ) → Held n t → a + 8 ≤ n → Held n (sets t a (digits x))
-held-sets8 a x h l = held-sets a (digits x) h (bytes-digits x) (omega (arith, length-digits x))
+held-sets8 : {n : ℕ} {t : List ℕ} (a x : ℕ) → Held n t → a + 8 ≤ n → Held n (sets t a (bigEndian 8 .enc x))
+held-sets8 a x h l = held-sets a (bigEndian 8 .enc x) h (big-bytes 8 x) (omega (arith, big-length 8 x))
 
 held-zeros : (n : ℕ) → Held n (zeros n)
 held-zeros n = record { long = length-zeros n; bytes = λ i. omega (arith, zero-at n i) }

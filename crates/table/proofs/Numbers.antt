@@ -11,7 +11,9 @@ use lib.ListN.{set, length, getD, List·getD-eq-default}
 use lib.Seq.{sets}
 use lib.Dec.{eqb, ltb}
 use borrow.Author.Tests.{eq-eqb, ne-eqb, lt-ltb, le-ltb}
+use Rattle.wire.specs.Field.{bigAt}
 use Rattle.wire.proofs.Basics.{pick}
+use Rattle.wire.proofs.FieldLaws.{big-same}
 use Rattle.message.specs.declared.Operation.{Operation}
 use Rattle.map.specs.History.{noHistory, mostCount, onward, adds, marked, tally, startOf}
 use Rattle.map.specs.Table.{Counts, lastSecond}
@@ -21,7 +23,6 @@ use Rattle.table.specs.Write.{withNumber, withNumbers, withNone, begun, 
 use Rattle.table.proofs.Lists.{lt-or-ge, length-upto, getD-upto, upto-ext}
 use Rattle.wire.proofs.WriteLaws.{sets-append}
 use Rattle.table.proofs.Parts.{sets-in}
-use Rattle.table.proofs.RowLaws.{be8-same}
 use Rattle.table.proofs.Regions.{Kept, kept-sets, kept-both, kept-wide, number-kept}
 use Rattle.table.proofs.Writes.{number-written, number-is}
 
@@ -39,12 +40,12 @@ zero-at n k =
     (lt-or-ge k n)
 
 no-bytes : be8 [] 0 ≡ 0
-unfolding be8
+unfolding bigAt
 no-bytes = refl
 
 pub no-number : (t : List ℕ) (i : ℕ) → ((k : ℕ) → k < 8 → getD t (numberAt i + k) 0 ≡ 0) → numberOf t i ≡ 0
 unfolding numberOf
-no-number t i h = be8-same t [] (numberAt i) 0 h ∙ no-bytes
+no-number t i h = big-same 8 t [] (numberAt i) 0 h ∙ no-bytes
 
 -- every number is 0
 module _ (t : List ℕ) (h : length t ≡ size) where

@@ -1,55 +1,52 @@
 -- Which bytes a row depends on, and what the row functions' writes leave. Assumes nothing.
 use mathlib.Core.Path.{_≡_, refl, ap, _∙_}
-use mathlib.Core.List.{List, []}
+use mathlib.Core.List.{List, [], _∷_}
 use Prim.Native.Nat.{ℕ, _+_, _*_, _/_, _%_, _≤_, _<_, _^_, min}
+use native.Mathlib.Nat.{add-zero, zero-add}
 use native.Mathlib.Omega.{arith}
 use lib.ListN.{length, getD}
 use lib.Seq.{sets}
 use borrow.Author.Tests.{eq-eqb}
+use Rattle.wire.specs.Codec.{empty, byte, seq, as-type}
+use Rattle.wire.specs.Field.{bigEndian, bigAt}
+use Rattle.wire.proofs.FieldLaws.{big-length, big-same, big-back}
 use Rattle.map.specs.State.{Entry, State}
 use Rattle.map.specs.Step.{mostKeys}
 use Rattle.table.specs.Bytes.{be8}
 use Rattle.table.specs.Memory.{lastIndex, firstIndex, countsIndex, latestIndex, boundIndex, size, numberOf, rowAt, entry, entryOf, countOf, entriesOf, historyOf, stateOf}
 use Rattle.table.specs.Found.{entryAt}
-use Rattle.table.specs.Write.{digits}
 use Rattle.table.proofs.Lists.{length-upto, getD-upto, upto-ext}
 use Rattle.table.proofs.Parts.{part-ext, sets-before, sets-in}
 
--- eight-byte numbers
-pub be8-same : (t u : List ℕ) (a b : ℕ) → ((k : ℕ) → k < 8 → getD t (a + k) 0 ≡ getD u (b + k) 0) → be8 t a ≡ be8 u b
-unfolding be8
-be8-same t u a b h =
-    let e : a + 0 ≡ a = omega arith in
-    let f : b + 0 ≡ b = omega arith in
-    cc (h 0 (omega arith), h 1 (omega arith), h 2 (omega arith), h 3 (omega arith), h 4 (omega arith), h 5 (omega arith), h 6 (omega arith), h 7 (omega arith))
+-- the eight bytes of a number, as the code writes them and reads them
+pub eight : (x : ℕ) → bigEndian 8 .enc x
+    ≡ x / 2 ^ 56 % 256 ∷ x / 2 ^ 48 % 256 ∷ x / 2 ^ 40 % 256 ∷ x / 2 ^ 32 % 256 ∷ x / 2 ^ 24 % 256 ∷ x / 65536 % 256 ∷ x / 256 % 256 ∷ x % 256 ∷ []
+unfolding bigEndian seq byte as-type empty
+eight x =
+    let e₂ : x / 256 / 256 ≡ x / 65536 = omega arith in
+    let e₃ : x / 65536 / 256 ≡ x / 2 ^ 24 = omega arith in
+    let e₄ : x / 2 ^ 24 / 256 ≡ x / 2 ^ 32 = omega arith in
+    let e₅ : x / 2 ^ 32 / 256 ≡ x / 2 ^ 40 = omega arith in
+    let e₆ : x / 2 ^ 40 / 256 ≡ x / 2 ^ 48 = omega arith in
+    let e₇ : x / 2 ^ 48 / 256 ≡ x / 2 ^ 56 = omega arith in
+    rw (e₂, e₃, e₄, e₅, e₆, e₇)
 
-spelt : (x : ℕ) → x < 2 ^ 64 → be8 (digits x) 0 ≡ x
-unfolding be8 digits
-spelt x h =
-    let e8 : x / 72057594037927936 % 256 ≡ x / 72057594037927936 = omega arith in
-    let e7 : x / 72057594037927936 * 256 + x / 281474976710656 % 256 ≡ x / 281474976710656 = omega arith in
-    let e6 : x / 281474976710656 * 256 + x / 1099511627776 % 256 ≡ x / 1099511627776 = omega arith in
-    let e5 : x / 1099511627776 * 256 + x / 4294967296 % 256 ≡ x / 4294967296 = omega arith in
-    let e4 : x / 4294967296 * 256 + x / 16777216 % 256 ≡ x / 16777216 = omega arith in
-    let e3 : x / 16777216 * 256 + x / 65536 % 256 ≡ x / 65536 = omega arith in
-    let e2 : x / 65536 * 256 + x / 256 % 256 ≡ x / 256 = omega arith in
-    let e1 : x / 256 * 256 + x % 256 ≡ x = omega arith in
-    cc
-
-pub length-digits : (x : ℕ) → length (digits x) ≡ 8
-unfolding digits
-length-digits x = refl
+pub eight-at : (t : List ℕ) (a : ℕ) → be8 t a
+    ≡ ((((((getD t a 0 * 256 + getD t (a + 1) 0) * 256 + getD t (a + 2) 0) * 256 + getD t (a + 3) 0) * 256 + getD t (a + 4) 0) * 256 + getD t (a + 5) 0) * 256
+    + getD t (a + 6) 0) * 256 + getD t (a + 7) 0
+unfolding bigAt
+eight-at t a = rw (zero-add, add-zero)
 
 module _ (t : List ℕ) (a x : ℕ) (fits : a + 8 ≤ length t) where
-  pub be8-sets : x < 2 ^ 64 → be8 (sets t a (digits x)) a ≡ x
+  pub be8-sets : x < 2 ^ 64 → be8 (sets t a (bigEndian 8 .enc x)) a ≡ x
   be8-sets h =
-      be8-same (sets t a (digits x)) (digits x) a 0
+      big-same 8 (sets t a (bigEndian 8 .enc x)) (bigEndian 8 .enc x) a 0
       (λ k l. let e : 0 + k ≡ k = omega arith in
-      cc (sets-in t a (digits x) (omega (arith, length-digits x)) k (omega (arith, length-digits x))))
-      ∙ spelt x h
+      cc (sets-in t a (bigEndian 8 .enc x) (omega (arith, big-length 8 x)) k (omega (arith, big-length 8 x))))
+      ∙ big-back 8 x h
 
 pub be8-before : (t : List ℕ) (a : ℕ) (vs : List ℕ) (b : ℕ) → a + length vs ≤ length t → b + 8 ≤ a → be8 (sets t a vs) b ≡ be8 t b
-be8-before t a vs b h g = be8-same (sets t a vs) t b b (λ k l. sets-before t a vs h (b + k) (omega arith))
+be8-before t a vs b h g = big-same 8 (sets t a vs) t b b (λ k l. sets-before t a vs h (b + k) (omega arith))
 
 -- two rows with the same bytes
 pub record SameRow (t : List ℕ) (a : ℕ) (u : List ℕ) (b : ℕ) : Type 0 where
@@ -65,10 +62,10 @@ module _ (t u : List ℕ) (a b : ℕ) (ht : a + 352 ≤ length t) (hu : b + 352 
       cc (h (o + k) (omega arith))
 
   n₁ : be8 t (a + 16) ≡ be8 u (b + 16)
-  n₁ = be8-same t u (a + 16) (b + 16) (off 16 8 (omega arith))
+  n₁ = big-same 8 t u (a + 16) (b + 16) (off 16 8 (omega arith))
 
   n₂ : be8 t (a + 24) ≡ be8 u (b + 24)
-  n₂ = be8-same t u (a + 24) (b + 24) (off 24 8 (omega arith))
+  n₂ = big-same 8 t u (a + 24) (b + 24) (off 24 8 (omega arith))
 
   entry-same : entryOf t a ≡ entryOf u b
   unfolding entryOf
@@ -80,8 +77,8 @@ module _ (t u : List ℕ) (a b : ℕ) (ht : a + 352 ≤ length t) (hu : b + 352 
       cc (
         n₁,
         n₂,
-        be8-same t u a b (λ k l. h k (omega arith)),
-        be8-same t u (a + 8) (b + 8) (off 8 8 (omega arith)),
+        big-same 8 t u a b (λ k l. h k (omega arith)),
+        big-same 8 t u (a + 8) (b + 8) (off 8 8 (omega arith)),
         part-ext t u (a + 32) (b + 32) m₁ (omega arith) (omega arith) (off 32 m₁ (omega arith)),
         part-ext t u (a + 96) (b + 96) m₂ (omega arith) (omega arith) (off 96 m₂ (omega arith)),
       )

@@ -7,7 +7,8 @@ use native.Mathlib.Omega.{arith}
 use borrow.Author.Count.{below-more}
 use lib.ListN.{length, List·getD-eq-default}
 use Rattle.wire.specs.Codec.{Bytes}
-use Rattle.wire.proofs.Laws.{is-bytes}
+use Rattle.wire.proofs.Laws.{is-bytes, bytes-part}
+use Rattle.wire.proofs.FieldLaws.{big-small}
 use Rattle.map.specs.History.{startOf}
 use Rattle.map.specs.State.{Entry}
 use Rattle.map.specs.Step.{mostKeys, lastVersion}
@@ -18,7 +19,7 @@ use Rattle.table.specs.Found.{entryAt}
 use Rattle.table.specs.Check.{Within, AllWithin, Rising, Differ, CountsWithin, SecondsWithin}
 use Rattle.table.proofs.Lists.{lt-or-ge, length-upto, getD-upto}
 use Rattle.table.proofs.Order.{each-at, each-all, pairs-at, pairs-all}
-use Rattle.table.proofs.Parts.{length-part, bytes-part}
+use Rattle.table.proofs.Parts.{length-part}
 use Rattle.table.proofs.RowLaws.{entry-is, length-entries, last-is, history-is, count-most}
 
 -- a version more, above those passed
@@ -75,10 +76,8 @@ module _ (t : List ℕ) (h : length t ≡ size) (i : ℕ) (l : i < countOf t) wh
 
 -- the numbers of the header
 number-most : (t : List ℕ) (i : ℕ) → Bytes t → numberOf t i < 2 ^ 64
-unfolding numberOf be8
-number-most t i b =
-    let a = numberAt i in
-    omega (arith, b a, b (a + 1), b (a + 2), b (a + 3), b (a + 4), b (a + 5), b (a + 6), b (a + 7))
+unfolding numberOf
+number-most t i b = big-small 8 t (numberAt i) b
 
 counts-within : (t : List ℕ) → CountsWithin t → Counts (historyOf t)
 unfolding historyOf

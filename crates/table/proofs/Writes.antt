@@ -2,7 +2,7 @@
 use mathlib.Core.Path.{_≡_, refl, sym, ap, _∙_}
 use mathlib.Core.List.{List}
 use mathlib.Core.Logic.{inl, inr}
-use Prim.Native.Nat.{ℕ, _+_, _-_, _≤_, _<_, _^_, min}
+use Prim.Native.Nat.{ℕ, _+_, _≤_, _<_, _^_, min}
 use native.Mathlib.Omega.{arith}
 use lib.ListN.{length}
 use lib.Seq.{sets, length-sets}
@@ -10,13 +10,15 @@ use Rattle.message.specs.Request.{keyLimit, valueLimit}
 use Rattle.map.specs.History.{History}
 use Rattle.map.specs.State.{Entry}
 use Rattle.map.specs.Step.{mostKeys}
+use Rattle.wire.specs.Field.{bigEndian}
 use Rattle.wire.specs.Write.{part}
+use Rattle.wire.proofs.FieldLaws.{big-length}
 use Rattle.table.specs.Bytes.{be8, upto}
 use Rattle.table.specs.Memory.{headCount, countIndex, lastIndex, firstIndex, boundIndex, numberAt, placesAt, rowWidth, deadlineStart, keyLengthStart, valueLengthStart, keyStart, valueStart, size, numberOf, placeOf, rowAt, entry, entryOf, countOf, entriesOf, historyOf, Permutation}
-use Rattle.table.specs.Write.{digits, withNumber, withKey, withValue, withEntry}
+use Rattle.table.specs.Write.{withNumber, withKey, withValue, withEntry}
 use Rattle.table.proofs.Lists.{upto-ext}
 use Rattle.wire.proofs.WriteLaws.{sets-part}
-use Rattle.table.proofs.RowLaws.{length-digits, be8-sets, be8-before, SameRow, history-same}
+use Rattle.table.proofs.RowLaws.{be8-sets, be8-before, SameRow, history-same}
 use Rattle.table.proofs.Regions.{Kept, kept-sets, kept-both, kept-wide, be8-kept, part-kept, number-kept, place-kept, row-in, row-from, permutation-same}
 
 abbrev pub Fit : List ℕ → ℕ → Type 0
@@ -32,7 +34,7 @@ fit s f = (omega (arith, s .key), omega (arith, s .value))
 module _ (i x : ℕ) (t : List ℕ) (h : length t ≡ size) (l : i < headCount) where
   pub number-written : Kept (numberAt i) (numberAt i + 8) t (withNumber i x t)
   unfolding withNumber
-  number-written = kept-sets _ _ t (numberAt i) (digits x) (omega arith) (omega (arith, length-digits x)) (omega arith)
+  number-written = kept-sets _ _ t (numberAt i) (bigEndian 8 .enc x) (omega arith) (omega (arith, big-length 8 x)) (omega arith)
 
   pub number-is : x < 2 ^ 64 → numberOf (withNumber i x t) i ≡ x
   unfolding withNumber numberOf
@@ -43,48 +45,48 @@ module _ (a : ℕ) (t : List ℕ) (fits : a + rowWidth ≤ length t) where
   pub key-written : (k : List ℕ) → length k ≤ keyLimit → Kept a (a + rowWidth) t (withKey a k t)
   unfolding withKey
   key-written k hk =
-      let t₁ = sets t (a + keyLengthStart) (digits (length k)) in
-      let l₁ : length t₁ ≡ length t = length-sets t (a + keyLengthStart) (digits (length k)) in
+      let t₁ = sets t (a + keyLengthStart) (bigEndian 8 .enc (length k)) in
+      let l₁ : length t₁ ≡ length t = length-sets t (a + keyLengthStart) (bigEndian 8 .enc (length k)) in
       kept-both
-      (kept-sets _ _ t (a + keyLengthStart) (digits (length k)) (omega arith) (omega (arith, length-digits (length k))) fits)
+      (kept-sets _ _ t (a + keyLengthStart) (bigEndian 8 .enc (length k)) (omega arith) (omega (arith, big-length 8 (length k))) fits)
       (kept-sets _ _ t₁ (a + keyStart) k (omega arith) (omega arith) (omega arith))
 
   pub key-is : (k : List ℕ) → length k ≤ keyLimit → (be8 (withKey a k t) (a + keyLengthStart) ≡ length k) × (part (withKey a k t) (a + keyStart) (length k) ≡ k)
   unfolding withKey
   key-is k hk =
-      let t₁ = sets t (a + keyLengthStart) (digits (length k)) in
-      let l₁ : length t₁ ≡ length t = length-sets t (a + keyLengthStart) (digits (length k)) in (
+      let t₁ = sets t (a + keyLengthStart) (bigEndian 8 .enc (length k)) in
+      let l₁ : length t₁ ≡ length t = length-sets t (a + keyLengthStart) (bigEndian 8 .enc (length k)) in (
         be8-before t₁ (a + keyStart) k (a + keyLengthStart) (omega arith) (omega arith) ∙ be8-sets t (a + keyLengthStart) (length k) (omega arith) (omega arith),
         sets-part k t₁ (a + keyStart) (omega arith),
       )
 
   module _ (v : List ℕ) (n d : ℕ) (hv : length v ≤ valueLimit) where
     abbrev v₁ : List ℕ
-    v₁ = sets t a (digits n)
+    v₁ = sets t a (bigEndian 8 .enc n)
 
     abbrev v₂ : List ℕ
-    v₂ = sets v₁ (a + deadlineStart) (digits d)
+    v₂ = sets v₁ (a + deadlineStart) (bigEndian 8 .enc d)
 
     abbrev v₃ : List ℕ
-    v₃ = sets v₂ (a + valueLengthStart) (digits (length v))
+    v₃ = sets v₂ (a + valueLengthStart) (bigEndian 8 .enc (length v))
 
     l₁ : length v₁ ≡ length t
-    l₁ = length-sets t a (digits n)
+    l₁ = length-sets t a (bigEndian 8 .enc n)
 
     l₂ : length v₂ ≡ length t
-    l₂ = length-sets v₁ (a + deadlineStart) (digits d) ∙ l₁
+    l₂ = length-sets v₁ (a + deadlineStart) (bigEndian 8 .enc d) ∙ l₁
 
     l₃ : length v₃ ≡ length t
-    l₃ = length-sets v₂ (a + valueLengthStart) (digits (length v)) ∙ l₂
+    l₃ = length-sets v₂ (a + valueLengthStart) (bigEndian 8 .enc (length v)) ∙ l₂
 
     numbers-kept : Kept a (a + keyLengthStart) t v₂
     numbers-kept =
         kept-both
-        (kept-sets _ _ t a (digits n) (omega arith) (omega (arith, length-digits n)) (omega arith))
-        (kept-sets _ _ v₁ (a + deadlineStart) (digits d) (omega arith) (omega (arith, length-digits d)) (omega (arith, l₁)))
+        (kept-sets _ _ t a (bigEndian 8 .enc n) (omega arith) (omega (arith, big-length 8 n)) (omega arith))
+        (kept-sets _ _ v₁ (a + deadlineStart) (bigEndian 8 .enc d) (omega arith) (omega (arith, big-length 8 d)) (omega (arith, l₁)))
 
     length-kept : Kept (a + valueLengthStart) (a + keyStart) v₂ v₃
-    length-kept = kept-sets _ _ v₂ (a + valueLengthStart) (digits (length v)) (omega arith) (omega (arith, length-digits (length v))) (omega (arith, l₂))
+    length-kept = kept-sets _ _ v₂ (a + valueLengthStart) (bigEndian 8 .enc (length v)) (omega arith) (omega (arith, big-length 8 (length v))) (omega (arith, l₂))
 
     bytes-kept : Kept (a + valueStart) (a + rowWidth) v₃ (withValue a v n d t)
     unfolding withValue
@@ -120,7 +122,7 @@ module _ (a : ℕ) (t : List ℕ) (fits : a + rowWidth ≤ length t) where
     version-is q =
         be8-kept bytes-kept a (inl (omega arith))
         ∙ be8-kept length-kept a (inl (omega arith))
-        ∙ be8-before v₁ (a + deadlineStart) (digits d) a (omega (arith, l₁, length-digits d)) (omega arith) ∙ be8-sets t a n (omega arith) q
+        ∙ be8-before v₁ (a + deadlineStart) (bigEndian 8 .enc d) a (omega (arith, l₁, big-length 8 d)) (omega arith) ∙ be8-sets t a n (omega arith) q
 
     deadline-is : d < 2 ^ 64 → be8 (withValue a v n d t) (a + deadlineStart) ≡ d
     deadline-is q =

@@ -1,24 +1,20 @@
 -- What is written to the memory: the eight bytes of a number, the numbers of the header, the places, and a row.
 use mathlib.Core.List.{List, [], _∷_, _++_}
 use mathlib.Core.Bool.{Bool, cond, not, _&&_}
-use Prim.Native.Nat.{ℕ, suc, _+_, _-_, _/_, _%_}
+use Prim.Native.Nat.{ℕ, suc, _+_, _-_}
 use lib.ListN.{length}
 use lib.Seq.{sets}
 use lib.Dec.{eqb, ltb}
 use Rattle.map.specs.History.{onward}
 use Rattle.map.specs.Step.{mostKeys}
+use Rattle.wire.specs.Field.{bigEndian}
 use Rattle.wire.specs.Write.{part}
 use Rattle.table.specs.Bytes.{upto, zeros}
 use Rattle.table.specs.Memory.{countIndex, firstIndex, boundIndex, numberAt, placesAt, deadlineStart, keyLengthStart, valueLengthStart, keyStart, valueStart, numberOf, placeOf, rowAt, countOf}
 
--- the eight bytes of a number, the highest first
-unfoldable pub digits : ℕ → List ℕ
-digits x =
-    x / 72057594037927936 % 256 ∷ x / 281474976710656 % 256 ∷ x / 1099511627776 % 256 ∷ x / 4294967296 % 256 ∷ x / 16777216 % 256 ∷ x / 65536 % 256 ∷ x / 256 % 256 ∷ x % 256 ∷ []
-
 -- number i of the header is x
 unfoldable pub withNumber : ℕ → ℕ → List ℕ → List ℕ
-withNumber i x t = sets t (numberAt i) (digits x)
+withNumber i x t = sets t (numberAt i) (bigEndian 8 .enc x)
 
 -- the numbers from i on are ns
 unfoldable pub withNumbers : ℕ → List ℕ → List ℕ → List ℕ
@@ -62,11 +58,11 @@ inOrder t = sets t placesAt (upto (λ i. i) mostKeys)
 
 -- the row at a has another key; and another version, deadline and value
 unfoldable pub withKey : ℕ → List ℕ → List ℕ → List ℕ
-withKey a k t = sets (sets t (a + keyLengthStart) (digits (length k))) (a + keyStart) k
+withKey a k t = sets (sets t (a + keyLengthStart) (bigEndian 8 .enc (length k))) (a + keyStart) k
 
 unfoldable pub withValue : ℕ → List ℕ → ℕ → ℕ → List ℕ → List ℕ
 withValue a v n d t =
-    sets (sets (sets (sets t a (digits n)) (a + deadlineStart) (digits d)) (a + valueLengthStart) (digits (length v))) (a + valueStart) v
+    sets (sets (sets (sets t a (bigEndian 8 .enc n)) (a + deadlineStart) (bigEndian 8 .enc d)) (a + valueLengthStart) (bigEndian 8 .enc (length v))) (a + valueStart) v
 
 -- an entry more, in the first row that is free
 unfoldable pub withEntry : List ℕ → List ℕ → ℕ → ℕ → List ℕ → List ℕ

@@ -4,7 +4,7 @@ ghost use Prim.Native.Nat.{_+_, _≤_, _<_, min};
 ghost use lib.ListN.{length, getD};
 ghost use lib.Seq.{sets};
 ghost use Rattle.table.specs.Bytes.{be8};
-ghost use Rattle.table.specs.Write.{digits};
+ghost use Rattle.wire.specs.Field.{bigEndian};
 
 fn wide(x: u8) -> u64
     ensures { λ r. ⌜ (r ≡ x) × (r < 256) ⌝ }
@@ -56,7 +56,7 @@ pub(crate) fn front(t: &[u8]) -> u64
 // Writes x at index a.
 pub(crate) fn put64(t: &mut [u8], a: usize, x: u64)
     requires { ⌜ a + 8 ≤ length (now t) ⌝ }
-    ensures { λ _. ⌜ now (t .exit) ≡ sets (now (t .entry)) a (digits x) ⌝ }
+    ensures { λ _. ⌜ now (t .exit) ≡ sets (now (t .entry)) a (bigEndian 8 .enc x) ⌝ }
 {
     t[a] = (x / 72057594037927936 % 256) as u8;
     t[a + 1] = (x / 281474976710656 % 256) as u8;

@@ -9,17 +9,17 @@ use native.Mathlib.Omega.{arith}
 use native.Mathlib.Decide.{decLt}
 use lib.ListN.{length, getD, take, drop, set, length-append, length-set, drop-of-length-le}
 use lib.Seq.{sets, drop-cons}
-use lib.Dec.{leb, eqb, lit≤}
+use lib.Dec.{leb, ltb, eqb, lit≤}
 use borrow.Author.Tests.{ltb-true, lt-ltb, leb-true, le-leb, lt-leb, eqb-true, eq-eqb}
 use Rattle.wire.specs.Codec.{whole, more, refused, after, Valid, Bytes, isBytes, empty, byte, raw, guard, seq, as-type, all, readAt}
 use Rattle.wire.specs.Number.{number, vInt, vLong}
-use Rattle.wire.specs.Field.{bigEndian, limited}
+use Rattle.wire.specs.Field.{bigEndian, bigAt, limited}
 use Rattle.wire.specs.Write.{Wrote}
-use Rattle.wire.proofs.Laws.{Laws, and, and-false, after-after, seq-valid, guard-valid, type-valid, seq-laws, guard-laws, type-laws, empty-laws, byte-laws, raw-laws, raw-valid, is-bytes}
+use Rattle.wire.proofs.Laws.{Laws, both, and, and-false, after-after, seq-valid, guard-valid, type-valid, seq-laws, guard-laws, type-laws, empty-laws, byte-laws, raw-laws, raw-valid, is-bytes, bytes-append, bytes-none, bytes-cons, same-read}
 use Rattle.wire.proofs.NumberLaws.{vInt-laws}
 use Rattle.wire.proofs.NumberWrite.{number-bad, int-long}
 use Rattle.wire.proofs.WriteLaws.{sets-after, wrote-seq, wrote-guard, wrote-type}
-use Rattle.wire.proofs.At.{at-seq, at-type, at-guard, at-raw, at-cond}
+use Rattle.wire.proofs.At.{at-front, at-seq, at-type, at-guard, at-raw, at-cond}
 
 -- a number of n bytes
 pub big-laws : (n : ℕ) → Laws (bigEndian n)
@@ -39,12 +39,22 @@ unfolding bigEndian seq byte as-type empty
 big-length zero v = refl
 big-length (suc n) v = length-append (bigEndian n .enc (v / 256)) (v % 256 ∷ []) ∙ (let h = big-length n (v / 256) in omega arith)
 
+pub big-bytes : (n v : ℕ) → Bytes (bigEndian n .enc v)
+unfolding bigEndian seq byte as-type empty
+big-bytes zero v = bytes-none
+big-bytes (suc n) v = bytes-append (bigEndian n .enc (v / 256)) (v % 256 ∷ []) (big-bytes n (v / 256)) (bytes-cons [] (omega arith) bytes-none)
+
 -- any number below 256 to the n has a written form
 pub big-good : (n v : ℕ) → v < 256 ^ n → Valid (bigEndian n) v
 unfolding bigEndian seq byte as-type empty
 big-good zero v h = and (eq-eqb v 0 (omega arith)) refl
 big-good (suc n) v h =
     and (big-good n (v / 256) (omega (arith, pow-suc 256 n))) (lt-ltb (v % 256) 256 (omega arith))
+
+pub big-valid : (n v : ℕ) → Valid (bigEndian n) v → v < 256 ^ n
+unfolding bigEndian seq byte as-type empty
+big-valid zero v h = omega (arith, eqb-true v 0 (both (eqb v 0) true h .0))
+big-valid (suc n) v h = omega (arith, pow-suc 256 n, big-valid n (v / 256) (both (bigEndian n .ok (v / 256)) (ltb (v % 256) 256) h .0))
 
 -- what the next byte makes of the number
 module _ (s : List ℕ) (at : ℕ) where
@@ -59,6 +69,33 @@ module _ (s : List ℕ) (at : ℕ) where
   at-big : (n : ℕ) → readAt (bigEndian (suc n)) s at ≡ after (readAt (bigEndian n) s at) (λ a j. after (readAt byte s j) (λ b k. whole (a * 256 + b) k))
   unfolding bigEndian
   at-big n = simp (at-type, at-seq, after-after)
+
+-- the number at a place is the one that is read there
+module _ (s : List ℕ) (at : ℕ) where
+  pub big-read : (n : ℕ) → at + n ≤ length s → readAt (bigEndian n) s at ≡ whole (bigAt n s at) (at + n)
+  unfolding readAt bigEndian as-type empty bigAt
+  big-read zero h = rw add-zero
+  big-read (suc n) h =
+      let e : at + suc n ≡ at + n + 1 = omega arith in
+      at-big s at n ∙ rw (big-read n (omega arith), at-byte s (at + n) (omega arith), e)
+
+-- what it depends on, and how large it is
+pub big-same : (n : ℕ) (s t : List ℕ) (a b : ℕ) → ((k : ℕ) → k < n → getD s (a + k) 0 ≡ getD t (b + k) 0) → bigAt n s a ≡ bigAt n t b
+unfolding bigAt
+big-same zero s t a b h = refl
+big-same (suc n) s t a b h = rw (big-same n s t a b (λ k l. h k (omega arith)), h n (omega arith))
+
+pub big-small : (n : ℕ) (s : List ℕ) (at : ℕ) → Bytes s → bigAt n s at < 256 ^ n
+unfolding bigAt
+big-small zero s at b = omega arith
+big-small (suc n) s at b = omega (arith, big-small n s at b, b (at + n), pow-suc 256 n)
+
+-- what was written is the number at its place
+pub big-back : (n v : ℕ) → v < 256 ^ n → bigAt n (bigEndian n .enc v) 0 ≡ v
+big-back n v h =
+    let s = bigEndian n .enc v in
+    let r = rw append-nil at (big-laws n .round v [] (big-good n v h)) in
+    same-read (sym (big-read s 0 n (omega (arith, big-length n v))) ∙ at-front (bigEndian n) s ∙ r)
 
 -- between two bytes of a number of several: n of them are read, and make v
 pub record Begun (s : List ℕ) (at n j v : ℕ) : Type 0 where

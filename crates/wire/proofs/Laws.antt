@@ -10,6 +10,7 @@ use lib.Seq.{drop-append-seam, take-append-seam, length-take-le, take-append-le,
 use lib.Dec.{leb, ltb, eqb}
 use borrow.Author.Tests.{ltb-true, leb-true, lt-ltb, le-leb, lt-leb, eqb-true, eq-eqb}
 use Rattle.wire.specs.Codec.{Read, whole, more, refused, after, mapped, Codec, Valid, Bytes, isBytes, empty, refuse, byte, raw, guard, seq, as-type}
+use Rattle.wire.specs.Write.{part}
 
 -- what follows from two equal answers of different kinds
 pub never : {X : Type 0} → _≡_ {A = ℕ} 0 1 → X
@@ -29,6 +30,8 @@ pub record Laws {A : Type 0} (c : Codec A) : Type 0 where
   pub spans : (bs : List ℕ) (a : A) (n : ℕ) → c .dec bs ≡ whole a n → n ≤ length bs
   -- of a value that is not all there, nothing is decided
   pub waits : (a : A) (n : ℕ) → Valid c a → n < length (c .enc a) → c .dec (take n (c .enc a)) ≡ more
+  -- what is written is bytes
+  pub spelt : (a : A) → Valid c a → Bytes (c .enc a)
 
 -- two tests that both hold
 pub both : (x y : Bool) → (x && y) ≡ true → (x ≡ true) × (y ≡ true)
@@ -41,6 +44,43 @@ and p q = rw (p, q)
 pub and-false : (x : Bool) → (x && false) ≡ false
 and-false true = refl
 and-false false = refl
+
+-- a list of bytes, and the test of it
+pub is-bytes : (s : List ℕ) → Bytes s → isBytes s ≡ true
+unfolding isBytes
+is-bytes [] h = refl
+is-bytes (b ∷ s) h = and (lt-ltb b 256 (h 0)) (is-bytes s (λ i. h (suc i)))
+
+pub bytes-are : (s : List ℕ) → isBytes s ≡ true → Bytes s
+unfolding isBytes
+bytes-are [] e i = omega arith
+bytes-are (b ∷ s) e zero = ltb-true b 256 (both (ltb b 256) (isBytes s) e .0)
+bytes-are (b ∷ s) e (suc i) = bytes-are s (both (ltb b 256) (isBytes s) e .1) i
+
+bytes-take : (n : ℕ) (s : List ℕ) → Bytes s → Bytes (take n s)
+bytes-take n s h i = go (decLt i n)
+  where
+    go : Dec (i < n) → getD (take n s) i 0 < 256
+    go (yes l) = rw (getD-take n s i 0 l) (h i)
+    go (no l) = rw (List·getD-eq-default (take n s) 0 {n = i} (omega (arith, length-take n s))) (omega arith)
+
+pub bytes-drop : (n : ℕ) (bs : List ℕ) → Bytes bs → Bytes (drop n bs)
+bytes-drop n bs h i = rw getD-drop (h (n + i))
+
+pub bytes-part : (s : List ℕ) (at n : ℕ) → Bytes s → Bytes (part s at n)
+bytes-part s at n b = bytes-take n (drop at s) (bytes-drop at s b)
+
+pub bytes-append : (a b : List ℕ) → Bytes a → Bytes b → Bytes (a ++ b)
+bytes-append [] b h g i = g i
+bytes-append (x ∷ a) b h g zero = h 0
+bytes-append (x ∷ a) b h g (suc i) = bytes-append a b (λ j. h (suc j)) g i
+
+pub bytes-none : Bytes []
+bytes-none i = omega arith
+
+pub bytes-cons : {x : ℕ} (s : List ℕ) → x < 256 → Bytes s → Bytes (x ∷ s)
+bytes-cons s h g zero = h
+bytes-cons s h g (suc i) = g i
 
 -- a whole answer of `after` comes of two
 pub record Both {A B : Type 0} (r : Read A) (f : A → ℕ → Read B) (b : B) (m : ℕ) : Type 0 where
@@ -90,9 +130,6 @@ passed false x k e = never (cc)
 pub spared : {A : Type 0} {a : A} {n : ℕ} (t : Bool) (x : Read A) (k : ℕ) → cond t (refused k) x ≡ whole a n → (t ≡ false) × (x ≡ whole a n)
 spared true x k e = never (cc)
 spared false x k e = (refl, e)
-
-pub bytes-drop : (n : ℕ) (bs : List ℕ) → Bytes bs → Bytes (drop n bs)
-bytes-drop n bs h i = rw getD-drop (h (n + i))
 
 -- what is said of one whole answer is said of an equal one
 pub moved : {A : Type 0} {c : Codec A} {bs : List ℕ} {a b : A} {n m : ℕ} → Exact c bs a n → whole a n ≡ whole b m → Exact c bs b m
@@ -166,6 +203,9 @@ module _ {A : Type 0} {B : A → Type 0} (c : Codec A) (d : (a : A) → Codec (B
         exact = seq-exact;
         spans = seq-spans;
         waits = seq-waits;
+        spelt = λ p v.
+            let w = seq-valid c d p v in
+            bytes-append (c .enc (p .0)) (d (p .0) .enc (p .1)) (lc .spelt (p .0) (w .0)) (ld (p .0) .spelt (p .1) (w .1));
       }
 
 pub seq-good : {A : Type 0} {B : A → Type 0} (c : Codec A) (d : (a : A) → Codec (B a)) {a : A} {b : B a} → Valid c a → Valid (d a) b → Valid (seq c d) (a, b)
@@ -202,6 +242,7 @@ module _ {A : Type 0} (test : A → Bool) (k : ℕ) (c : Codec A) (lc : Laws c) 
             let q : x .len ≡ n = sized (y .1) in
             omega (arith, q, lc .spans bs (x .val) (x .len) (x .first));
         waits = λ a n v h. rw (lc .waits a n (both (test a) (c .ok a) v .1) h);
+        spelt = λ a v. lc .spelt a (both (test a) (c .ok a) v .1);
       }
 
 -- the same bytes for another type
@@ -236,6 +277,7 @@ module _ {A B : Type 0} (test : B → Bool) (to : A → B) (from : B → A) (c :
             let q : x .len ≡ n = sized (x .then) in
             omega (arith, q, lc .spans bs (x .val) (x .len) (x .first));
         waits = λ b n v h. rw (lc .waits (from b) n (both (test b) (c .ok (from b)) v .1) h);
+        spelt = λ b v. lc .spelt (from b) (both (test b) (c .ok (from b)) v .1);
       }
 
 -- nothing, and no value
@@ -247,6 +289,7 @@ empty-laws =
       exact = λ bs a n h e. moved {n = 0} (record { good = refl; same = refl }) e;
       spans = λ bs a n e. let q : 0 ≡ n = sized e in omega arith;
       waits = λ a n v h. absurd (omega arith);
+      spelt = λ a v. bytes-none;
     }
 
 pub refuse-laws : {A : Type 0} (k : ℕ) → Laws (refuse {A = A} k)
@@ -257,6 +300,7 @@ refuse-laws k =
       exact = λ bs a n h e. never (cc);
       spans = λ bs a n e. never (cc);
       waits = λ a n v h. never (cc);
+      spelt = λ a v. bytes-none;
     }
 
 -- one byte
@@ -277,26 +321,14 @@ byte-waits a (suc n) h = absurd (omega arith)
 
 pub byte-laws : Laws byte
 unfolding byte
-byte-laws = record { round = λ a t v. refl; exact = byte-exact; spans = byte-spans; waits = λ a n v h. byte-waits a n h }
-
--- a list of bytes, and the test of it
-pub is-bytes : (s : List ℕ) → Bytes s → isBytes s ≡ true
-unfolding isBytes
-is-bytes [] h = refl
-is-bytes (b ∷ s) h = and (lt-ltb b 256 (h 0)) (is-bytes s (λ i. h (suc i)))
-
-pub bytes-are : (s : List ℕ) → isBytes s ≡ true → Bytes s
-unfolding isBytes
-bytes-are [] e i = omega arith
-bytes-are (b ∷ s) e zero = ltb-true b 256 (both (ltb b 256) (isBytes s) e .0)
-bytes-are (b ∷ s) e (suc i) = bytes-are s (both (ltb b 256) (isBytes s) e .1) i
-
-pub bytes-take : (n : ℕ) (s : List ℕ) → Bytes s → Bytes (take n s)
-bytes-take n s h i = go (decLt i n)
-  where
-    go : Dec (i < n) → getD (take n s) i 0 < 256
-    go (yes l) = rw (getD-take n s i 0 l) (h i)
-    go (no l) = rw (List·getD-eq-default (take n s) 0 {n = i} (omega (arith, length-take n s))) (omega arith)
+byte-laws =
+    record {
+      round = λ a t v. refl;
+      exact = byte-exact;
+      spans = byte-spans;
+      waits = λ a n v h. byte-waits a n h;
+      spelt = λ a v. bytes-cons [] (ltb-true a 256 v) bytes-none;
+    }
 
 -- n bytes as they are
 module _ (n : ℕ) where
@@ -332,7 +364,13 @@ module _ (n : ℕ) where
   pub raw-laws : Laws (raw n)
   unfolding raw
   raw-laws =
-      record { round = λ a t v. raw-round a t (raw-valid a v .0); exact = raw-exact; spans = raw-spans; waits = λ a m v h. raw-waits a m (raw-valid a v .0) h }
+      record {
+        round = λ a t v. raw-round a t (raw-valid a v .0);
+        exact = raw-exact;
+        spans = raw-spans;
+        waits = λ a m v h. raw-waits a m (raw-valid a v .0) h;
+        spelt = λ a v. bytes-are a (raw-valid a v .1);
+      }
 
 pub raw-good : (s : List ℕ) → Bytes s → Valid (raw (length s)) s
 unfolding raw

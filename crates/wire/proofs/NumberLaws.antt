@@ -10,7 +10,7 @@ use lib.Dec.{leb, ltb, lit≤}
 use borrow.Author.Tests.{ltb-true, ltb-false, leb-true, lt-ltb, le-ltb, le-leb}
 use Rattle.wire.specs.Codec.{whole, more, refused, after, Valid, Bytes}
 use Rattle.wire.specs.Number.{numberDec, numberEnc, limit, number, vInt, vLong}
-use Rattle.wire.proofs.Laws.{Exact, Laws, never, both, and, after-whole, passed, spared, sized, moved}
+use Rattle.wire.proofs.Laws.{Exact, Laws, never, both, and, after-whole, passed, spared, sized, moved, bytes-none, bytes-cons}
 
 pub limit-pos : (top c : ℕ) → 1 ≤ limit top c
 limit-pos top zero = suc-le-suc zero-le
@@ -106,20 +106,30 @@ module _ (k top : ℕ) where
           let z : suc (x .len) ≡ n = sized (x .then) in
           omega (arith, ih (x .val) (x .len) (x .first))
 
-  pub number-laws : (c lo : ℕ) → lo ≤ 128 → Laws (number k top c lo)
+  spelt : (c v : ℕ) → top < 256 → v < limit top c → Bytes (numberEnc c v)
+  unfolding numberEnc
+  spelt zero v t h = bytes-cons [] (omega arith) bytes-none
+  spelt (suc c) v t h = go (ltb v 128) refl (spelt c (v / 128) t (omega arith))
+    where
+      go : (b : Bool) → ltb v 128 ≡ b → Bytes (numberEnc c (v / 128)) → Bytes (cond b (v ∷ []) ((128 + v % 128) ∷ numberEnc c (v / 128)))
+      go true e f = let l = ltb-true v 128 e in bytes-cons [] (omega arith) bytes-none
+      go false e f = bytes-cons (numberEnc c (v / 128)) (omega arith) f
+
+  pub number-laws : (c lo : ℕ) → lo ≤ 128 → top < 256 → Laws (number k top c lo)
   unfolding number
-  number-laws c lo o =
+  number-laws c lo o u =
       record {
         round = λ v t g. let h = valid c lo v g in round c lo v t (h .0) (h .1);
         exact = exact c lo o;
         spans = spans c lo;
         waits = λ v n g h. let w = valid c lo v g in waits c lo v n (w .0) (w .1) h;
+        spelt = λ v g. spelt c v u (valid c lo v g .1);
       }
 
 pub vInt-laws : Laws vInt
 unfolding vInt
-vInt-laws = number-laws 5 0x0f 4 0 (lit≤ tt)
+vInt-laws = number-laws 5 0x0f 4 0 (lit≤ tt) (lit≤ tt)
 
 pub vLong-laws : Laws vLong
 unfolding vLong
-vLong-laws = number-laws 2 0x7f 8 0 (lit≤ tt)
+vLong-laws = number-laws 2 0x7f 8 0 (lit≤ tt) (lit≤ tt)

@@ -2,6 +2,7 @@
 use mathlib.Core.List.{List, [], _∷_, _++_}
 use mathlib.Core.Path.{_≡_}
 use mathlib.Core.Bool.{Bool, true, false, cond, _&&_}
+use mathlib.Core.Option.{Option, none, some}
 use Prim.Native.Nat.{ℕ, _+_, _<_}
 use lib.ListN.{length, getD, take, drop}
 use lib.Dec.{leb, ltb, eqb}
@@ -22,6 +23,12 @@ after (refused k) f = refused k
 -- what was read, told in another way: of a whole value a, which ends at n, as `f a n`
 unfoldable pub mapped : {A B : Type 0} → (A → ℕ → B) → Read A → Read B
 mapped f r = after r (λ a n. whole (f a n) n)
+
+-- a value that takes all n bytes
+abbrev pub exactly : {A : Type 0} → ℕ → Read A → Option A
+exactly n (whole a m) = cond (eqb m n) (some a) none
+exactly n more = none
+exactly n (refused k) = none
 
 pub record Codec (A : Type 0) : Type 1 where
   pub enc : A → List ℕ

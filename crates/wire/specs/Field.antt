@@ -1,7 +1,7 @@
 -- Fields made of bytes and numbers.
 use mathlib.Core.List.{List}
 use Prim.Native.Nat.{ℕ, zero, suc, _+_, _*_, _/_, _%_}
-use lib.ListN.{length}
+use lib.ListN.{length, getD}
 use lib.Dec.{leb, eqb}
 use Rattle.wire.specs.Codec.{Codec, empty, byte, raw, guard, seq, as-type, all}
 use Rattle.wire.specs.Number.{vInt}
@@ -10,6 +10,11 @@ use Rattle.wire.specs.Number.{vInt}
 unfoldable pub bigEndian : ℕ → Codec ℕ
 bigEndian zero = as-type (λ v. eqb v 0) (λ u. 0) (λ v. tt) empty
 bigEndian (suc n) = as-type all (λ p. p .0 * 256 + p .1) (λ v. (v / 256, v % 256)) (seq (bigEndian n) (λ _. byte))
+
+-- the number that n bytes from a place on spell so; those behind the end count as 0
+unfoldable pub bigAt : ℕ → List ℕ → ℕ → ℕ
+bigAt zero s at = 0
+bigAt (suc n) s at = bigAt n s at * 256 + getD s (at + n) 0
 
 -- "Entry version: 8 bytes, highest first. In a message any eight bytes are one."
 abbrev pub entryVersion : Codec ℕ

@@ -3,10 +3,9 @@ use mathlib.Core.Path.{_≡_, refl, sym, ap, _∙_}
 use mathlib.Core.Option.{none, some}
 use lib.ListN.{length}
 use borrow.Author.Tests.{eq-eqb, ne-eqb}
-use Rattle.wire.specs.Codec.{whole, more, readAt}
+use Rattle.wire.specs.Codec.{whole, more, exactly, readAt}
 use Rattle.wire.specs.Field.{bigEndian, limited}
 use Rattle.stored.specs.File.{form1, entryLine}
-use Rattle.stored.specs.StoreLoad.{exactly}
 use Rattle.message.specs.Request.{keyLimit, valueLimit}
 use Rattle.wire.proofs.Laws.{after-after}
 use Rattle.field.proofs.Parts.{span-stops, limited-in}

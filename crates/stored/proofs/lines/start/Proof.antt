@@ -3,10 +3,9 @@ use mathlib.Core.Path.{_≡_, refl, sym, _∙_}
 use mathlib.Core.Option.{none, some}
 use lib.ListN.{length}
 use borrow.Author.Tests.{eq-eqb, ne-eqb}
-use Rattle.wire.specs.Codec.{whole, more, byte, readAt}
+use Rattle.wire.specs.Codec.{whole, more, exactly, byte, readAt}
 use Rattle.wire.specs.Field.{bigEndian}
 use Rattle.stored.specs.File.{form1, headLine}
-use Rattle.stored.specs.StoreLoad.{exactly}
 use Rattle.stored.proofs.LoadLaws.{head-at}
 use borrow.Author.Needs.{needs}
 use Rattle.stored.proofs.lines.start.Statement.{statement}

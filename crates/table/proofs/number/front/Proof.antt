@@ -1,12 +1,11 @@
 -- `table::number::front` meets its contract. Assumes nothing.
 use native.Mathlib.Omega.{arith}
-use Rattle.table.specs.Bytes.{be8}
+use Rattle.table.proofs.RowLaws.{eight-at}
 use Rattle.table.proofs.number.front.Statement.{statement}
 use Rattle.table.proofs.number.front.Tie as tie
 
 returns : tie.Need-returns
-unfolding be8
-returns c = cc
+returns c = rw eight-at (cc)
 
 pub front-spec : {M : Type 1} → statement M
 front-spec =

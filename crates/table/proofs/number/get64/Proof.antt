@@ -1,12 +1,11 @@
 -- `table::number::get64` meets its contract. Assumes nothing.
 use native.Mathlib.Omega.{arith}
-use Rattle.table.specs.Bytes.{be8}
+use Rattle.table.proofs.RowLaws.{eight-at}
 use Rattle.table.proofs.number.get64.Statement.{statement}
 use Rattle.table.proofs.number.get64.Tie as tie
 
 returns : tie.Need-returns
-unfolding be8
-returns c = cc
+returns c = rw eight-at (cc)
 
 pub get64-spec : {M : Type 1} → statement M
 get64-spec =

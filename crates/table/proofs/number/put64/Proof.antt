@@ -3,8 +3,7 @@ use mathlib.Core.Path.{_≡_}
 use Prim.Native.Nat.{suc, _+_}
 use native.Mathlib.Omega.{arith}
 use lib.ListN.{length-set}
-use lib.Seq.{sets-eq, sets}
-use Rattle.table.specs.Write.{digits}
+use Rattle.table.proofs.RowLaws.{eight}
 use Rattle.table.proofs.number.put64.Statement.{statement}
 use Rattle.table.proofs.number.put64.Tie as tie
 
@@ -33,7 +32,6 @@ same-length : tie.Need-same-length
 same-length c = simp length-set
 
 returns : tie.Need-returns
-unfolding digits
 returns c =
     let a = c .args .a in
     let e₁ : suc a ≡ a + 1 = omega arith in
@@ -43,7 +41,7 @@ returns c =
     let e₅ : suc (suc (suc (suc (suc a)))) ≡ a + 5 = omega arith in
     let e₆ : suc (suc (suc (suc (suc (suc a))))) ≡ a + 6 = omega arith in
     let e₇ : suc (suc (suc (suc (suc (suc (suc a)))))) ≡ a + 7 = omega arith in
-    cc
+    rw (eight (c .args .x)) (cc)
 
 pub put64-spec : {M : Type 1} → statement M
 put64-spec =

@@ -4,7 +4,7 @@ ghost use Prim.Native.Nat.{_+_, _≤_, _<_, min};
 ghost use lib.ListN.{length, getD};
 ghost use lib.Seq.{sets};
 ghost use Rattle.table.specs.Bytes.{be8};
-ghost use Rattle.wire.specs.Field.{bigEndian};
+ghost use Rattle.wire.specs.Field.{bigEndian, bigAt};
 
 fn wide(x: u8) -> u64
     ensures { λ r. ⌜ (r ≡ x) × (r < 256) ⌝ }
@@ -12,20 +12,24 @@ fn wide(x: u8) -> u64
     x as u64
 }
 
-// The number at index a.
-pub(crate) fn get64(t: &[u8], a: usize) -> u64
-    requires { ⌜ a + 8 ≤ length (now t) ⌝ }
-    ensures { λ r. ⌜ r ≡ be8 (now (t .entry)) a ⌝ }
+// The number of four bytes at index a.
+fn get32(t: &[u8], a: usize) -> u64
+    requires { ⌜ a + 4 ≤ length (now t) ⌝ }
+    ensures { λ r. ⌜ (r ≡ bigAt 4 (now (t .entry)) a) × (r < 0x1_0000_0000) ⌝ }
 {
     let b0 = wide(t[a]);
     let b1 = wide(t[a + 1]);
     let b2 = wide(t[a + 2]);
     let b3 = wide(t[a + 3]);
-    let b4 = wide(t[a + 4]);
-    let b5 = wide(t[a + 5]);
-    let b6 = wide(t[a + 6]);
-    let b7 = wide(t[a + 7]);
-    ((((((b0 * 256 + b1) * 256 + b2) * 256 + b3) * 256 + b4) * 256 + b5) * 256 + b6) * 256 + b7
+    ((b0 * 256 + b1) * 256 + b2) * 256 + b3
+}
+
+// The number of eight bytes at index a.
+pub(crate) fn get64(t: &[u8], a: usize) -> u64
+    requires { ⌜ a + 8 ≤ length (now t) ⌝ }
+    ensures { λ r. ⌜ r ≡ be8 (now (t .entry)) a ⌝ }
+{
+    get32(t, a) * 0x1_0000_0000 + get32(t, a + 4)
 }
 
 // The byte at index i; 0 behind the end.
@@ -38,19 +42,34 @@ fn byte_or_0(t: &[u8], i: usize) -> u64
     0
 }
 
+// The number of four bytes at index a; those behind the end count as 0.
+fn get32_or_0(t: &[u8], a: usize) -> u64
+    requires { ⌜ a ≤ 4 ⌝ }
+    ensures { λ r. ⌜ (r ≡ bigAt 4 (now (t .entry)) a) × (r < 0x1_0000_0000) ⌝ }
+{
+    let b0 = byte_or_0(t, a);
+    let b1 = byte_or_0(t, a + 1);
+    let b2 = byte_or_0(t, a + 2);
+    let b3 = byte_or_0(t, a + 3);
+    ((b0 * 256 + b1) * 256 + b2) * 256 + b3
+}
+
 // The number at the front of bytes that may be fewer than eight; those behind the end count as 0.
 pub(crate) fn front(t: &[u8]) -> u64
     ensures { λ r. ⌜ r ≡ be8 (now (t .entry)) 0 ⌝ }
 {
-    let b0 = byte_or_0(t, 0);
-    let b1 = byte_or_0(t, 1);
-    let b2 = byte_or_0(t, 2);
-    let b3 = byte_or_0(t, 3);
-    let b4 = byte_or_0(t, 4);
-    let b5 = byte_or_0(t, 5);
-    let b6 = byte_or_0(t, 6);
-    let b7 = byte_or_0(t, 7);
-    ((((((b0 * 256 + b1) * 256 + b2) * 256 + b3) * 256 + b4) * 256 + b5) * 256 + b6) * 256 + b7
+    get32_or_0(t, 0) * 0x1_0000_0000 + get32_or_0(t, 4)
+}
+
+// Writes the low four bytes of x at index a.
+fn put32(t: &mut [u8], a: usize, x: u64)
+    requires { ⌜ a + 4 ≤ length (now t) ⌝ }
+    ensures { λ _. ⌜ now (t .exit) ≡ sets (now (t .entry)) a (bigEndian 4 .enc x) ⌝ }
+{
+    t[a] = (x / 16777216 % 256) as u8;
+    t[a + 1] = (x / 65536 % 256) as u8;
+    t[a + 2] = (x / 256 % 256) as u8;
+    t[a + 3] = (x % 256) as u8;
 }
 
 // Writes x at index a.
@@ -58,14 +77,8 @@ pub(crate) fn put64(t: &mut [u8], a: usize, x: u64)
     requires { ⌜ a + 8 ≤ length (now t) ⌝ }
     ensures { λ _. ⌜ now (t .exit) ≡ sets (now (t .entry)) a (bigEndian 8 .enc x) ⌝ }
 {
-    t[a] = (x / 72057594037927936 % 256) as u8;
-    t[a + 1] = (x / 281474976710656 % 256) as u8;
-    t[a + 2] = (x / 1099511627776 % 256) as u8;
-    t[a + 3] = (x / 4294967296 % 256) as u8;
-    t[a + 4] = (x / 16777216 % 256) as u8;
-    t[a + 5] = (x / 65536 % 256) as u8;
-    t[a + 6] = (x / 256 % 256) as u8;
-    t[a + 7] = (x % 256) as u8;
+    put32(t, a, x / 0x1_0000_0000);
+    put32(t, a + 4, x);
 }
 
 // The number at index a, or `most` if it is above that.

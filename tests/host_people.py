@@ -5,9 +5,10 @@ import shutil
 import socket
 import subprocess
 import threading
+import time
 
-from board_frames import (BULK_GET, BULK_GET_KEYS, CLEAR, CONTAINS_KEY, GET, GET_WITH_VERSION, PING, PUT, PUT_IF_ABSENT, REMOVE, REMOVE_IF_UNMODIFIED, REPLACE, REPLACE_IF_UNMODIFIED, STATS,
-                          entry_line, frame, head_line)
+from board_frames import (BULK_GET, BULK_GET_KEYS, CLEAR, CONTAINS_KEY, GET, GET_WITH_VERSION, LARGEST_DEADLINE, PING, PUT, PUT_IF_ABSENT, REMOVE, REMOVE_IF_UNMODIFIED, REPLACE,
+                          REPLACE_IF_UNMODIFIED, STATS, entry_line, frame, head_line)
 from host_run import BOARD, Bench, HOST, Host, SECONDS, TOP, demand, read_file, run_part, write_file
 
 CONTROL, BYTES = b'a\nb', b'\xff\x00'.replace(b'\x00', b'\x80')
@@ -142,11 +143,19 @@ def lines(bench):
     return len(ENCODED) + 4
 
 
+def date(second):
+    return time.strftime('%Y-%m-%d %H:%M:%S UTC', time.gmtime(second))
+
+
 def show(bench):
-    """A stored table in words, also while it is served; what stores no table is told and left as it is."""
-    tables = [(head_line(0), 'there are no entries\n'), (head_line(300) + entry_line(7, b'b1', b'Ida', 104) + entry_line(260, b'\xff', b''), 'version 7: b1: Ida\nversion 260: 0xff: (empty)\n'),
+    """A stored table in words, also while it is served, with deadlines as dates; what stores no table is told and left as it is."""
+    now = int(time.time())
+    ends = [(104, 'expired 1970-01-01 00:01:44 UTC'), (now, f'expired {date(now)}'), (now + 1000, f'until {date(now + 1000)}'), (LARGEST_DEADLINE, 'until 2242-03-16 12:56:30 UTC')]
+    tables = [(head_line(0), 'there are no entries\n'), (head_line(300) + entry_line(7, b'b1', b'Ida') + entry_line(260, b'\xff', b''), 'version 7: b1: Ida\nversion 260: 0xff: (empty)\n'),
               (head_line(128) + b''.join(entry_line(at + 1, b'%d' % at, b'v' * 256) for at in range(128)),
-               ''.join(f'version {at + 1}: {at}: {"v" * 256}\n' for at in range(128)))]
+               ''.join(f'version {at + 1}: {at}: {"v" * 256}\n' for at in range(128))),
+              (head_line(9) + b''.join(entry_line(at + 1, b'%d' % at, b'v', deadline) for at, (deadline, _) in enumerate(ends)),
+               ''.join(f'version {at + 1}, {words}: {at}: v\n' for at, (_, words) in enumerate(ends)))]
     for at, (data, wanted) in enumerate(tables):
         with Host(bench.table(f'show{at}', data)) as host:
             done = run(['show', host.table])

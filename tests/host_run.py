@@ -272,11 +272,11 @@ def read_reply(data, operation, flag):
     return reply
 
 
-def reference(frames, table=None):
-    """What the second program answers to each request, as bytes, or the line where it is none; and its table."""
+def reference(frames, table=None, second=0):
+    """What the second program answers to each request at a second, as bytes, or the line where it is none; and its table."""
     with tempfile.TemporaryDirectory() as at:
         requests, path = os.path.join(at, 'requests'), os.path.join(at, 'table')
-        write_file(requests, b''.join(line(one) for one in frames))
+        write_file(requests, b''.join(line(one, second) for one in frames))
         if table is not None:
             write_file(path, table)
         done = subprocess.run([REFERENCE, 'serve', requests, path], check=True, capture_output=True)

@@ -217,7 +217,7 @@ impl Batch {
 mod tests {
     use super::*;
     use crate::border::library::write_request;
-    use crate::command::{Command, BULK_GET, OPERATIONS, PUT};
+    use crate::command::{BULK_GET, GET_WITH_VERSION, OPERATIONS, PUT};
     use crate::limits::{KEY_LIMIT, LONGEST_BULK, LONGEST_REQUEST, TABLE_KEYS, VALUE_LIMIT};
 
     /// Numbers that look like chance, the same each time.
@@ -313,14 +313,19 @@ mod tests {
         assert!(seen.iter().all(|count| *count > 50), "{seen:?}");
     }
 
+    fn request(operation: u8, key: &[u8], value: &[u8]) -> Vec<u8> {
+        let mut out = vec![0; LONGEST_REQUEST];
+        let numbers = [1, 12, u64::from(operation), 0, 1, 0, 0, 0, 0, 0];
+        let size = write_request(&mut out, &numbers, key, value).unwrap();
+        out[..size].to_vec()
+    }
+
     /// A table with the longest bulk reply.
     fn full_table() -> Table {
         let (mut table, mut replies) = (Table::fresh(), vec![0; REPLIES]);
         for at in 0..TABLE_KEYS {
-            let (key, mut out) = ([at as u8; KEY_LIMIT], vec![0; LONGEST_REQUEST]);
-            let numbers = [7, 12, u64::from(PUT), 0, 1, 0, 0, 0, 0, 0];
-            let size = write_request(&mut out, &numbers, &key, &[b'v'; VALUE_LIMIT]).unwrap();
-            table.serve_stream(&out[..size], 5, &mut replies);
+            let put = request(PUT, &[at as u8; KEY_LIMIT], &[b'v'; VALUE_LIMIT]);
+            table.serve_stream(&put, 5, &mut replies);
         }
         table
     }
@@ -328,10 +333,8 @@ mod tests {
     #[test]
     fn no_bulk_request_lacks_room_because_of_others() {
         let mut table = full_table();
-        let get = Command::get_with_version(&[0; KEY_LIMIT])
-            .request()
-            .unwrap();
-        let list = Command::list().request().unwrap();
+        let get = request(GET_WITH_VERSION, &[0; KEY_LIMIT], &[]);
+        let list = request(BULK_GET, &[], &[]);
         let one = [get.repeat(30), list.repeat(2), get].concat();
         let mut inputs = vec![one; 9];
         let mut queue: Vec<usize> = (0..inputs.len()).collect();

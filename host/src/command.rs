@@ -47,7 +47,6 @@ const fn operation(word: &'static str, code: u8, told: Told) -> Operation {
 }
 
 const LIST: Operation = operation("list", BULK_GET, Told::Nothing);
-const GET_VERSION: Operation = operation("getwithversion", GET_WITH_VERSION, Told::Key);
 
 pub const OPERATIONS: [Operation; 14] = [
     operation("put", PUT, Told::KeyAndValue),
@@ -66,7 +65,7 @@ pub const OPERATIONS: [Operation; 14] = [
         Told::KeyAndVersion,
     ),
     operation("contains", CONTAINS_KEY, Told::Key),
-    GET_VERSION,
+    operation("getwithversion", GET_WITH_VERSION, Told::Key),
     operation("clear", CLEAR, Told::Nothing),
     LIST,
     operation("keys", BULK_GET_KEYS, Told::Nothing),
@@ -172,21 +171,8 @@ impl Command {
 
     /// Asks for all entries.
     pub fn list() -> Command {
-        Command::bare(&LIST)
-    }
-
-    /// Asks for the version and the value of a key.
-    pub fn get_with_version(key: &[u8]) -> Command {
         Command {
-            key: key.to_vec(),
-            ..Command::bare(&GET_VERSION)
-        }
-    }
-
-    /// A command with no more than its operation.
-    fn bare(operation: &'static Operation) -> Command {
-        Command {
-            operation,
+            operation: &LIST,
             previous: false,
             key: Vec::new(),
             value: Vec::new(),

@@ -12,6 +12,7 @@ pub mod buffer;
 pub mod client;
 pub mod command;
 pub mod connection;
+pub mod date;
 pub mod failure;
 pub mod hex;
 pub mod keeper;

@@ -1,6 +1,6 @@
 //! `show TABLE`: a stored table in words. The file is read and nothing else is
 //! touched: the library loads it into memory, and is asked there for the
-//! entries and for the version of each.
+//! entries.
 
 use std::fs::{self, File};
 use std::io::{ErrorKind, Read};
@@ -8,6 +8,7 @@ use std::path::Path;
 
 use crate::border::library::{entries, read_reply, Found, Reply, Table};
 use crate::command::Command;
+use crate::date::date;
 use crate::failure::{because, Failure};
 use crate::keeper::broken;
 use crate::limits::{BULK_ROOM, LONGEST_FILE};
@@ -15,23 +16,39 @@ use crate::server::second;
 use crate::words::{of_entry, NO_ENTRIES};
 
 /// The words for the table that a file stores: a line for each entry, with its
-/// version.
+/// version, and with its deadline where it has one.
 pub fn show(path: &Path) -> Result<String, Failure> {
     let bytes = read(path)?;
-    let mut table = Table::load(&bytes)
+    let table = Table::load(&bytes)
         .ok_or_else(|| format!("{}\nThe file was left as it is.", broken(path, &bytes)))?;
-    let listed = ask(&mut table, &Command::list())?;
+    let (reply, listed) = list(table)?;
+    let stored = bytes.split(|byte| *byte == b'\n').skip(1);
     let mut lines = String::new();
-    for entry in entries(&listed.bytes, &listed.reply, true) {
-        let version = ask(&mut table, &Command::get_with_version(entry.0))?
-            .reply
-            .entry_version;
-        lines.push_str(&format!("version {version}: {}\n", of_entry(entry)));
+    for (entry, line) in entries(&listed, &reply, true).into_iter().zip(stored) {
+        let (version, deadline) = (number(&line[..16]), number(&line[16..32]));
+        let words = (of_deadline(deadline), of_entry(entry));
+        lines.push_str(&format!("version {version}{}: {}\n", words.0, words.1));
     }
     if lines.is_empty() {
         lines = format!("{NO_ENTRIES}\n");
     }
     Ok(lines)
+}
+
+/// The words for a deadline; 0 is none.
+fn of_deadline(deadline: u64) -> String {
+    match deadline {
+        0 => String::new(),
+        past if past <= u64::from(second()) => format!(", expired {}", date(past)),
+        _ => format!(", until {}", date(deadline)),
+    }
+}
+
+/// The number in sixteen digits. Such are the version and the deadline with
+/// which the line of an entry begins, in a file that the library has judged.
+fn number(digits: &[u8]) -> u64 {
+    let digits = std::str::from_utf8(digits).unwrap_or_default();
+    u64::from_str_radix(digits, 16).expect("fq_load takes a line without numbers")
 }
 
 /// The bytes of the file, and one more than a stored table has at most where
@@ -52,20 +69,16 @@ fn read(path: &Path) -> Result<Vec<u8>, Failure> {
     Ok(bytes)
 }
 
-/// A reply, and the bytes that it was read from.
-struct Answer {
-    reply: Reply,
-    bytes: Vec<u8>,
-}
-
-/// Asks the table in memory.
-fn ask(table: &mut Table, command: &Command) -> Result<Answer, Failure> {
+/// The reply that lists all entries, in the order of their lines, and its bytes.
+/// At second 0 none of them has expired.
+fn list(mut table: Table) -> Result<(Reply, Vec<u8>), Failure> {
+    let command = Command::list();
     let mut bytes = vec![0; BULK_ROOM];
-    let served = table.serve_stream(&command.request()?, second(), &mut bytes);
+    let served = table.serve_stream(&command.request()?, 0, &mut bytes);
     bytes.truncate(served.replied);
     let asked = command.asked();
     match read_reply(&bytes, asked.operation, asked.previous) {
-        Found::Whole(reply) => Ok(Answer { reply, bytes }),
+        Found::Whole(reply) => Ok((reply, bytes)),
         _ => Err("the library gives no reply".to_string()),
     }
 }

@@ -2,7 +2,9 @@
 import os
 import signal
 import stat
+import statistics
 import subprocess
+import threading
 import time
 
 from board_frames import GET, GET_WITH_VERSION, PING, PUT, entry_line, frame, head_line
@@ -110,6 +112,33 @@ def soon(bench):
     return 3
 
 
+STEADY, MARGIN = 4, 2  # seconds of writes, and how long a loaded machine may take for what is due
+
+
+def steady(bench):
+    """While writes come without a pause, what is not in the file was answered within the last second. The last version that the file has tells how many are there."""
+    with Host(bench.table('steady')) as host, host.connect() as caller:
+        answered, end = [], time.monotonic() + STEADY
+
+        def write():
+            while time.monotonic() < end:
+                caller.call(PUT)
+                answered.append(time.monotonic())
+        writer = threading.Thread(target=write)
+        writer.start()
+        oldest = {}  # by the last version in the file, how old the first write behind it was seen to become
+        while writer.is_alive():
+            now, stored = time.monotonic(), int(read_file(host.table)[2:18], 16)
+            if stored < len(answered):
+                oldest[stored] = now - answered[stored]
+            time.sleep(0.005)
+        demand(len(answered) > 100 * STEADY, 'a steady load', f'only {len(answered)} writes were answered')
+        told = f'the ages at {len(oldest)} stores: {[round(one, 2) for one in oldest.values()]}'
+        demand(max(oldest.values()) < 1 + MARGIN, 'a steady load', f'a write was not stored in time; {told}')
+        demand(statistics.median(oldest.values()) < 1, 'a steady load', f'most writes were not stored in a second; {told}')
+    return len(oldest)
+
+
 def signals(bench):
     """SIGTERM and SIGINT store the table and end the server with status 0, also with connections open."""
     for at, number in enumerate((signal.SIGTERM, signal.SIGINT)):
@@ -204,7 +233,7 @@ def order(bench):
 
 def part():
     with Bench() as bench:
-        return (f'{loads(bench)} tables loaded, {seconds(bench)} deadlines, {broken(bench)} broken, {names(bench)} wrong names and options, {soon(bench)} changes in a second, '
+        return (f'{loads(bench)} tables loaded, {seconds(bench)} deadlines, {broken(bench)} broken, {names(bench)} wrong names and options, {soon(bench)} changes in a second, {steady(bench)} under a steady load, '
                 f'{signals(bench)} signals, {locked(bench)} locks, {rights(bench)} rights, {order(bench)} order of calls')
 
 

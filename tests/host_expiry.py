@@ -53,7 +53,7 @@ def leaves(bench):
         demand(board == wanted, 'before the deadline', f'{board}, wanted {wanted}')
         demand(page == [('b1', 'Ida'), *others], 'before the deadline', f'the page shows {page}')
         until(lambda: now() >= latest, 'the deadline', 'it does not come')
-        until(lambda: on_page(host) == others, 'behind the deadline', f'the page shows {on_page(host)}', seconds=2)
+        until(lambda: on_page(host) == others, 'behind the deadline', 'the page shows it on', seconds=3)
         demand(seen(host) == BEHIND, 'behind the deadline', f'{seen(host)}, wanted {BEHIND}')
         demand(host.stop() == 0, 'the end', host.words())
     stored = read_file(host.table)
@@ -107,7 +107,7 @@ def swept(bench):
             demand(entry_line(3, b'k')[:16] in read_file(host.table), case, 'the file was changed before the call')
             caller.call(PING)
             if sync == 'second':
-                until(lambda: read_file(host.table) == head_line(9) + stays, case, f'two seconds later the file is {short(read_file(host.table))}', seconds=2)
+                until(lambda: read_file(host.table) == head_line(9) + stays, case, 'the file has it on', seconds=3)
             demand(read_file(host.table) == head_line(9) + stays, case, f'the file is {short(read_file(host.table))}')
             first = os.stat(host.table).st_ino
             for _ in range(14):

@@ -9,11 +9,11 @@ import tempfile
 import threading
 import time
 
-from board_frames import PUT, REMOVE
+from board_frames import GET, PUT, REMOVE
 from host_page import HOSTILE, Shown, is_text, rest
 from host_run import Bench, SECONDS, demand, run_part
 
-SIZES = {'wall': '1920,1080', 'phone': '390,844'}
+SIZES = {'wall': '1920,1080', 'phone': '390,844', 'turned': '844,390'}
 LONG = b'Her Serene Highness Princess Wilhelmina Augusta of the Northern Isles'
 SHIPS = [(b'berth/1', b'Ida'), (b'berth/2', 'Äolus, due 14:20'.encode()), (b'berth/9', LONG)]
 
@@ -116,6 +116,22 @@ def same(found, wanted, name):
     demand(found == wanted, name, f'the page shows {found}, wanted {wanted}')
 
 
+def expiring(host, browser, caller, others):
+    """A ship beside others, before its deadline and behind it. It is put before the page asks for data, and still there before it asks the third time."""
+    ship, lifespan, deadline = (b'berth/1', b'Ida'), 10, [0]
+
+    def put():
+        caller.call(PUT, key=ship[0], value=ship[1], lifespan=lifespan)
+        deadline[0] = int(time.time()) + lifespan
+
+    def pass_by():
+        demand(caller.call(GET, key=ship[0]).value == ship[1], 'a ship that expires', 'it was gone before it was seen')
+        time.sleep(max(0, deadline[0] - time.time()))
+
+    same(browser.look(host, 'expires-before', steps={1: put}), (rows_of([ship, *others]), '', 'Live, 3 entries'), 'a ship before its deadline')
+    same(browser.look(host, 'expires-behind', steps={1: put, 3: pass_by}), (rows_of(others), '', 'Live, 2 entries'), 'a ship behind its deadline')
+
+
 def views(bench, browser):
     with Shown(bench.table('views')) as host, host.connect() as caller:
         def put(key, value):
@@ -131,9 +147,11 @@ def views(bench, browser):
         changed = [SHIPS[0], (SHIPS[1][0], b'late'), SHIPS[2]]
         same(browser.look(host, 'changed', steps={3: lambda: put(*changed[1])}), (rows_of(changed), '', 'Live, 3 entries'), 'a value that changes')
         same(browser.look(host, 'leaves', steps={3: lambda: caller.call(REMOVE, key=b'berth/1')}), (rows_of(changed[1:]), '', 'Live, 2 entries'), 'a ship that leaves')
-        rows, word, state = browser.look(host, 'breaks-off', steps={3: lambda: False})
-        same((rows, word), (rows_of(changed[1:]), ''), 'the server goes away')
-        demand(re.fullmatch(r'The server does not answer\. The board is as it was at \d\d:\d\d:\d\d\.', state), 'the server goes away', state)
+        expiring(host, browser, caller, changed[1:])
+        for size in ('wall', 'phone'):
+            rows, word, state = browser.look(host, f'breaks-off-{size}', size, steps={3: lambda: False})
+            same((rows, word), (rows_of(changed[1:]), ''), 'the server goes away')
+            demand(re.fullmatch(r'The server does not answer\. The board is as it was at \d\d:\d\d:\d\d\.', state), 'the server goes away', state)
         back = browser.look(host, 'comes-back', steps={2: lambda: False, 4: lambda: True}, milliseconds=8000)
         same(back, (rows_of(changed[1:]), '', 'Live, 2 entries'), 'the server comes back')
         for key, value in changed[1:]:
@@ -150,7 +168,7 @@ def views(bench, browser):
         same(browser.look(host, 'full'), (rows_of(full), '', 'Live, 128 entries'), 'a full table')
         browser.look(host, 'full-later', milliseconds=12_000)
     with Shown(bench.table('away'), '--connections', '0') as host:
-        same(browser.look(host, 'away', steps={1: lambda: True}), ([], 'The server does not answer.', 'The server does not answer.'), 'a server that is away')
+        same(browser.look(host, 'away', steps={1: lambda: True}), ([], 'The server does not answer.', 'It is asked again each second.'), 'a server that is away')
     return browser.count
 
 

@@ -103,10 +103,10 @@ function tell(away) {
   document.body.classList.toggle("away", away);
   const count = rows.size === 1 ? "1 entry" : `${rows.size} entries`;
   let text = `Live, ${count}`;
-  if (away) {
-    text = "The server does not answer.";
-    if (heard) text += ` The board is as it was at ${time(heard, true)}.`;
-    else word.textContent = "The server does not answer.";
+  if (away && heard) text = `The server does not answer. The board is as it was at ${time(heard, true)}.`;
+  if (away && !heard) {
+    word.textContent = "The server does not answer.";
+    text = "It is asked again each second.";
   }
   if (state.textContent !== text) state.textContent = text;
 }

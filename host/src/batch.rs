@@ -18,6 +18,9 @@ use crate::limits::{BULK_ROOM, REPLY_ROOM};
 
 /// Bytes of the requests served in one call.
 const REQUESTS: usize = 65536;
+/// Requests served in one call. Those that are left without room for their
+/// replies are gathered again, so there are not many more than can be served.
+const MOST: usize = 256;
 /// Bytes of the replies given in one turn.
 pub const REPLIES: usize = 65536;
 /// Bytes of them that are kept for those that are refused, each alone.
@@ -164,7 +167,7 @@ impl Batch {
                 Found::More => return (count, Rest::More),
                 Found::Refused(_) => return (count, Rest::Ended),
             };
-            if self.requests.len() + request.size > REQUESTS {
+            if self.waiting.len() == MOST || self.requests.len() + request.size > REQUESTS {
                 return (count, Rest::Again);
             }
             let end = at + request.size;

@@ -85,7 +85,9 @@ impl Connection {
         if self.output.is_empty() {
             sent = self.write(replies, now)?;
         }
-        self.output.add(&replies[sent..]);
+        if sent < replies.len() {
+            self.output.add(&replies[sent..]);
+        }
         Ok(())
     }
 

@@ -207,7 +207,8 @@ CALLS = {0: 'read', 1: 'write', 44: 'write', 45: 'read', 74: 'fsync', 82: 'renam
 
 
 def order(bench):
-    """Between the request's bytes and the reply's, with --sync always: the file is written and synced, takes its name, and the folder is synced."""
+    """Between the request's bytes and the reply's, with --sync always: the file is written and synced, takes its name, and the folder is synced. Of many puts
+    in one write that is done once, and their replies are one write too."""
     if not can_trace():
         return 0
     told = os.path.join(bench.top, 'calls')
@@ -216,6 +217,9 @@ def order(bench):
     with Host(bench.table('order', OLD), '--sync', 'always', program=PROGRAM, before=before, env=environment) as host, host.connect() as caller:
         caller.call(PUT, key=b'k')
         caller.call(GET, key=b'k')
+        caller.send(frame(PUT, key=b'k') * 20)
+        for _ in range(20):
+            caller.reply(PUT)
         child = int(read_file(f'/proc/{host.run.pid}/task/{host.run.pid}/children').split()[0])
         os.kill(child, signal.SIGTERM)
         host.run.wait(timeout=SECONDS)
@@ -227,8 +231,8 @@ def order(bench):
     seen = [(name, fd == connection) for name, fd, result in calls[start + 1:] if 0 <= result < 1 << 40]
     letters = {True: {'read': 'R', 'write': 'W'}, False: {'write': 'w', 'fsync': 's', 'rename': 'n', 'open': 'o'}}
     names = ''.join(letters[own].get(name, '') for name, own in seen)
-    demand(names.startswith('RowsnsWRW'), 'order of calls', f'{names} is not read, open, write, sync, rename, sync, reply, and a get alone')
-    return 1
+    demand(names.rstrip('w') == 'RowsnsWRWRowsnsW', 'order of calls', f'{names} is not read, open, write, sync, rename, sync, reply; a get alone; and the first again')
+    return 22
 
 
 def part():

@@ -169,6 +169,17 @@ def show(bench):
     return len(tables) + 4
 
 
+def address(bench):
+    """Without --listen and --to it is 127.0.0.1:11222; where somebody has that port, the words of the failure tell it."""
+    with subprocess.Popen([HOST, 'serve', bench.table('address')], stderr=subprocess.PIPE) as server:
+        said = next((line for line in server.stderr if b' on ' in line), b'')
+        answers = b"can't listen" in said or run(['ping']).stdout == b'the server answers\n'
+        server.terminate()
+    demand(re.search(rb" on 127\.0\.0\.1:11222(: .*)?\n", said), 'no --listen', f'it says {said}')
+    demand(answers, 'no --to', 'the server is not asked')
+    return 2
+
+
 TOOLS = ('bash', 'cat', 'find', 'flock', 'mkdir', 'readlink', 'touch')
 
 
@@ -228,7 +239,7 @@ def outputs():
 
 def part():
     with Bench() as bench:
-        return f'{talk(bench) + statistics(bench)} commands, {strange_servers()} strange servers, {lines(bench)} lines, {show(bench)} tables shown, {outputs()} outputs, {script(bench)} of the script, {documents()} commands of README'
+        return f'{talk(bench) + statistics(bench)} commands, {strange_servers()} strange servers, {lines(bench)} lines, {show(bench)} tables shown, {address(bench)} without an address, {outputs()} outputs, {script(bench)} of the script, {documents()} commands of README'
 
 
 if __name__ == '__main__':

@@ -9,7 +9,7 @@ import subprocess
 import time
 
 from board_frames import GET, PUT, entry_line, frame, head_line
-from host_run import Bench, Host, demand, read_file, run_part, short, until, write_file
+from host_run import Bench, Host, SECONDS, demand, read_file, run_part, short, until, write_file
 
 OLD = head_line(4) + entry_line(4, b'k', b'old')
 NEW = head_line(5) + entry_line(5, b'k', b'new')
@@ -53,8 +53,8 @@ def second(bench):
         time.sleep(1.2)  # it is tried again meanwhile
         tidy(host, 'a full disk')
         lift(host)
-        until(lambda: read_file(host.table) == NEW, 'room again', 'the table is not stored', 3)
-        until(lambda: 'the table is stored again' in host.words(), 'room again', 'nothing is said', 3)
+        until(lambda: read_file(host.table) == NEW, 'room again', 'the table is not stored', 5)
+        until(lambda: 'the table is stored again' in host.words(), 'room again', 'nothing is said', 5)
     return 1
 
 
@@ -91,7 +91,7 @@ def ends(bench):
                 demand(host.run.poll() is None, case, f'it ended with {host.run.returncode}, and the change is lost')
                 if room:
                     lift(host)
-                    demand(host.run.wait(timeout=5) == 0 and read_file(host.table) == NEW, case, f'{host.run.returncode} {host.words()}')
+                    demand(host.run.wait(timeout=SECONDS) == 0 and read_file(host.table) == NEW, case, f'{host.run.returncode} {host.words()}')
                 else:
                     demand(host.stop() == 1 and 'ended before the table could be stored' in host.words(), case, f'{host.run.returncode} {host.words()}')
                     tidy(host, case)

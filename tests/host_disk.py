@@ -1,4 +1,4 @@
-"""Part 6: storing fails since the disk is full. The file stays whole; it is said in words, once; and it is stored when there is room again.
+"""Part 6: storing fails since the disk is full, or takes long. The file stays whole; it is said in words, once; and it is stored when there is room again.
 
 A limit on the size of files stands for a full disk, and can be lifted while the server runs; a small tmpfs is filled where mounting is permitted.
 """
@@ -9,7 +9,7 @@ import subprocess
 import time
 
 from board_frames import GET, PUT, entry_line, frame, head_line
-from host_run import Bench, Host, SECONDS, demand, read_file, run_part, short, until, write_file
+from host_run import Bench, Host, SECONDS, TOP, demand, read_file, run_part, short, until, write_file
 
 OLD = head_line(4) + entry_line(4, b'k', b'old')
 NEW = head_line(5) + entry_line(5, b'k', b'new')
@@ -98,6 +98,26 @@ def ends(bench):
     return 4
 
 
+def slow(bench):
+    """A store takes 1.4 seconds. Without --sync always nobody waits for it, and no write is lost at the end; with it the reply comes behind the store."""
+    library = os.path.join(bench.top, 'slow_disk.so')
+    subprocess.run(['gcc', '-O1', '-Wall', '-Wextra', '-shared', '-fPIC', '-o', library, os.path.join(TOP, 'tests/slow_disk.c')], check=True)
+    for sync in ('second', 'always'):
+        case = f'--sync {sync}, a slow disk'
+        with Host(bench.table(f'slow-{sync}', OLD), '--sync', sync, env={**os.environ, 'LD_PRELOAD': library}) as host, host.connect() as caller:
+            times, end = [], time.monotonic() + (3 if sync == 'second' else 0)
+            while not times or time.monotonic() < end:
+                begin = time.monotonic()
+                caller.call(PUT, key=b'k', value=b'%d' % len(times))
+                times.append(time.monotonic() - begin)
+            waited = [one for one in times if one > 0.2]
+            demand((sum(waited) < 1) == (sync == 'second'), case, f'of {len(times)} puts some waited: {waited} seconds')
+            demand(host.stop() == 0, case, host.words())
+            last = head_line(4 + len(times)) + entry_line(4 + len(times), b'k', b'%d' % (len(times) - 1))
+            demand(read_file(host.table) == last, case, f'at the end the file is {short(read_file(host.table))}')
+    return 2
+
+
 def pages(bench):
     """A file system without room, and then with some; nothing where mounting is refused."""
     folder = os.path.join(bench.top, 'disk')
@@ -123,7 +143,7 @@ def pages(bench):
 
 def part():
     with Bench() as bench:
-        return f'{second(bench)} served on, {always(bench)} held until there is room, {ends(bench)} ended on a full disk, {pages(bench)}'
+        return f'{second(bench)} served on, {always(bench)} held until there is room, {ends(bench)} ended on a full disk, {slow(bench)} on a slow one, {pages(bench)}'
 
 
 if __name__ == '__main__':

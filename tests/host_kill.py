@@ -154,7 +154,7 @@ def first_stop(bench, environment):
 def started(bench, environment, stop):
     """Whether a server that is to be killed at this stop waits for connections before."""
     try:
-        with Host(bench.table('calls', OLD), program=PROGRAM, before=(os.environ['KILL_AT'], 'kill', str(stop)), env=environment) as host:
+        with Host(bench.table('calls', OLD), '--sync', 'always', program=PROGRAM, before=(os.environ['KILL_AT'], 'kill', str(stop)), env=environment) as host:
             time.sleep(0.05)
             return host.run.poll() is None
     except Difference:

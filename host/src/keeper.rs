@@ -77,24 +77,24 @@ impl Keeper {
             self.path.display()
         ));
         let table = Table::fresh();
-        self.store(&table)?;
+        self.store(&table.store())?;
         Ok(table)
     }
 
-    /// Whether the file has this table. The files are compared, so that nothing
-    /// has to be known about requests: calls that only count leave it as it is.
-    pub fn has(&self, table: &Table) -> bool {
-        self.stored.as_ref() == Some(&table.store())
+    /// Whether the table's file has these bytes. They are compared, so that
+    /// nothing has to be known about requests: calls that only count leave it as
+    /// it is.
+    pub fn has(&self, bytes: &[u8]) -> bool {
+        self.stored.as_deref() == Some(bytes)
     }
 
-    /// Stores the table. Where it fails, the file is what it was, or the table
-    /// whole.
-    pub fn store(&mut self, table: &Table) -> Result<(), Failure> {
+    /// Stores the table's file. Where it fails, the file is what it was, or has
+    /// all of these bytes.
+    pub fn store(&mut self, bytes: &[u8]) -> Result<(), Failure> {
         let rights = self.rights()?;
-        let bytes = table.store();
         let (beside, file) = self.make_beside(rights.as_ref())?;
         let result = self
-            .write(&file, rights.as_ref(), &bytes)
+            .write(&file, rights.as_ref(), bytes)
             .and_then(|()| fs::rename(&beside, &self.path))
             .and_then(|()| self.folder.sync_all());
         if let Err(error) = result {
@@ -102,7 +102,7 @@ impl Keeper {
             let what = format!("can't store the table {}", self.path.display());
             return Err(because(what, error));
         }
-        self.stored = Some(bytes);
+        self.stored = Some(bytes.to_vec());
         Ok(())
     }
 

@@ -8,6 +8,7 @@ use std::path::Path;
 use std::process::ExitCode;
 use std::time::Duration;
 
+use feyqoolad::border::system::Signals;
 use feyqoolad::client::call;
 use feyqoolad::command::Command;
 use feyqoolad::failure::{because, say, Failure};
@@ -107,11 +108,15 @@ fn serve(given: &[OsString]) -> Result<ExitCode, Failure> {
     let (listener, at) = listen(address)?;
     let page = words.text("page")?.map(listen).transpose()?;
     let (keeper, loaded) = Keeper::open(Path::new(table))?;
-    let server = Server::new(listener, loaded, Saver::new(keeper, sync), limits)
+    // Signals are blocked before any thread begins, so that they come to the server.
+    let server = Signals::new()
+        .and_then(|signals| {
+            let saver = Saver::new(keeper, sync)?;
+            Server::new(listener, signals, loaded, saver, limits)
+        })
         .map_err(|error| because("can't serve", error))?;
     say(format!("serves {} on {at}", table.to_string_lossy()));
     if let Some((listener, shown)) = page {
-        // The server has blocked the signals, and they stay blocked in the page's thread.
         begin(listener, at)?;
         say(format!("shows it on http://{shown}/"));
     }

@@ -1,5 +1,8 @@
 //! When the table is stored, and what is done where that fails.
 
+use std::io;
+use std::sync::mpsc::{sync_channel, Receiver, RecvTimeoutError, SyncSender, TrySendError};
+use std::thread::{self, JoinHandle};
 use std::time::{Duration, Instant};
 
 use crate::border::library::Table;
@@ -22,80 +25,21 @@ pub enum Sync {
     Always,
 }
 
-pub struct Saver {
+/// Stores what is to be the table's file, and says what fails.
+struct Storer {
     keeper: Keeper,
     sync: Sync,
-    /// When the table is to be compared with its file.
-    due: Option<Instant>,
     /// Whether the last store failed.
     failing: bool,
 }
 
-impl Saver {
-    pub fn new(keeper: Keeper, sync: Sync) -> Saver {
-        Saver {
-            keeper,
-            sync,
-            due: None,
-            failing: false,
-        }
-    }
-
-    /// When something is to be done next.
-    pub fn due(&self) -> Option<Instant> {
-        self.due
-    }
-
-    /// Requests were served, and their replies wait. False where a signal came
-    /// before they may go out.
-    pub fn served(&mut self, table: &Table, signals: &mut Signals, now: Instant) -> bool {
-        match self.sync {
-            Sync::Always => self.insist(table, signals),
-            Sync::Second => {
-                self.due.get_or_insert(now + STORE_AFTER);
-                true
-            }
-        }
-    }
-
-    /// Stores the table if that is due. Where it fails, it is due again.
-    pub fn look(&mut self, table: &Table, now: Instant) {
-        if self.due.is_some_and(|due| now >= due) {
-            self.due = (!self.store(table)).then_some(now + TRY_AGAIN);
-        }
-    }
-
-    /// Stores the table at the end.
-    pub fn finish(mut self, table: &Table, signals: &mut Signals) -> Result<(), Failure> {
-        if self.insist(table, signals) {
-            return Ok(());
-        }
-        let lost = match self.sync {
-            Sync::Always => "Every write that was answered is in the file.",
-            Sync::Second => "The changes since the last store are lost.",
-        };
-        Err(format!(
-            "ended before the table could be stored; the file is one whole table.\n{lost}"
-        ))
-    }
-
-    /// Tries to store the table until it works; nothing else is done
-    /// meanwhile. False where a signal came first.
-    fn insist(&mut self, table: &Table, signals: &mut Signals) -> bool {
-        while !self.store(table) {
-            if signals.wait(TRY_AGAIN) {
-                return false;
-            }
-        }
-        true
-    }
-
-    /// Whether the file has the table, after storing it where it has not.
-    fn store(&mut self, table: &Table) -> bool {
-        if self.keeper.has(table) {
+impl Storer {
+    /// Whether the file is this one, after storing it where it is not.
+    fn store(&mut self, file: &[u8]) -> bool {
+        if self.keeper.has(file) {
             return true;
         }
-        let result = self.keeper.store(table);
+        let result = self.keeper.store(file);
         match &result {
             Ok(()) if self.failing => say("the table is stored again"),
             Err(failure) if !self.failing => self.say_failing(failure),
@@ -113,5 +57,120 @@ impl Saver {
         say(format!(
             "{failure}\nThe file is one whole table. Storing is tried again each second. {meanwhile}"
         ));
+    }
+
+    /// Tries to store the table until it works; nothing else is done
+    /// meanwhile. False where a signal came first.
+    fn insist(&mut self, table: &Table, signals: &mut Signals) -> bool {
+        let file = table.store();
+        while !self.store(&file) {
+            if signals.wait(TRY_AGAIN) {
+                return false;
+            }
+        }
+        true
+    }
+
+    /// Stores each file that comes, until none will come. One that can't be
+    /// stored is tried again, unless a later one has come.
+    fn store_all(mut self, files: Receiver<Vec<u8>>) -> Storer {
+        while let Ok(mut file) = files.recv() {
+            while !self.store(&file) {
+                match files.recv_timeout(TRY_AGAIN) {
+                    Ok(later) => file = later,
+                    Err(RecvTimeoutError::Timeout) => {}
+                    Err(RecvTimeoutError::Disconnected) => return self,
+                }
+            }
+        }
+        self
+    }
+}
+
+/// Who stores.
+enum Way {
+    /// The server itself, which waits for the disk.
+    Here(Storer),
+    /// A thread of its own, so that nobody waits for the disk.
+    Beside(SyncSender<Vec<u8>>, JoinHandle<Storer>),
+}
+
+pub struct Saver {
+    way: Way,
+    /// When the table is to be stored.
+    due: Option<Instant>,
+}
+
+impl Saver {
+    /// Signals have to be blocked before, so that they come to the server.
+    pub fn new(keeper: Keeper, sync: Sync) -> io::Result<Saver> {
+        let storer = Storer {
+            keeper,
+            sync,
+            failing: false,
+        };
+        let way = match sync {
+            Sync::Always => Way::Here(storer),
+            Sync::Second => {
+                let (sender, files) = sync_channel(1);
+                let name = thread::Builder::new().name("store".to_string());
+                Way::Beside(sender, name.spawn(move || storer.store_all(files))?)
+            }
+        };
+        Ok(Saver { way, due: None })
+    }
+
+    /// When something is to be done next.
+    pub fn due(&self) -> Option<Instant> {
+        self.due
+    }
+
+    /// Requests were served, and their replies wait. False where a signal came
+    /// before they may go out.
+    pub fn served(&mut self, table: &Table, signals: &mut Signals, now: Instant) -> bool {
+        match &mut self.way {
+            Way::Here(storer) => storer.insist(table, signals),
+            Way::Beside(..) => {
+                self.due.get_or_insert(now + STORE_AFTER);
+                true
+            }
+        }
+    }
+
+    /// Has the table stored if that is due. Where the one before still waits
+    /// for the disk, it is due again.
+    pub fn look(&mut self, table: &Table, now: Instant) {
+        let due = self.due.is_some_and(|due| now >= due);
+        let Way::Beside(sender, _) = &self.way else {
+            return;
+        };
+        if due {
+            self.due = match sender.try_send(table.store()) {
+                Ok(()) => None,
+                Err(TrySendError::Full(_)) => Some(now + STORE_AFTER),
+                Err(TrySendError::Disconnected(_)) => panic!("nobody stores the table"),
+            };
+        }
+    }
+
+    /// Stores the table at the end.
+    pub fn finish(self, table: &Table, signals: &mut Signals) -> Result<(), Failure> {
+        let mut storer = match self.way {
+            Way::Here(storer) => storer,
+            Way::Beside(sender, thread) => {
+                drop(sender);
+                thread.join().expect("nobody stores the table")
+            }
+        };
+        if storer.insist(table, signals) {
+            return Ok(());
+        }
+        let lost = match storer.sync {
+            Sync::Always => "Every write that was answered is in the file.",
+            Sync::Second => "The changes since the last store are lost.",
+        };
+        Err(format!(
+            "ended before the table could be stored; the file is one whole table.\n{lost}"
+        ))
     }
 }

@@ -67,12 +67,12 @@ pub fn second() -> u32 {
 impl Server {
     pub fn new(
         listener: TcpListener,
+        signals: Signals,
         table: Table,
         saver: Saver,
         limits: Limits,
     ) -> io::Result<Server> {
         let poll = Poll::new()?;
-        let signals = Signals::new()?;
         listener.set_nonblocking(true)?;
         poll.add(&listener, LISTENER, READABLE)?;
         poll.add(&signals, SIGNALS, READABLE)?;

@@ -12,7 +12,7 @@ use Rattle.wire.specs.Codec.{Read, Valid}
 use Rattle.wire.proofs.Laws.{never}
 use Rattle.message.specs.Request.{Request, request, isEmpty}
 use Rattle.message.proofs.Sizes.{small}
-use Rattle.map.specs.State.{Entry, State, without, hasKey}
+use Rattle.map.specs.State.{Entry, State, find, without, hasKey}
 use Rattle.map.specs.Deadline.{deadline, expired, standing}
 use Rattle.map.specs.Step as map
 use Rattle.map.specs.Plan.{Change, keep, store, drop, empty}
@@ -38,7 +38,7 @@ use Rattle.service.proofs.Decides.{isSound}
 use Rattle.service.proofs.Sounds.{tells-sound}
 use Rattle.service.proofs.Calls.{within-fits, within-short}
 use Rattle.plan.specs.declared.Held.{Held}
-use Rattle.plan.specs.Plan.{isFull, refusalOf, Holds, HoldsAt, heldVersion, standingAt}
+use Rattle.plan.specs.Plan.{isFull, refusalOf, Holds, HoldsAt, heldVersion, heldAt, standingAt}
 use Rattle.plan.proofs.PlanLaws.{all-stand, version-stands, holds-same}
 use Rattle.server.specs.declared.Answer.{Answer}
 use Rattle.server.specs.CallDone.{callOf, doneOf, Says, Sends}
@@ -159,15 +159,11 @@ pub arrives : (c : Context) (q : Request) {t u : List ℕ} {absent : Bool} → S
     → Left t (arrived (q .op) absent (c .second) t) u → stream-of.Becomes t (some (arrive c q (stateOf t))) u
 arrives c q {u = u} s h e l = let z = arrived-sound s c q (omega arith) {u = u} (rw e l) in (z .1, z .0)
 
--- what is held of the table that is left: all entries there stand at the present second, which is the latest one
+-- what is held of the table that is left: all entries there stand at the present second
 module _ (c : Context) (q : Request) (t : List ℕ) {u : List ℕ} (w : stream-of.Becomes t (some (arrive c q (stateOf t))) u) (x : Held) where
   entries-left : stateOf u .entries ≡ standing (present c (stateOf t)) (stateOf t .entries)
   unfolding arrive noted swept
   entries-left = ap (λ (st : State). st .entries) (w .0)
-
-  latest-left : stateOf u .history .latest ≡ present c (stateOf t)
-  unfolding arrive noted swept
-  latest-left = ap (λ (st : State). st .history .latest) (w .0)
 
   pub held-on : length (stateOf u .entries) ≡ length (stateOf t .entries) → HoldsAt (present c (stateOf t)) t (q .args .key) x → Holds u (q .args .key) x
   held-on l g =
@@ -176,10 +172,9 @@ module _ (c : Context) (q : Request) (t : List ℕ) {u : List ℕ} (w : stream-o
       holds-same t u (q .args .key) (entries-left ∙ e) x
       (all-stand n t (q .args .key) x (subst (Each (Stands n)) e (standing-stand n (stateOf t .entries))) g)
 
-  pub held-again : {n : ℕ} {k : List ℕ} → n ≡ stateOf u .history .latest → k ≡ q .args .key → HoldsAt n u k x → Holds u (q .args .key) x
-  held-again {n} e f g =
-      all-stand n u (q .args .key) x (rw (e, latest-left, entries-left) (standing-stand (present c (stateOf t)) (stateOf t .entries)))
-      (subst (λ k. HoldsAt n u k x) f g)
+  pub held-left : Sound t → HoldsAt (present c (stateOf t)) t (q .args .key) x → heldVersion x ≡ versionOf (heldAt u (q .args .key))
+  unfolding held
+  held-left s g = held-come c q t s x g ∙ ap (λ (st : State). versionOf (find (hasKey (q .args .key)) (st .entries))) (sym (w .0))
 
 -- a step goes by what the code finds before the call is noted
 module _ (c : Context) (q : Request) (st : State) where

@@ -14,6 +14,7 @@ use plan::Change;
 use plan::Held;
 use plan::Judged;
 use request_reader::RequestRead;
+use table::Found;
 use table::Table;
 ghost use mathlib.Core.Path.{_≡_};
 ghost use mathlib.Core.List.{List};
@@ -32,7 +33,7 @@ ghost use Rattle.table.specs.Found.{entryAt};
 ghost use Rattle.table.specs.Change as table;
 ghost use Rattle.service.specs.Serve as stream;
 ghost use Rattle.service.specs.Stream.{Becomes, Serves};
-ghost use Rattle.plan.specs.Plan.{asChange, Holds, HoldsAt, heldAt};
+ghost use Rattle.plan.specs.Plan.{asChange, Holds, HoldsAt, heldAt, heldVersion};
 ghost use Rattle.server.specs.CallDone.{asVerdict, callOf, doneOf, Says, Sends};
 ghost use Rattle.server.specs.Act.{at, isPlain, valueShown, entryShown, sentTo, sentListed, less, replaced, Storable, after, Planned, Agreed, Given, Arrives, Replies, Performs, PerformsWithin};
 
@@ -199,6 +200,20 @@ fn note_call(t: &mut [u8], h: Head, held: Held, second: Second)
     table::arrive(t, op, false, second);
 }
 
+// The row that has the key of an entry held, which may have moved since. Its version is the same.
+fn moved(t: &[u8], key: &[u8], held: Held) -> Held
+    ensures { λ r. ⌜ (heldVersion held ≡ map.versionOf (heldAt (now (t .entry)) (now (key .entry))) → Holds (now (t .entry)) (now (key .entry)) r) ⌝ }
+{
+    let f = table::find(t, key);
+    let Found::At(i) = f else {
+        return Held::Absent;
+    };
+    let Held::Row(_, version) = held else {
+        return Held::Absent;
+    };
+    Held::Row(i, version)
+}
+
 // What a call that is not refused does before its step. It answers where the key is held then: as before where as many entries are held as before, since
 // none went.
 fn arrive(t: &mut [u8], h: Head, key: &[u8], held: Held, second: Second) -> Held
@@ -210,7 +225,7 @@ fn arrive(t: &mut [u8], h: Head, key: &[u8], held: Held, second: Second) -> Held
     if table::count(t) == many {
         return held;
     }
-    plan::held_in(t, key, table::latest(t))
+    moved(t, key, held)
 }
 
 // The table without the row held.

@@ -2,7 +2,7 @@
 use mathlib.Core.Path.{sym, _∙_}
 use Rattle.message.specs.Request.{requestOf}
 use Rattle.server.specs.Act.{at}
-use Rattle.server.proofs.StepLaws.{held-on, held-again}
+use Rattle.server.proofs.StepLaws.{held-on, held-left}
 use borrow.Author.Needs.{needs}
 use Rattle.server.proofs.act.arrive.Statement.{statement}
 use Rattle.server.proofs.act.arrive.Tie as tie
@@ -19,15 +19,13 @@ returns c name k value f s h =
 
 returns-2 : tie.Need-returns-2
 returns-2 c name k value f s h =
-    let l = c .before in
-    let i = l .before .before in
-    let n = i .before in
+    let n = c .before .before .before in
     let w = n .before .before .before .before in
-    let m = w .before .before in
-    let b = m .before .before .before .before in
+    let b = w .before .before .before .before .before .before in
     let q = requestOf (b .args .h) name k value in
     let e = w .note-call .ensures name k value s h in
-    record { table = e; holds = held-again (at (b .args .second .0)) q _ e (c .held-in .result) (l .latest .ensures) f (c .held-in .ensures) }
+    let m = rw f at (c .moved .ensures) in
+    record { table = e; holds = m (held-left (at (b .args .second .0)) q _ e (b .args .held) s h) }
 
 pub arrive-spec : {M : Type 1} → statement M
 arrive-spec =
@@ -38,7 +36,6 @@ arrive-spec =
     (λ c κs. search needs)
     (λ c. search needs)
     returns
-    (λ c κs. search needs)
     (λ c κs. search needs)
     (λ c. search needs)
     returns-2)

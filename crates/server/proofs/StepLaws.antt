@@ -13,22 +13,23 @@ use Rattle.wire.proofs.Laws.{never}
 use Rattle.message.specs.Request.{Request, request, isEmpty}
 use Rattle.message.proofs.Sizes.{small}
 use Rattle.map.specs.State.{Entry, State, find, without, hasKey}
-use Rattle.map.specs.Deadline.{deadline, expired, standing}
+use Rattle.map.specs.Deadline.{deadline, standing}
 use Rattle.map.specs.Step as map
 use Rattle.map.specs.Plan.{Change, keep, store, drop, empty}
 use Rattle.map.specs.Step.{Context, Outcome, answered, lastVersion, entry, stored, isNone, held, versionOf, full, planned, answer, act, core, present, swept, noted, arrive, step}
 use Rattle.map.specs.Table.{Each, IsTable}
 use Rattle.map.specs.Expiry.{Stands}
-use Rattle.map.proofs.Each.{fewer}
 use Rattle.map.proofs.Standing.{standing-stand}
 use Rattle.map.specs.Reply.{flat, pieces}
 use Rattle.table.specs.Memory as memory
-use Rattle.table.specs.Memory.{stateOf, Sound}
+use Rattle.table.specs.Memory.{boundIndex, numberOf, stateOf, Sound}
+use Rattle.table.specs.Sweep.{isDue}
 use Rattle.table.specs.Found.{entryAt, FoundIs}
 use Rattle.table.specs.Change.{Changed, Left, added, renewed, removed, arrived}
 use Rattle.table.specs.declared.Found.the-variants as f
 use Rattle.table.proofs.Lists.{says-yes, says-no}
 use Rattle.table.proofs.Keys.{found-without, found-less}
+use Rattle.table.proofs.Sweeps.{below-bound, not-due}
 use Rattle.table.proofs.Changes.{added-changed, renewed-changed, removed-changed, arrived-sound}
 use Rattle.service.specs.Serve as stream
 use Rattle.service.specs.Serve.{effect, errorPieces, onStep, served}
@@ -129,18 +130,6 @@ module _ (c : Context) (q : Request) (st : State) where
         go false true e = refl
         go false false e = never (cc)
 
--- where as many are left as there were, all are left
-module _ (p : Entry → Bool) where
-  without-same : (es : List Entry) → length (without p es) ≡ length es → without p es ≡ es
-  unfolding without
-  without-same [] h = refl
-  without-same (e ∷ es) h = go (p e) (without-same es) h
-    where
-      go : (b : Bool) → (length (without p es) ≡ length es → without p es ≡ es) → length (cond b (without p es) (e ∷ without p es)) ≡ suc (length es)
-          → cond b (without p es) (e ∷ without p es) ≡ e ∷ es
-      go true ih h = absurd (omega (arith, fewer p es))
-      go false ih h = ap (λ (fs : List Entry). e ∷ fs) (ih (omega arith))
-
 -- a call on a sound table: what the code holds of what stands is what the map finds behind `arrive`
 module _ (c : Context) (q : Request) (t : List ℕ) (s : Sound t) (x : Held) (g : HoldsAt (present c (stateOf t)) t (q .args .key) x) where
   pub held-come : heldVersion x ≡ versionOf (held q (arrive c q (stateOf t)))
@@ -165,12 +154,12 @@ module _ (c : Context) (q : Request) (t : List ℕ) {u : List ℕ} (w : stream-o
   unfolding arrive noted swept
   entries-left = ap (λ (st : State). st .entries) (w .0)
 
-  pub held-on : length (stateOf u .entries) ≡ length (stateOf t .entries) → HoldsAt (present c (stateOf t)) t (q .args .key) x → Holds u (q .args .key) x
-  held-on l g =
+  pub held-on : Sound t → isDue (present c (stateOf t)) t ≡ false → HoldsAt (present c (stateOf t)) t (q .args .key) x → Holds u (q .args .key) x
+  held-on s d g =
       let n = present c (stateOf t) in
-      let e : standing n (stateOf t .entries) ≡ stateOf t .entries = without-same (expired n) (stateOf t .entries) (sym (ap length entries-left) ∙ l) in
-      holds-same t u (q .args .key) (entries-left ∙ e) x
-      (all-stand n t (q .args .key) x (subst (Each (Stands n)) e (standing-stand n (stateOf t .entries))) g)
+      let es = stateOf t .entries in
+      let e = below-bound n (numberOf t boundIndex) es (not-due n t (s .form .long) d) (s .form .bound) in
+      holds-same t u (q .args .key) (entries-left ∙ e) x (all-stand n t (q .args .key) x (subst (Each (Stands n)) e (standing-stand n es)) g)
 
   pub held-left : Sound t → HoldsAt (present c (stateOf t)) t (q .args .key) x → heldVersion x ≡ versionOf (heldAt u (q .args .key))
   unfolding held

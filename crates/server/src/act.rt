@@ -175,17 +175,6 @@ fn respond(
     ended(w, taken, Verdict::Served)
 }
 
-// The present second of a call: the greater of its own and the latest one served.
-fn present_second(t: &[u8], second: Second) -> Second
-    ensures { λ r. ⌜ r .0 ≡ map.present (at (second .0)) (stateOf (now (t .entry))) ⌝ }
-{
-    let latest = table::latest(t);
-    if latest.0 < second.0 {
-        return second;
-    }
-    latest
-}
-
 // Notes a call in the table: what has expired at the present second goes, the call is counted, by its operation and by what is held of what stands, and
 // its second is the first one where none was served before.
 fn note_call(t: &mut [u8], h: Head, held: Held, second: Second)
@@ -214,18 +203,17 @@ fn moved(t: &[u8], key: &[u8], held: Held) -> Held
     Held::Row(i, version)
 }
 
-// What a call that is not refused does before its step. It answers where the key is held then: as before where as many entries are held as before, since
-// none went.
+// What a call that is not refused does before its step. It answers where the key is held then: as before where no entry can have expired.
 fn arrive(t: &mut [u8], h: Head, key: &[u8], held: Held, second: Second) -> Held
     requires { ⌜ second .0 < 0x1_0000_0000 ⌝ }
     ensures { λ r. ⌜ ((name k value : List ℕ) → now (key .entry) ≡ k → Sound (now (t .entry)) → HoldsAt (map.present (at (second .0)) (stateOf (now (t .entry)))) (now (t .entry)) k held → Arrives (now (t .entry)) (requestOf h name k value) (second .0) (now (t .exit)) r) ⌝ }
 {
-    let many = table::count(t);
+    let due = table::is_due(t, table::present(t, second));
     note_call(t, h, held, second);
-    if table::count(t) == many {
-        return held;
+    if due {
+        return moved(t, key, held);
     }
-    moved(t, key, held)
+    held
 }
 
 // The table without the row held.
@@ -307,7 +295,7 @@ pub(crate) fn perform(
         return refuse(out, h.id, 9, n);
     }
     let key = r.key_in(input);
-    let present = present_second(t, second);
+    let present = table::present(t, second);
     let held = plan::held_in(t, key, present);
     let op = h.op;
     let asked = h.entry;

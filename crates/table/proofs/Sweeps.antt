@@ -10,7 +10,7 @@ use native.Mathlib.Omega.{arith}
 use lib.ListN.{length, take, drop, getD}
 use lib.Seq.{take-length, drop-length}
 use lib.Dec.{eqb, leb, ltb}
-use borrow.Author.Tests.{not-true, not-false, leb-false, le-leb, lt-leb, lt-ltb, le-ltb}
+use borrow.Author.Tests.{eq-eqb, not-true, not-false, leb-false, le-leb, lt-leb, lt-ltb, le-ltb}
 use Rattle.wire.proofs.Basics.{pick}
 use Rattle.map.specs.State.{Entry, without}
 use Rattle.map.specs.Deadline.{expired, standing}
@@ -21,7 +21,7 @@ use Rattle.map.proofs.Standing.{standing-all}
 use Rattle.table.specs.Bytes.{be8, upto}
 use Rattle.table.specs.Memory.{countIndex, lastIndex, boundIndex, deadlineStart, size, numberOf, rowAt, entry, entryOf, countOf, entriesOf, historyOf, stateOf, Bounded}
 use Rattle.table.specs.Write.{withNumber, turned, less}
-use Rattle.table.specs.Sweep.{lessExpired, lessAll, rebound, swept}
+use Rattle.table.specs.Sweep.{isDue, lessExpired, lessAll, rebound, swept}
 use Rattle.table.proofs.Lists.{lt-or-ge, removeAt, length-removeAt, length-upto, getD-upto}
 use Rattle.table.proofs.RowLaws.{entries-are, count-most}
 use Rattle.table.proofs.Places.{turned-kept}
@@ -30,30 +30,30 @@ use Rattle.table.proofs.Entries.{one-less}
 use Rattle.table.proofs.Bounds.{rebounds}
 
 -- the first n entries without those that have expired, and the others as they are
-abbrev cleared : ℕ → ℕ → List Entry → List Entry
-cleared now n es = standing now (take n es) ++ drop n es
+abbrev sifted : ℕ → ℕ → List Entry → List Entry
+sifted now n es = standing now (take n es) ++ drop n es
 
 -- one entry more is looked at: it has expired, and goes; or it stands
 module _ (now : ℕ) (d : Entry) where
-  looked-less : (es : List Entry) (i : ℕ) → i < length es → expired now (getD es i d) ≡ true → cleared now i (removeAt i es) ≡ cleared now (suc i) es
+  looked-less : (es : List Entry) (i : ℕ) → i < length es → expired now (getD es i d) ≡ true → sifted now i (removeAt i es) ≡ sifted now (suc i) es
   unfolding without
   looked-less [] i l p = absurd (omega arith)
   looked-less (e ∷ es) zero l p = rw p
   looked-less (e ∷ es) (suc i) l p = go (expired now e) (looked-less es i (omega arith) p)
     where
-      go : (b : Bool) → cleared now i (removeAt i es) ≡ cleared now (suc i) es
+      go : (b : Bool) → sifted now i (removeAt i es) ≡ sifted now (suc i) es
           → cond b (standing now (take i (removeAt i es))) (e ∷ standing now (take i (removeAt i es))) ++ drop i (removeAt i es)
           ≡ cond b (standing now (take (suc i) es)) (e ∷ standing now (take (suc i) es)) ++ drop (suc i) es
       go true h = h
       go false h = ap (λ (fs : List Entry). e ∷ fs) h
 
-  looked-kept : (es : List Entry) (i : ℕ) → i < length es → expired now (getD es i d) ≡ false → cleared now i es ≡ cleared now (suc i) es
+  looked-kept : (es : List Entry) (i : ℕ) → i < length es → expired now (getD es i d) ≡ false → sifted now i es ≡ sifted now (suc i) es
   unfolding without
   looked-kept [] i l p = absurd (omega arith)
   looked-kept (e ∷ es) zero l p = rw p
   looked-kept (e ∷ es) (suc i) l p = go (expired now e) (looked-kept es i (omega arith) p)
     where
-      go : (b : Bool) → cleared now i es ≡ cleared now (suc i) es
+      go : (b : Bool) → sifted now i es ≡ sifted now (suc i) es
           → cond b (standing now (take i es)) (e ∷ standing now (take i es)) ++ drop i es
           ≡ cond b (standing now (take (suc i) es)) (e ∷ standing now (take (suc i) es)) ++ drop (suc i) es
       go true h = h
@@ -76,34 +76,38 @@ clears-from : (t u v : List ℕ) (fs es : List Entry) → Clears t u fs → Clea
 clears-from t u v fs es b c = named c refl (b .last) (b .history) (b .bound)
 
 module _ (now i : ℕ) (t : List ℕ) (s : Shape t) (l : i < countOf t)
-    (rest : (u : List ℕ) → Shape u → i ≤ countOf u → Clears u (lessAll now i u) (cleared now i (entriesOf u))) where
-  clears-more : (b : Bool) → expired now (entryOf t (rowAt t i)) ≡ b → Clears t (lessAll now i (cond b (less i t) t)) (cleared now (suc i) (entriesOf t))
+    (rest : (u : List ℕ) → Shape u → i ≤ countOf u → Clears u (lessAll now i u) (sifted now i (entriesOf u))) where
+  clears-more : (b : Bool) → expired now (entryOf t (rowAt t i)) ≡ b → Clears t (lessAll now i (cond b (less i t) t)) (sifted now (suc i) (entriesOf t))
   clears-more true e =
       let es = entriesOf t in
       let u = less i t in
       let b = one-less t i s l in
       let m : i < length es = omega (arith, long-entries t) in
-      let f : cleared now i (entriesOf u) ≡ cleared now (suc i) es =
-      ap (cleared now i) (b .entries) ∙ looked-less now (entryOf t 0) es i m (ap (expired now) (entry-at t i l) ∙ e) in
+      let f : sifted now i (entriesOf u) ≡ sifted now (suc i) es =
+      ap (sifted now i) (b .entries) ∙ looked-less now (entryOf t 0) es i m (ap (expired now) (entry-at t i l) ∙ e) in
       let n : i ≤ countOf u = omega (arith, long-entries u, ap length (b .entries), length-removeAt i es (entryOf t 0) m) in
-      subst (Clears t (lessAll now i u)) f (clears-from t u (lessAll now i u) (removeAt i es) (cleared now i (entriesOf u)) b (rest u (b .shape) n))
+      subst (Clears t (lessAll now i u)) f (clears-from t u (lessAll now i u) (removeAt i es) (sifted now i (entriesOf u)) b (rest u (b .shape) n))
   clears-more false e =
       let es = entriesOf t in
       let m : i < length es = omega (arith, long-entries t) in
       subst (Clears t (lessAll now i t)) (looked-kept now (entryOf t 0) es i m (ap (expired now) (entry-at t i l) ∙ e)) (rest t s (omega arith))
 
-clears : (now n : ℕ) (t : List ℕ) → Shape t → n ≤ countOf t → Clears t (lessAll now n t) (cleared now n (entriesOf t))
+clears : (now n : ℕ) (t : List ℕ) → Shape t → n ≤ countOf t → Clears t (lessAll now n t) (sifted now n (entriesOf t))
 unfolding lessAll lessExpired without
 clears now zero t s l = record { shape = s; entries = refl; last = refl; history = refl; bound = refl }
 clears now (suc i) t s l = clears-more now i t s l (λ u. clears now i u) (expired now (entryOf t (rowAt t i))) refl
 
-all-cleared : (now n : ℕ) (es : List Entry) → length es ≡ n → cleared now n es ≡ standing now es
-all-cleared now n es e = rw (← e, take-length, drop-length, append-nil)
+all-sifted : (now n : ℕ) (es : List Entry) → length es ≡ n → sifted now n es ≡ standing now es
+all-sifted now n es e = rw (← e, take-length, drop-length, append-nil)
 
 -- memory that is swept: the entries that stand, and a bound of their deadlines
 pub record Sweeps (now : ℕ) (t u : List ℕ) : Type 0 where
   pub contains : Contains u (standing now (entriesOf t)) (numberOf t lastIndex) (historyOf t) (numberOf u boundIndex)
   pub bounds : Each (Bounded (numberOf u boundIndex)) (standing now (entriesOf t))
+
+-- below a bound every entry stands
+pub below-bound : (now b : ℕ) (es : List Entry) → now < b → Each (Bounded b) es → standing now es ≡ es
+below-bound now b es l h = standing-all now es (each-map (Bounded b) (Stands now) (λ e f q. omega (arith, f q)) es h)
 
 module _ (now : ℕ) (t : List ℕ) (s : Shape t) (h : Each (Bounded (numberOf t boundIndex)) (entriesOf t)) where
   abbrev es : List Entry
@@ -112,14 +116,13 @@ module _ (now : ℕ) (t : List ℕ) (s : Shape t) (h : Each (Bounded (numberOf t
   scanned : Sweeps now t (rebound (lessAll now (countOf t) t))
   scanned =
       let v = lessAll now (countOf t) t in
-      let k = subst (Clears t v) (all-cleared now (countOf t) es (long-entries t)) (clears now (countOf t) t s (le-refl (countOf t))) in
+      let k = subst (Clears t v) (all-sifted now (countOf t) es (long-entries t)) (clears now (countOf t) t s (le-refl (countOf t))) in
       let r = rebounds v (standing now es) (numberOf t lastIndex) (historyOf t) (numberOf t boundIndex) k in
       record { contains = rw (r .0 .bound) (r .0); bounds = rw (r .0 .bound) (r .1) }
 
-  -- below the bound every entry stands
   unscanned : now < numberOf t boundIndex → Sweeps now t t
   unscanned l =
-      let e : standing now es ≡ es = standing-all now es (each-map (Bounded (numberOf t boundIndex)) (Stands now) (λ e f q. omega (arith, f q)) es h) in
+      let e = below-bound now (numberOf t boundIndex) es l h in
       record { contains = rw e (record { shape = s; entries = refl; last = refl; history = refl; bound = refl }); bounds = rw e h }
 
   pub sweeps : Sweeps now t (swept now t)
@@ -164,28 +167,28 @@ module _ (now : ℕ) (t : List ℕ) (i d : ℕ) (r : Bool) (e : d ≡ be8 t (row
 
 module _ (now : ℕ) (t : List ℕ) where
   -- how many of the first n entries stand
-  unfoldable pub manyOf : ℕ → ℕ
-  manyOf n = length (standing now (upto (held t) n))
+  unfoldable pub standingOf : ℕ → ℕ
+  standingOf n = length (standing now (upto (held t) n))
 
-  more : (i : ℕ) → manyOf (i + 1) ≡ manyOf i + length (standing now (held t i ∷ []))
-  unfolding manyOf upto
+  more : (i : ℕ) → standingOf (i + 1) ≡ standingOf i + length (standing now (held t i ∷ []))
+  unfolding standingOf upto
   more i = rw add-one (standing-add now (upto (held t) i) (held t i))
 
-  pub many-none : manyOf 0 ≡ 0
-  unfolding manyOf upto without
-  many-none = refl
+  pub standing-none : standingOf 0 ≡ 0
+  unfolding standingOf upto without
+  standing-none = refl
 
-  pub many-stands : (i : ℕ) → expired now (held t i) ≡ false → manyOf (i + 1) ≡ manyOf i + 1
+  pub standing-more : (i : ℕ) → expired now (held t i) ≡ false → standingOf (i + 1) ≡ standingOf i + 1
   unfolding without
-  many-stands i e = more i ∙ rw e
+  standing-more i e = more i ∙ rw e
 
-  pub many-gone : (i : ℕ) → expired now (held t i) ≡ true → manyOf (i + 1) ≡ manyOf i
+  pub standing-same : (i : ℕ) → expired now (held t i) ≡ true → standingOf (i + 1) ≡ standingOf i
   unfolding without
-  many-gone i e = more i ∙ rw e (omega arith)
+  standing-same i e = more i ∙ rw e (omega arith)
 
-  pub many-all : length t ≡ size → manyOf (countOf t) ≡ length (standing now (stateOf t .entries))
-  unfolding manyOf entriesOf
-  many-all h = rw (entries-are t h)
+  pub standing-held : length t ≡ size → standingOf (countOf t) ≡ length (standing now (stateOf t .entries))
+  unfolding standingOf entriesOf
+  standing-held h = rw (entries-are t h)
 
 -- as the code finds it
 module _ (now i : ℕ) (t : List ℕ) where
@@ -217,11 +220,18 @@ less-count now i t h l =
     omega (arith, count-is (withNumber countIndex (countOf t - 1) w) (countOf t - 1) (number-is countIndex (countOf t - 1) w (k .long ∙ h) (omega arith) (omega arith)) (omega arith)))
     (omega arith)
 
-module _ (now : ℕ) (t : List ℕ) where
-  pub swept-yes : numberOf t boundIndex ≤ now → swept now t ≡ rebound (lessAll now (countOf t) t)
-  unfolding swept
-  swept-yes l = rw (le-leb (numberOf t boundIndex) now l)
+module _ (now : ℕ) (t : List ℕ) (h : length t ≡ size) where
+  due-is : isDue now t ≡ leb (numberOf t boundIndex) now
+  unfolding isDue
+  due-is = rw (eq-eqb (length t) size h)
 
-  pub swept-no : now < numberOf t boundIndex → swept now t ≡ t
+  pub not-due : isDue now t ≡ false → now < numberOf t boundIndex
+  not-due e = leb-false (numberOf t boundIndex) now (sym due-is ∙ e)
+
+  pub swept-due : isDue now t ≡ true → swept now t ≡ rebound (lessAll now (countOf t) t)
   unfolding swept
-  swept-no l = rw (lt-leb (numberOf t boundIndex) now l)
+  swept-due e = rw (sym due-is ∙ e)
+
+  pub swept-not : isDue now t ≡ false → swept now t ≡ t
+  unfolding swept
+  swept-not e = rw (sym due-is ∙ e)

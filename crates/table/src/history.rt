@@ -4,8 +4,8 @@ use crate::rows;
 use field::Second;
 use message::Operation;
 ghost use mathlib.Core.Path.{_≡_};
-ghost use mathlib.Core.Bool.{_&&_, _||_};
-ghost use Prim.Native.Nat.{_-_, _≤_, _<_};
+ghost use mathlib.Core.Bool.{cond, _&&_, _||_};
+ghost use Prim.Native.Nat.{suc, _-_, _≤_, _<_};
 ghost use lib.ListN.{length};
 ghost use Rattle.map.specs.History.{onward, adds, startOf};
 ghost use Rattle.map.specs.Table.{lastSecond};
@@ -45,6 +45,17 @@ fn either(a: bool, b: bool) -> bool
     a || b
 }
 
+// The number of the header for keys that an entry has, or the one behind it, for keys that none has.
+fn by_key(i: usize, absent: bool) -> usize
+    requires { ⌜ i < headCount ⌝ }
+    ensures { λ r. ⌜ (r ≡ cond absent (suc i) i) × (r ≤ suc i) ⌝ }
+{
+    if absent {
+        return i + 1;
+    }
+    i
+}
+
 // Counts a request of the operation, with whether no entry has its key.
 pub(crate) fn tally(t: &mut [u8], op: Operation, absent: bool)
     requires { ⌜ length (now t) ≡ size ⌝ }
@@ -54,14 +65,11 @@ pub(crate) fn tally(t: &mut [u8], op: Operation, absent: bool)
     let put = 0x01 == code;
     let get = 0x03 == code;
     let remove = 0x0b == code;
-    let held = !absent;
     go_on(t, Table::TOTAL, both(either(put, 0x05 == code), absent));
     go_on(t, Table::STORES, put);
     go_on(t, Table::RETRIEVALS, get);
-    go_on(t, Table::HITS, both(get, held));
-    go_on(t, Table::MISSES, both(get, absent));
-    go_on(t, Table::REMOVE_HITS, both(remove, held));
-    go_on(t, Table::REMOVE_MISSES, both(remove, absent));
+    go_on(t, by_key(Table::HITS, absent), get);
+    go_on(t, by_key(Table::REMOVE_HITS, absent), remove);
 }
 
 // Has the second be the first one, where none is held.

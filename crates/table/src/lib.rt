@@ -22,6 +22,7 @@ ghost use Rattle.statistics.specs.Statistics.{listOf};
 ghost use Rattle.table.specs.Compare.{compared};
 ghost use Rattle.table.specs.Found.{entryAt, FoundIs, NumberAt, Tells};
 ghost use Rattle.table.specs.List.{listAt};
+ghost use Rattle.table.specs.Sweep.{isDue};
 ghost use Rattle.table.specs.Change.{doneOr, Answers, AnswersBy, made, started, added, restored, renewed, removed, cleared, arrived};
 
 // What a search for a key finds: its entry, or that no entry has it.
@@ -239,6 +240,17 @@ pub fn latest(t: &[u8]) -> Second
     Second(rows::header(t, Table::LATEST))
 }
 
+// The present second of a call: the greater of its own and the latest one served.
+pub fn present(t: &[u8], second: Second) -> Second
+    ensures { λ r. ⌜ r .0 ≡ map.present (record { second = second .0 }) (stateOf (now (t .entry))) ⌝ }
+{
+    let served = latest(t);
+    if served.0 < second.0 {
+        return second;
+    }
+    served
+}
+
 // The last version issued.
 pub fn last(t: &[u8]) -> EntryVersion
     ensures { λ r. ⌜ r .0 ≡ stateOf (now (t .entry)) .last ⌝ }
@@ -319,6 +331,16 @@ pub fn standing(t: &[u8], second: Second) -> usize
         return 0;
     }
     expiry::count_standing(t, second)
+}
+
+// Whether an entry may have expired at a second: the bound of the deadlines is not above it.
+pub fn is_due(t: &[u8], second: Second) -> bool
+    ensures { λ r. ⌜ r ≡ isDue (second .0) (now (t .entry)) ⌝ }
+{
+    if t.len() != Table::SIZE {
+        return false;
+    }
+    rows::header(t, Table::BOUND) <= second.0
 }
 
 // Where the first n entries stand in the memory, all where n is 0, ascending by version: for each of them four numbers, the start and the length of its
@@ -429,7 +451,7 @@ pub fn arrive(t: &mut [u8], op: Operation, absent: bool, second: Second) -> bool
     if second.0 > Table::LAST_SECOND {
         return false;
     }
-    let present = expiry::present(t, second);
+    let present = present(t, second);
     expiry::sweep(t, present);
     history::begin(t, second);
     history::tally(t, op, absent);

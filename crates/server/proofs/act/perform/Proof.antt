@@ -59,7 +59,7 @@ module _ (c : tie.After-refusal-of) where
   abbrev found : tie.After-held-in
   found = c .before .before .before .before
 
-  abbrev clock : tie.After-present-second
+  abbrev clock : tie.After-present
   clock = found .before .before
 
   abbrev named : tie.After-key-in
@@ -80,7 +80,7 @@ module _ (c : tie.After-refusal-of) where
   holds : HoldsAt (map.present context (state start)) (start .args .t .now) (asked start .args .key) (found .held-in .result)
   holds =
       subst (λ k. HoldsAt (map.present context (state start)) (start .args .t .now) k (found .held-in .result)) (named .key-in .ensures)
-      (subst (λ n. HoldsAt n (start .args .t .now) (named .key-in .result .now) (found .held-in .result)) (clock .present-second .ensures) (found .held-in .ensures))
+      (subst (λ n. HoldsAt n (start .args .t .now) (named .key-in .result .now) (found .held-in .result)) (clock .present .ensures) (found .held-in .ensures))
 
   same : heldVersion (found .held-in .result) ≡ map.versionOf (map.held (asked start) come)
   same = held-come context (asked start) _ (start .pre .0 .sound) (found .held-in .result) holds
@@ -90,7 +90,7 @@ module _ (c : tie.After-refusal-of) where
   planned = sym (c .before .before .plan-of .ensures ∙ rw same)
 
   judged-come : asJudged (c .refusal-of .result) ≡ refusalOf come (heldVersion (found .held-in .result)) change
-  judged-come = (rw (clock .present-second .ensures) at (c .refusal-of .ensures)) ∙ sym (refusal-come context (asked start) (state start) (heldVersion (found .held-in .result)) change)
+  judged-come = (rw (clock .present .ensures) at (c .refusal-of .ensures)) ∙ sym (refusal-come context (asked start) (state start) (heldVersion (found .held-in .result)) change)
 
   unnamed : isEmpty (asked start .name) ≡ true
   unnamed =

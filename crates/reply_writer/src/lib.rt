@@ -5,7 +5,6 @@ mod write;
 
 use field::EntryVersion;
 use message::Asked;
-use message::Form;
 use message::Found;
 use message::ReplyHead;
 use message::Sent;
@@ -76,7 +75,7 @@ pub fn write_error(out: &mut [u8], id: u64, k: u8) -> Sent
     }
 }
 
-// An error reply of a status and a text.
+// An error reply of a status and a text. It is the same to every request: this is one to a ping.
 fn write_text(out: &mut [u8], id: u64, status: u8, text: &[u8]) -> Sent
     requires { ⌜ 0x81 ≤ status ⌝ }
     requires { ⌜ status ≤ 0x86 ⌝ }
@@ -88,5 +87,9 @@ fn write_text(out: &mut [u8], id: u64, status: u8, text: &[u8]) -> Sent
         status: status,
         entry: EntryVersion(0),
     };
-    write::write_message(out, a, Form::Text, &text[0..0], text)
+    let ping = Asked {
+        op: 0x17,
+        flag: false,
+    };
+    write_reply(out, ping, a, &text[0..0], text)
 }

@@ -43,7 +43,7 @@ pub fn serve(input: &[u8], table: &mut [u8], second: u32, reply: &mut [u8]) -> A
     if !table::is_table(table) {
         return act::unsent(0, Verdict::Refused(13));
     }
-    act::serve_sound(input, table, Second(second as u64), reply)
+    call_at(input, 0, table, second, reply, 0)
 }
 
 // What a stream of calls gives: the bytes taken and sent by all of them, how many there were, and how the last one ended, or that the buffer is full.

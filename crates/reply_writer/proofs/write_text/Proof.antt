@@ -2,7 +2,9 @@
 use mathlib.Core.Path.{refl, sym, ap, _∙_}
 use mathlib.Core.Bool.{false}
 use lib.Dec.{eqb}
-use Rattle.message.specs.Reply.{errorCode, errors, fieldsOf, isAllowed, errorReply}
+use Rattle.message.specs.declared.Operation.the-variants.{Ping}
+use Rattle.message.specs.Operation.{findCode}
+use Rattle.message.specs.Reply.{errorCode, errors, isAllowed, isAwaited, rowsOf, reply, errorReply}
 use Rattle.rules.proofs.BodyLaws.{error-text}
 use Rattle.reply_writer.specs.Frame.{errorOf}
 use Rattle.reply_writer.proofs.SendLaws.{send-framed}
@@ -11,14 +13,15 @@ use Rattle.reply_writer.proofs.write_text.Statement.{statement}
 use Rattle.reply_writer.proofs.write_text.Tie as tie
 
 returns : tie.Need-returns
-unfolding errorReply fieldsOf
+unfolding errorReply reply findCode
 returns c = let w = c .before .before in
     let s = w .before .before .before .before .before in
     let a = s .args in
-    let e = sym (error-text (a .status) (s .pre .0) (s .pre .1)) in
-    w .write-message .ensures
-    ∙ (rw e at
-    (send-framed (λ op. eqb op errorCode) (λ op. errors) false (errorOf (a .id) (a .status) (a .text .now)) (a .out .now) refl (ap isAllowed e)))
+    let r = errorOf (a .id) (a .status) (a .text .now) in
+    let e = ap isAllowed (sym (error-text (a .status) (s .pre .0) (s .pre .1))) in
+    w .write-reply .ensures
+    ∙ sym (send-framed (isAwaited Ping) (rowsOf Ping) false r (a .out .now) refl e)
+    ∙ send-framed (λ op. eqb op errorCode) (λ op. errors) false r (a .out .now) refl e
 
 pub write-text-spec : {M : Type 1} → statement M
 write-text-spec =

@@ -16,14 +16,14 @@ returns-2 c =
     let w = i .before in
     serves-unsound _ _ _ _ (w .before .before .if1 .left) (refuted (w .is-table .ensures) (not-true _ (i .if2 .taken))) (c .unsent2 .ensures)
 
-serve-sound-requires : tie.Need-serve-sound-requires
-serve-sound-requires c κs =
+call-at-requires : tie.Need-call-at-requires
+call-at-requires c κs =
     let i = c .before .before in
     let w = i .before in
-    (w .is-table .ensures .0 (not-false _ (i .if2 .left)), (w .before .before .if1 .left, omega arith))
+    record { sound = w .is-table .ensures .0 (not-false _ (i .if2 .left)); within = omega arith; sized = omega arith; room = omega (arith, w .before .before .if1 .left) }
 
 returns-3 : tie.Need-returns-3
-returns-3 c = c .before .before .before .before .serve-sound .ensures
+returns-3 c = c .before .before .before .before .call-at .ensures .serves
 
 pub serve-spec : {M : Type 1} → statement M
 serve-spec =
@@ -35,7 +35,7 @@ serve-spec =
     (λ c κs. search needs)
     (λ c. search needs)
     returns-2
-    serve-sound-requires
+    call-at-requires
     (λ c. search needs)
     (λ c. search needs)
     returns-3)

@@ -15,7 +15,7 @@ use Rattle.wire.proofs.Laws.{and-false}
 use Rattle.message.specs.declared.Operation.{Operation}
 use Rattle.message.specs.declared.Operation.the-variants.{Put, Get, PutIfAbsent, Replace, ReplaceIfUnmodified, Remove, RemoveIfUnmodified, ContainsKey, GetWithVersion, Clear, Stats, Ping, BulkGet, BulkGetKeys}
 use Rattle.message.specs.Request.{Request}
-use Rattle.message.specs.Reply.{bodyAt}
+use Rattle.message.specs.ReplyTable.{bodyAt}
 use Rattle.map.specs.History.{countsHeld, mostCount, onward, is, adds, marked, tally, retrievals, hits, misses, noHistory, startOf}
 use Rattle.map.specs.State.{Entry, State, fresh, find, without}
 use Rattle.map.specs.Plan.{Change, keep, store, drop, empty, plans, plan}

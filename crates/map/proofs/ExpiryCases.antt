@@ -6,7 +6,7 @@ use Rattle.wire.specs.Same.{sameList}
 use Rattle.message.specs.declared.Operation.{Operation}
 use Rattle.message.specs.declared.Operation.the-variants.{Put, Get, Remove}
 use Rattle.message.specs.Request.{Request, args}
-use Rattle.message.specs.Reply.{bodyAt}
+use Rattle.message.specs.ReplyTable.{bodyAt}
 use Rattle.map.specs.History.{noHistory}
 use Rattle.map.specs.State.{Entry, State, find, without}
 use Rattle.map.specs.Deadline.{deadline, expired}

@@ -17,8 +17,10 @@ use Rattle.message.specs.declared.Operation.{Operation}
 use Rattle.message.specs.declared.Operation.the-variants.{Put, Get, PutIfAbsent, Replace, ReplaceIfUnmodified, Remove, RemoveIfUnmodified, ContainsKey, GetWithVersion, Clear, Stats, Ping, BulkGet, BulkGetKeys}
 use Rattle.message.specs.Operation.{codeOf}
 use Rattle.message.specs.Request.{valueLimit, Request, request}
-use Rattle.message.specs.Reply as m
-use Rattle.message.specs.Reply.{Body, table, bodyAt, isAllowed, allowed, Reply, noBody, valueBody, versionedBody, statisticsBody, listedBody, fieldsOf, formOf, fields, message, isAwaited, rowsOf, bulkOperation, bulkReply, reply}
+use Rattle.message.specs.ReplyTable as m
+use Rattle.message.specs.ReplyTable.{Body, table, bodyAt, isAllowed, allowed}
+use Rattle.message.specs.Payload.{Payload, noBody, valueBody, versionedBody, statisticsBody, listedBody, fieldsOf, formOf}
+use Rattle.message.specs.Reply.{Reply, fields, message, isAwaited, rowsOf, bulkOperation, bulkReply, reply}
 use Rattle.message.specs.Listing.{mostListed}
 use Rattle.message.proofs.RequestLaws.{code-found}
 use Rattle.message.proofs.RequestParts as asked
@@ -103,7 +105,7 @@ coded BulkGet = (refl, refl)
 coded BulkGetKeys = (refl, refl)
 
 -- the bytes of what is shown
-abbrev carried : Shown → m.Payload
+abbrev carried : Shown → Payload
 carried s = payloadOf s
 
 -- as many entries as a list may have

@@ -10,7 +10,8 @@ use lib.Dec.{eqb}
 use borrow.Author.Tests.{ltb-true, lt-ltb, le-ltb, ne-eqb}
 use Rattle.wire.proofs.Basics.{pick}
 use Rattle.message.specs.declared.Operation.the-variants.{BulkGetKeys}
-use Rattle.message.specs.Reply.{bodyAt, bulkOperation}
+use Rattle.message.specs.ReplyTable.{bodyAt}
+use Rattle.message.specs.Reply.{bulkOperation}
 use Rattle.message.specs.Request.{Request}
 use Rattle.message.specs.Written.{Begins}
 use Rattle.map.specs.State.{Entry, State}

@@ -8,6 +8,7 @@ use Rattle.wire.specs.Field.{entryVersion, limited}
 use Rattle.statistics.specs.Statistics as stats
 use Rattle.message.specs.Operation.{codeOf}
 use Rattle.message.specs.Request.{Request, keyLimit}
+use Rattle.message.specs.Payload.{Payload}
 use Rattle.message.specs.Reply as message
 use Rattle.message.specs.declared.Asked.{Asked}
 use Rattle.message.specs.Reply.{asked}
@@ -56,7 +57,7 @@ entriesOf (counted ns) = []
 entriesOf (listed values es) = map (pairOf values) es
 
 -- what a reply carries
-abbrev pub payloadOf : Shown → message.Payload
+abbrev pub payloadOf : Shown → Payload
 payloadOf s = record { entryVersion = entryOf s; value = valueOf s; text = []; statistics = numbersOf s; entries = entriesOf s }
 
 -- the reply to a request

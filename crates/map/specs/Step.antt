@@ -6,7 +6,8 @@ use Prim.Native.Nat.{ℕ, suc, _-_, _%_, max}
 use lib.ListN.{length}
 use lib.Dec.{eqb, leb, ltb}
 use Rattle.message.specs.Request.{Request, isEmpty}
-use Rattle.message.specs.Reply.{formOf, bodyAt, allowed, table}
+use Rattle.message.specs.ReplyTable.{bodyAt, allowed, table}
+use Rattle.message.specs.Payload.{formOf}
 use Rattle.map.specs.History.{tally, startOf}
 use Rattle.map.specs.State.{Entry, State, withEntries, withLast, withHistory, find, without, hasKey}
 use Rattle.map.specs.Deadline.{deadline, standing}

@@ -19,7 +19,9 @@ use Rattle.field.specs.FieldRead.{limitedText}
 use Rattle.message.specs.declared.Operation.{Operation}
 use Rattle.message.specs.declared.Asked.{Asked}
 use Rattle.message.specs.Operation.{codeOf, findCode}
-use Rattle.message.specs.Reply.{textLimit, text, errors, errorCode, bodyAt, isAllowed, allowed, Reply, payload, textBody, fieldsOf, formOf, fields, message, isAwaited, rowsOf, reply, errorReply}
+use Rattle.message.specs.ReplyTable.{text, errors, errorCode, bodyAt, isAllowed, allowed}
+use Rattle.message.specs.Payload.{textLimit, payload, textBody, fieldsOf, formOf}
+use Rattle.message.specs.Reply.{Reply, fields, message, isAwaited, rowsOf, reply, errorReply}
 use Rattle.message.specs.Refusal.{Row, rows, rowOf, refusal}
 use Rattle.message.proofs.ReplyParts.{Parts, parts, whole-reply}
 use Rattle.message.proofs.ReplySize.{error-text}

@@ -21,7 +21,9 @@ use Rattle.message.specs.declared.Form.the-variants as form
 use Rattle.message.specs.declared.Asked.{Asked}
 use Rattle.message.specs.Operation.{findCode}
 use Rattle.message.specs.Request.{valueLimit}
-use Rattle.message.specs.Reply.{textLimit, Body, bodyAt, isAllowed, allowed, Payload, payload, counted, noEntry, noValue, noText, noStatistics, noEntries, noLists, bulkPayload, noBody, valueBody, versionedBody, textBody, statisticsBody, listedBody, fieldsOf, formOf, Fields, fields, toReply, fromReply, message, isAwaited, rowsOf, replyTo, reply}
+use Rattle.message.specs.ReplyTable.{Body, bodyAt, isAllowed, allowed}
+use Rattle.message.specs.Payload.{textLimit, Payload, payload, counted, noEntry, noValue, noText, noStatistics, noEntries, noLists, bulkPayload, noBody, valueBody, versionedBody, textBody, statisticsBody, listedBody, fieldsOf, formOf}
+use Rattle.message.specs.Reply.{Fields, fields, toReply, fromReply, message, isAwaited, rowsOf, replyTo, reply}
 use Rattle.message.specs.Listing.{listing}
 use Rattle.message.proofs.RequestLaws.{is-empty, is-zero, text-laws}
 use Rattle.message.proofs.ListingLaws.{listing-laws}

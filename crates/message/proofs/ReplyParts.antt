@@ -7,7 +7,9 @@ use lib.Dec.{eqb}
 use Rattle.wire.specs.Codec.{Valid, byte, guard, all}
 use Rattle.wire.specs.Number.{vLong}
 use Rattle.wire.proofs.Laws.{seq-valid, seq-good, type-valid, type-good}
-use Rattle.message.specs.Reply.{Body, bodyAt, isAllowed, allowed, Reply, fieldsOf, formOf, fields, toReply, fromReply, message}
+use Rattle.message.specs.ReplyTable.{Body, bodyAt, isAllowed, allowed}
+use Rattle.message.specs.Payload.{fieldsOf, formOf}
+use Rattle.message.specs.Reply.{Reply, fields, toReply, fromReply, message}
 
 pub record Parts (comes : ℕ → Bool) (rows : ℕ → List (ℕ × Body)) (flag : Bool) (r : Reply) : Type 0 where
   pub id : Valid vLong (r .id)

@@ -16,7 +16,9 @@ use Rattle.message.specs.declared.Operation.{Operation}
 use Rattle.message.specs.declared.Operation.the-variants.{Put, Get, PutIfAbsent, Replace, ReplaceIfUnmodified, Remove, RemoveIfUnmodified, ContainsKey, GetWithVersion, Clear, Stats, Ping, BulkGet, BulkGetKeys}
 use Rattle.message.specs.Operation.{codeOf}
 use Rattle.message.specs.Request.{valueLimit}
-use Rattle.message.specs.Reply.{textLimit, Body, nothing, old, oldNone, value, versioned, text, statistics, entries, keys, asked, errors, errorCode, bodyAt, isAllowed, allowed, Reply, noBody, valueBody, versionedBody, textBody, statisticsBody, listedBody, fieldsOf, formOf, fields, message, isAwaited, rowsOf, reply, errorReply}
+use Rattle.message.specs.ReplyTable.{Body, nothing, old, oldNone, value, versioned, text, statistics, entries, keys, errors, errorCode, bodyAt, isAllowed, allowed}
+use Rattle.message.specs.Payload.{textLimit, noBody, valueBody, versionedBody, textBody, statisticsBody, listedBody, fieldsOf, formOf}
+use Rattle.message.specs.Reply.{asked, Reply, fields, message, isAwaited, rowsOf, reply, errorReply}
 use Rattle.message.proofs.RequestLaws.{code-found}
 use Rattle.message.proofs.ListingLaws.{longest, listing-most}
 use Rattle.message.proofs.Most.{Most, most-less, seq-most, guard-most, type-most, empty-most, byte-most, big-most, vLong-most, limited-most, text-most}

@@ -3,6 +3,8 @@ pub mod Edition
 pub mod Request
 pub mod Start
 pub mod Listing
+pub mod ReplyTable
+pub mod Payload
 pub mod Reply
 pub mod Refusal
 pub mod Written

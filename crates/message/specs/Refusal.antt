@@ -3,7 +3,9 @@ use mathlib.Core.List.{List, [], _∷_}
 use mathlib.Core.Bool.{cond}
 use Prim.Native.Nat.{ℕ}
 use lib.Dec.{eqb}
-use Rattle.message.specs.Reply.{Reply, payload, errorCode}
+use Rattle.message.specs.ReplyTable.{errorCode}
+use Rattle.message.specs.Payload.{payload}
+use Rattle.message.specs.Reply.{Reply}
 
 pub record Row : Type 0 where
   pub number : ℕ

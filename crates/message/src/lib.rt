@@ -5,7 +5,7 @@ ghost use mathlib.Core.Path.{_≡_};
 ghost use Rattle.field.specs.FieldRead.{partOf};
 ghost use Rattle.message.specs.Operation.{codeOf, asFound, findCode};
 ghost use Rattle.message.specs.Request.{nameLimit, keyLimit, valueLimit};
-ghost use Rattle.message.specs.Reply.{textLimit};
+ghost use Rattle.message.specs.Payload.{textLimit};
 
 pub enum Operation {
     Put,

@@ -16,7 +16,9 @@ use Rattle.message.specs.declared.Operation.{Operation}
 use Rattle.message.specs.declared.Operation.the-variants.{Put, Get, PutIfAbsent, Replace, ReplaceIfUnmodified, Remove, RemoveIfUnmodified, ContainsKey, GetWithVersion, Clear, Stats, Ping, BulkGet, BulkGetKeys}
 use Rattle.message.specs.Operation.{codeOf}
 use Rattle.message.specs.Request.{valueLimit}
-use Rattle.message.specs.Reply.{Body, table, errors, errorCode, bodyAt, isAllowed, allowed, formOf, oldForm, isAwaited, rowsOf}
+use Rattle.message.specs.ReplyTable.{Body, table, errors, errorCode, bodyAt, isAllowed, allowed}
+use Rattle.message.specs.Payload.{formOf, oldForm}
+use Rattle.message.specs.Reply.{isAwaited, rowsOf}
 use Rattle.message.specs.Listing.{listing}
 use Rattle.message.proofs.ListingLaws.{listing-laws, listing-starts}
 use Rattle.reply_reader.specs.ReplyRead.{bulkOf, listedOf}

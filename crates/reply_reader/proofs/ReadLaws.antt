@@ -16,7 +16,9 @@ use Rattle.field.proofs.Parts.{at-between, only, span-none}
 use Rattle.statistics.specs.Statistics.{statistics}
 use Rattle.message.specs.Request.{valueLimit}
 use Rattle.message.specs.Listing.{listing}
-use Rattle.message.specs.Reply.{Payload, textLimit, noBody, valueBody, versionedBody, textBody, statisticsBody, listedBody, isAwaited, rowsOf, bodyAt, isAllowed, allowed, fieldsOf, formOf, fields, message}
+use Rattle.message.specs.ReplyTable.{bodyAt, isAllowed, allowed}
+use Rattle.message.specs.Payload.{Payload, textLimit, noBody, valueBody, versionedBody, textBody, statisticsBody, listedBody, fieldsOf, formOf}
+use Rattle.message.specs.Reply.{isAwaited, rowsOf, fields, message}
 use Rattle.message.specs.declared.Operation.{Operation}
 use Rattle.message.specs.declared.ReplyHead.{ReplyHead}
 use Rattle.reply_reader.specs.ReplyRead.{Answer, replyAt, replyWith, headWith, withParts, withStatistics, withEntries, entriesTo, bulkOf}

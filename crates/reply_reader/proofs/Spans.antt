@@ -18,7 +18,9 @@ use Rattle.message.specs.declared.Form.the-variants as form
 use Rattle.message.specs.Operation.{findCode}
 use Rattle.message.specs.Request.{valueLimit}
 use Rattle.message.specs.Listing.{mostListed, itemOf, listing}
-use Rattle.message.specs.Reply.{textLimit, Reply, Payload, noBody, valueBody, versionedBody, textBody, statisticsBody, listedBody, bodyAt, isAllowed, fieldsOf, fields, message, isAwaited, rowsOf, replyTo, reply}
+use Rattle.message.specs.ReplyTable.{bodyAt, isAllowed}
+use Rattle.message.specs.Payload.{textLimit, Payload, noBody, valueBody, versionedBody, textBody, statisticsBody, listedBody, fieldsOf}
+use Rattle.message.specs.Reply.{Reply, fields, message, isAwaited, rowsOf, replyTo, reply}
 use Rattle.message.proofs.ListingLaws.{listing-laws}
 use Rattle.reply_reader.specs.ReplyRead.{asReply, replyAt, bulkOf, listedOf, entriesAt, entriesIn, answered}
 use Rattle.reply_reader.specs.declared.ReplyRead.{ReplyRead}

@@ -10,7 +10,8 @@ use Rattle.field.specs.FieldRead.{partOf, nowhere, spanTo}
 use Rattle.field.specs.declared.Span.{Span}
 use Rattle.statistics.specs.Statistics.{listOf}
 use Rattle.message.specs.Listing.{listing}
-use Rattle.message.specs.Reply.{Reply, Payload, replyIn}
+use Rattle.message.specs.Payload.{Payload}
+use Rattle.message.specs.Reply.{Reply, replyIn}
 use Rattle.message.specs.declared.Form.{Form}
 use Rattle.message.specs.declared.Form.the-variants as form
 use Rattle.message.specs.declared.ReplyHead.{ReplyHead}

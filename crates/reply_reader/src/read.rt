@@ -22,7 +22,8 @@ ghost use Rattle.field.specs.FieldRead.{asNumber, nowhere, spanTo, stopped, lim
 ghost use Rattle.statistics.specs.Statistics.{statistics};
 ghost use Rattle.message.specs.Request.{valueLimit};
 ghost use Rattle.message.specs.Listing.{listing};
-ghost use Rattle.message.specs.Reply.{message, isAwaited, rowsOf, textLimit, fieldsOf};
+ghost use Rattle.message.specs.Payload.{textLimit, fieldsOf};
+ghost use Rattle.message.specs.Reply.{message, isAwaited, rowsOf};
 ghost use Rattle.reply_reader.specs.ReplyRead.{asReply, replyAt, replyWith, headWith, withParts, withStatistics, withEntries, entriesTo, bulkOf, listedOf};
 
 // What a field that is not whole makes of the reply.

@@ -26,7 +26,9 @@ use Rattle.message.specs.declared.Operation.the-variants.{BulkGet, BulkGetKeys}
 use Rattle.message.specs.Operation.{codeOf, findCode}
 use Rattle.message.specs.Request.{isEmpty, valueLimit}
 use Rattle.message.specs.Listing.{itemOf, listing}
-use Rattle.message.specs.Reply.{asked, Reply, Body, Payload, payload, counted, bulkPayload, bulkOperation, bulkReply, noEntry, noValue, noText, noLists, textLimit, noBody, valueBody, versionedBody, textBody, statisticsBody, listedBody, bodyAt, isAllowed, allowed, fieldsOf, formOf, toReply, fromReply, fields, message, isAwaited, rowsOf, reply}
+use Rattle.message.specs.ReplyTable.{Body, bodyAt, isAllowed, allowed}
+use Rattle.message.specs.Payload.{Payload, payload, counted, bulkPayload, noEntry, noValue, noText, noLists, textLimit, noBody, valueBody, versionedBody, textBody, statisticsBody, listedBody, fieldsOf, formOf}
+use Rattle.message.specs.Reply.{asked, Reply, bulkOperation, bulkReply, toReply, fromReply, fields, message, isAwaited, rowsOf, reply}
 use Rattle.reply_writer.specs.Frame.{framed}
 
 -- a body that carries nothing

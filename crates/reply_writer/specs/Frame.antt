@@ -4,7 +4,9 @@ use Prim.Native.Nat.{ℕ}
 use lib.Dec.{eqb}
 use Rattle.wire.specs.Codec.{Codec, byte, guard, seq, as-type, all}
 use Rattle.wire.specs.Number.{vLong}
-use Rattle.message.specs.Reply.{Reply, Payload, payload, toReply, fromReply, errorCode}
+use Rattle.message.specs.ReplyTable.{errorCode}
+use Rattle.message.specs.Payload.{Payload, payload}
+use Rattle.message.specs.Reply.{Reply, toReply, fromReply}
 use Rattle.message.specs.declared.ReplyHead.{ReplyHead}
 
 -- the body of an answer, a value and a text

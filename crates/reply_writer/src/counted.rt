@@ -8,7 +8,8 @@ ghost use Rattle.wire.specs.Codec.{Valid};
 ghost use Rattle.wire.specs.Write.{Room, Wrote, send};
 ghost use Rattle.statistics.specs.Statistics.{listOf};
 ghost use Rattle.message.specs.Sent.{asSent};
-ghost use Rattle.message.specs.Reply.{statisticsBody, statisticsReply};
+ghost use Rattle.message.specs.Payload.{statisticsBody};
+ghost use Rattle.message.specs.Reply.{statisticsReply};
 ghost use Rattle.reply_writer.specs.Frame.{framed};
 
 fn put_counted(out: &mut [u8], id: u64, x: Statistics) -> usize

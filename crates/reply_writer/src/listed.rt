@@ -11,7 +11,8 @@ ghost use Rattle.wire.specs.Write.{Room, Wrote, send};
 ghost use Rattle.listing.specs.EntryWrite.{listedIn};
 ghost use Rattle.message.specs.Operation.{codeOf};
 ghost use Rattle.message.specs.Sent.{asSent};
-ghost use Rattle.message.specs.Reply.{noBody, listedBody, bulkOperation, bulkReply};
+ghost use Rattle.message.specs.Payload.{noBody, listedBody};
+ghost use Rattle.message.specs.Reply.{bulkOperation, bulkReply};
 ghost use Rattle.reply_writer.specs.Frame.{framed};
 
 // The operation of a reply to bulkGet, or to bulkGetKeys.

@@ -17,7 +17,7 @@ ghost use Rattle.field.specs.FieldRead.{limitedText};
 ghost use Rattle.message.specs.Sent.{asSent};
 ghost use Rattle.message.specs.Request.{isEmpty};
 ghost use Rattle.message.specs.Reply.{replyOf};
-ghost use Rattle.message.specs.Reply.{fieldsOf};
+ghost use Rattle.message.specs.Payload.{fieldsOf};
 ghost use Rattle.reply_writer.specs.Frame.{framed, payloadOf};
 
 // Is a number 0, and are there no bytes?

@@ -10,8 +10,8 @@ use types.Run.{OneOf, miss}
 use denote.Enum.Declared.{tagOf}
 use borrow.Author.Tests.{eqb-true, eqb-false, ne-eqb}
 use Rattle.wire.proofs.Basics.{if-none}
-use Rattle.message.specs.Reply as m
-use Rattle.message.specs.Reply.{isAllowed, errors, bodyAt}
+use Rattle.message.specs.ReplyTable as m
+use Rattle.message.specs.ReplyTable.{isAllowed, errors, bodyAt}
 use Rattle.rules.specs.Body.{asBody}
 use Rattle.rules.specs.declared.Body.{Body}
 use Rattle.rules.specs.declared.Body.the-variants as b

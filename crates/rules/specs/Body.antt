@@ -1,6 +1,6 @@
 -- What the code's bodies stand for.
 use mathlib.Core.Option.{Option, none, some}
-use Rattle.message.specs.Reply as m
+use Rattle.message.specs.ReplyTable as m
 use Rattle.rules.specs.declared.Body.{Body}
 use Rattle.rules.specs.declared.Body.the-variants as b
 

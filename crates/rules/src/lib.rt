@@ -9,7 +9,9 @@ ghost use mathlib.Core.Option.{none};
 ghost use lib.Dec.{eqb};
 ghost use Rattle.message.specs.Edition.{early};
 ghost use Rattle.message.specs.Request.{shapeOf, isVersion, editionAt};
-ghost use Rattle.message.specs.Reply.{bodyAt, table, errors, rowsOf, isAwaited, isAllowed, allowed, formOf, oldForm};
+ghost use Rattle.message.specs.ReplyTable.{bodyAt, table, errors, isAllowed, allowed};
+ghost use Rattle.message.specs.Payload.{formOf, oldForm};
+ghost use Rattle.message.specs.Reply.{rowsOf, isAwaited};
 ghost use Rattle.rules.specs.Body.{asBody};
 ghost use Rattle.rules.specs.Shape.{asShape};
 

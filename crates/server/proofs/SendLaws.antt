@@ -24,7 +24,9 @@ use Rattle.message.specs.declared.Operation.{Operation}
 use Rattle.message.specs.declared.Operation.the-variants.{Put, Get, PutIfAbsent, Replace, ReplaceIfUnmodified, Remove, RemoveIfUnmodified, ContainsKey, GetWithVersion, Clear, Stats, Ping, BulkGet, BulkGetKeys}
 use Rattle.message.specs.Operation.{codeOf}
 use Rattle.message.specs.Request.{Request, valueLimit}
-use Rattle.message.specs.Reply.{asked, Reply, payload, oldForm, formOf, table, bodyAt, allowed, rowsOf, reply, errorReply, statisticsReply, bulkOperation, bulkReply}
+use Rattle.message.specs.ReplyTable.{table, bodyAt, allowed}
+use Rattle.message.specs.Payload.{payload, oldForm, formOf}
+use Rattle.message.specs.Reply.{asked, Reply, rowsOf, reply, errorReply, statisticsReply, bulkOperation, bulkReply}
 use Rattle.message.specs.Refusal.{refusal}
 use Rattle.message.proofs.ErrorLaws.{refusal-good}
 use Rattle.message.proofs.ReplySize.{error-most}

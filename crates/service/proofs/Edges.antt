@@ -10,7 +10,9 @@ use Rattle.hex.specs.Number.{fromDigits}
 use Rattle.message.specs.Edition.{editionOf}
 use Rattle.message.specs.Operation.{findCode}
 use Rattle.message.specs.Refusal.{rows, rowOf, refusal}
-use Rattle.message.specs.Reply.{bodyAt, textBody, fieldsOf, fields, message, errorReply}
+use Rattle.message.specs.ReplyTable.{bodyAt}
+use Rattle.message.specs.Payload.{textBody, fieldsOf}
+use Rattle.message.specs.Reply.{fields, message, errorReply}
 use Rattle.message.specs.Request.{shapeOf, argsOf, operation, transaction, fields as request-fields, request}
 use Rattle.message.specs.Start.{start, idIn}
 use Rattle.map.specs.Reply.{flat, shownPieces, pieces}

@@ -3,7 +3,8 @@ use mathlib.Core.Path.{_≡_}
 use mathlib.Core.Bool.{false}
 use lib.Dec.{eqb}
 use borrow.Author.Tests.{ne-eqb}
-use Rattle.message.specs.Reply.{errorCode, errors, bodyAt, errorReply}
+use Rattle.message.specs.ReplyTable.{errorCode, errors, bodyAt}
+use Rattle.message.specs.Reply.{errorReply}
 use Rattle.message.specs.Refusal.{rows, rowOf, refusal}
 use Rattle.reply_writer.proofs.SendLaws.{send-unlisted}
 use borrow.Author.Needs.{needs}

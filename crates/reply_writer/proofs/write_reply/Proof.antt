@@ -5,7 +5,8 @@ use borrow.Author.Tests.{not-true, not-false}
 use Rattle.wire.specs.Codec.{refuse}
 use Rattle.wire.specs.Write.{send}
 use Rattle.message.specs.Operation.{findCode}
-use Rattle.message.specs.Reply.{reply, replyOf, bodyAt, isAwaited, rowsOf, isAllowed}
+use Rattle.message.specs.ReplyTable.{bodyAt, isAllowed}
+use Rattle.message.specs.Reply.{reply, replyOf, isAwaited, rowsOf}
 use Rattle.reply_writer.proofs.SendLaws.{send-other, send-unlisted, send-framed}
 use borrow.Author.Needs.{needs}
 use Rattle.reply_writer.proofs.write_reply.Statement.{statement}

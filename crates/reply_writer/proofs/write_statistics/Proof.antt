@@ -3,7 +3,9 @@ use mathlib.Core.Path.{refl, _∙_}
 use Rattle.statistics.specs.Statistics.{listOf}
 use Rattle.message.specs.declared.Operation.the-variants.{Stats}
 use Rattle.message.specs.Operation.{findCode}
-use Rattle.message.specs.Reply.{reply, bodyAt, fieldsOf, isAwaited, rowsOf, statisticsReply}
+use Rattle.message.specs.ReplyTable.{bodyAt}
+use Rattle.message.specs.Payload.{fieldsOf}
+use Rattle.message.specs.Reply.{reply, isAwaited, rowsOf, statisticsReply}
 use Rattle.reply_writer.proofs.SendLaws.{send-framed}
 use borrow.Author.Needs.{needs}
 use Rattle.reply_writer.proofs.write_statistics.Statement.{statement}

@@ -4,7 +4,8 @@ use mathlib.Core.Bool.{false}
 use lib.Dec.{eqb}
 use Rattle.message.specs.declared.Operation.the-variants.{Ping}
 use Rattle.message.specs.Operation.{findCode}
-use Rattle.message.specs.Reply.{errorCode, errors, isAllowed, isAwaited, rowsOf, reply, errorReply}
+use Rattle.message.specs.ReplyTable.{errorCode, errors, isAllowed}
+use Rattle.message.specs.Reply.{isAwaited, rowsOf, reply, errorReply}
 use Rattle.rules.proofs.BodyLaws.{error-text}
 use Rattle.reply_writer.specs.Frame.{errorOf}
 use Rattle.reply_writer.proofs.SendLaws.{send-framed}

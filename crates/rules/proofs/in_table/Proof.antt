@@ -1,8 +1,8 @@
 -- `rules::in_table` meets its contract: each arm has the rows of its operation. Assumes nothing.
 use mathlib.Core.Path.{_∙_}
 use mathlib.Core.Option.{some}
-use Rattle.message.specs.Reply as m
-use Rattle.message.specs.Reply.{bodyAt}
+use Rattle.message.specs.ReplyTable as m
+use Rattle.message.specs.ReplyTable.{bodyAt}
 use Rattle.rules.proofs.BodyLaws.{row-0, rows-01, rows-02}
 use borrow.Author.Needs.{needs}
 use Rattle.rules.proofs.in_table.Statement.{statement}

@@ -1,7 +1,7 @@
 -- `reply_reader::read::read_body` meets its contract. Assumes nothing.
 use mathlib.Core.Path.{sym, _∙_}
 use native.Mathlib.Omega.{arith}
-use Rattle.message.specs.Reply.{fieldsOf}
+use Rattle.message.specs.Payload.{fieldsOf}
 use Rattle.reply_reader.proofs.ReadLaws.{with-none, with-value, with-version, with-text, with-statistics, with-entries}
 use borrow.Author.Needs.{needs}
 use Rattle.reply_reader.proofs.read.read_body.Statement.{statement}

@@ -5,7 +5,8 @@ use borrow.Author.Tests.{not-true, not-false}
 use Rattle.wire.specs.Codec.{Read, mapped, readAt}
 use Rattle.wire.specs.Number.{vLong}
 use Rattle.field.proofs.Parts.{number-stops}
-use Rattle.message.specs.Reply.{isAwaited, rowsOf, bodyAt, isAllowed, message}
+use Rattle.message.specs.ReplyTable.{bodyAt, isAllowed}
+use Rattle.message.specs.Reply.{isAwaited, rowsOf, message}
 use Rattle.reply_reader.specs.ReplyRead.{Answer, replyAt}
 use Rattle.reply_reader.proofs.ReadLaws.{rest1, rest2, rest3, rest4, rest5, at-message}
 use Rattle.reply_reader.proofs.BulkLaws.{bulk-form}

@@ -4,7 +4,8 @@ use native.Mathlib.Omega.{arith}
 use Rattle.wire.specs.Number.{vLong}
 use Rattle.wire.proofs.WriteLaws.{put-wrote}
 use Rattle.statistics.specs.Statistics.{statistics, listOf}
-use Rattle.message.specs.Reply.{statisticsBody, statisticsReply}
+use Rattle.message.specs.Payload.{statisticsBody}
+use Rattle.message.specs.Reply.{statisticsReply}
 use Rattle.reply_writer.proofs.SendLaws.{rules, headed, counted-ok, counted-length, counted-wrote}
 use borrow.Author.Needs.{needs}
 use Rattle.reply_writer.proofs.counted.put_counted.Statement.{statement}

@@ -10,7 +10,8 @@ use Rattle.wire.specs.Write.{Room}
 use Rattle.wire.proofs.NumberWrite.{number-good, number-bad}
 use Rattle.wire.proofs.WriteLaws.{send-broken, send-short, send-done}
 use Rattle.statistics.specs.Statistics.{statistics, listOf}
-use Rattle.message.specs.Reply.{statisticsBody, statisticsReply}
+use Rattle.message.specs.Payload.{statisticsBody}
+use Rattle.message.specs.Reply.{statisticsReply}
 use Rattle.reply_writer.specs.Frame.{framed}
 use Rattle.reply_writer.proofs.SendLaws.{framed-ok, framed-length, counted-ok, counted-length}
 use borrow.Author.Needs.{needs}

@@ -4,7 +4,8 @@ use mathlib.Core.List.{[]}
 use native.Mathlib.Nat.{add-zero}
 use Rattle.wire.specs.Codec.{empty, as-type}
 use Rattle.wire.specs.Number.{vLong}
-use Rattle.message.specs.Reply.{noBody, bulkReply}
+use Rattle.message.specs.Payload.{noBody}
+use Rattle.message.specs.Reply.{bulkReply}
 use Rattle.reply_writer.proofs.SendLaws.{headed}
 use borrow.Author.Needs.{needs}
 use Rattle.reply_writer.proofs.listed.put_head.Statement.{statement}

@@ -8,7 +8,7 @@ use Rattle.wire.proofs.WriteLaws.{send-broken}
 use Rattle.listing.specs.EntryWrite.{listedIn, asSize}
 use Rattle.listing.proofs.Writing.{length-some, length-none}
 use Rattle.message.specs.Listing.{listing}
-use Rattle.message.specs.Reply.{listedBody}
+use Rattle.message.specs.Payload.{listedBody}
 use Rattle.reply_writer.specs.Frame.{framed}
 use Rattle.reply_writer.proofs.SendLaws.{bulk-ok, head-ok, bulk-broken, bulk-short, head-room, bulk-sent}
 use borrow.Author.Needs.{needs}

@@ -2,8 +2,8 @@
 use native.Mathlib.Nat.{add-zero}
 use native.Mathlib.Omega.{arith}
 use Rattle.wire.specs.Codec.{empty, as-type}
-use Rattle.message.specs.Reply.{noBody}
-use Rattle.message.specs.Reply.{fieldsOf}
+use Rattle.message.specs.Payload.{noBody}
+use Rattle.message.specs.Payload.{fieldsOf}
 use Rattle.reply_writer.specs.Frame.{payloadOf}
 use Rattle.reply_writer.proofs.SendLaws.{value-size, versioned-size, text-size, no-entries-size, unsent}
 use borrow.Author.Needs.{needs}

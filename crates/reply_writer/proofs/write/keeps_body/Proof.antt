@@ -4,8 +4,8 @@ use native.Mathlib.Omega.{arith}
 use borrow.Author.Tests.{eq-eqb, ne-eqb}
 use Rattle.wire.specs.Codec.{seq, as-type}
 use Rattle.wire.proofs.FieldLaws.{big-good}
-use Rattle.message.specs.Reply.{valueBody, versionedBody, textBody}
-use Rattle.message.specs.Reply.{fieldsOf}
+use Rattle.message.specs.Payload.{valueBody, versionedBody, textBody}
+use Rattle.message.specs.Payload.{fieldsOf}
 use Rattle.reply_writer.proofs.SendLaws.{none-ok, no-entries-ok, no-statistics}
 use borrow.Author.Needs.{needs}
 use Rattle.reply_writer.proofs.write.keeps_body.Statement.{statement}

@@ -1,7 +1,7 @@
 -- `reply_writer::write::length_of` meets its contract. Assumes nothing.
 use native.Mathlib.Omega.{arith}
 use Rattle.message.specs.Reply.{replyOf}
-use Rattle.message.specs.Reply.{fieldsOf}
+use Rattle.message.specs.Payload.{fieldsOf}
 use Rattle.reply_writer.proofs.SendLaws.{rules, framed-length}
 use borrow.Author.Needs.{needs}
 use Rattle.reply_writer.proofs.write.length_of.Statement.{statement}

@@ -2,8 +2,8 @@
 use mathlib.Core.Path.{refl, sym}
 use native.Mathlib.Nat.{add-zero}
 use Rattle.wire.specs.Codec.{empty, as-type}
-use Rattle.message.specs.Reply.{noBody}
-use Rattle.message.specs.Reply.{fieldsOf}
+use Rattle.message.specs.Payload.{noBody}
+use Rattle.message.specs.Payload.{fieldsOf}
 use Rattle.reply_writer.specs.Frame.{payloadOf}
 use Rattle.reply_writer.proofs.SendLaws.{put-value, put-versioned, put-text, put-no-entries, unsent}
 use borrow.Author.Needs.{needs}

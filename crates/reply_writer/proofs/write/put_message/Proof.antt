@@ -1,7 +1,7 @@
 -- `reply_writer::write::put_message` meets its contract: a field after the other. Assumes nothing.
 use Rattle.wire.specs.Number.{vLong}
 use Rattle.message.specs.Reply.{replyOf}
-use Rattle.message.specs.Reply.{fieldsOf}
+use Rattle.message.specs.Payload.{fieldsOf}
 use Rattle.reply_writer.proofs.SendLaws.{rules, headed}
 use borrow.Author.Needs.{needs}
 use Rattle.reply_writer.proofs.write.put_message.Statement.{statement}

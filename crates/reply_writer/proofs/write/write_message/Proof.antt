@@ -5,7 +5,7 @@ use borrow.Author.Tests.{not-true, not-false}
 use Rattle.wire.specs.Codec.{Valid}
 use Rattle.wire.proofs.WriteLaws.{send-broken, send-short, send-done}
 use Rattle.message.specs.Reply.{replyOf}
-use Rattle.message.specs.Reply.{fieldsOf}
+use Rattle.message.specs.Payload.{fieldsOf}
 use Rattle.reply_writer.specs.Frame.{framed}
 use borrow.Author.Needs.{needs}
 use Rattle.reply_writer.proofs.write.write_message.Statement.{statement}

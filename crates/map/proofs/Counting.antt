@@ -15,8 +15,8 @@ use Rattle.map.specs.History.{mostCount, onward, adds, marked, tally, st
 use Rattle.map.specs.State.{State}
 use Rattle.map.specs.Deadline.{expired}
 use Rattle.map.specs.Step.{Context, isNone, held, present, swept, noted, arrive}
-use Rattle.map.specs.Table.{Sizes, OtherKey, OtherVersion, Issued, Counts, lastSecond, Seconds, IsTable}
-use Rattle.map.proofs.Each.{fewer, each-without, pairs-without}
+use Rattle.map.specs.Table.{Counts, lastSecond, Seconds, IsTable}
+use Rattle.map.proofs.Each.{table-without, table-history}
 
 abbrev Within : ℕ → Type 0
 Within n = n ≤ mostCount
@@ -73,15 +73,4 @@ module _ (c : Context) (r : Request) (st : State) (h : c .second < 0x1_0000_0000
   -- and a table one
   pub arrive-table : IsTable st → IsTable (arrive c r st)
   unfolding arrive noted swept
-  arrive-table s =
-      let p = expired (present c st) in
-      record {
-        few = omega (arith, fewer p (st .entries), s .few);
-        keys = pairs-without p OtherKey (st .entries) (s .keys);
-        sizes = each-without p Sizes (st .entries) (s .sizes);
-        versions = pairs-without p OtherVersion (st .entries) (s .versions);
-        issued = each-without p (Issued (st .last)) (st .entries) (s .issued);
-        last = s .last;
-        counts = arrive-counts c r st (s .counts);
-        seconds = arrive-seconds (s .seconds);
-      }
+  arrive-table s = table-history (arrive c r st .history) (arrive-counts c r st (s .counts)) (arrive-seconds (s .seconds)) (table-without (expired (present c st)) s)

@@ -7,8 +7,9 @@ use Prim.Native.Nat.{suc, _≤_, zero-le, suc-le-suc}
 use native.Mathlib.Omega.{arith}
 use lib.ListN.{length}
 use Rattle.wire.proofs.Basics.{pick}
-use Rattle.map.specs.State.{Entry, find, without}
-use Rattle.map.specs.Table.{Each, Pairs}
+use Rattle.map.specs.History.{History}
+use Rattle.map.specs.State.{Entry, State, withEntries, withHistory, find, without}
+use Rattle.map.specs.Table.{Each, Pairs, Sizes, OtherKey, OtherVersion, Issued, Counts, Seconds, IsTable}
 
 pub each-map : (P Q : Entry → Type 0) → ((e : Entry) → P e → Q e) → (es : List Entry) → Each P es → Each Q es
 each-map P Q f [] h = tt
@@ -92,3 +93,21 @@ same-length nil = refl
 same-length (cons p s) = ap suc (same-length s)
 same-length (swap p q) = refl
 same-length (trans s t) = same-length s ∙ same-length t
+
+-- a table without some of its entries is one, and so is one with another history
+pub table-without : (p : Entry → Bool) {st : State} → IsTable st → IsTable (withEntries (without p (st .entries)) st)
+table-without p {st} s =
+    record {
+      few = omega (arith, fewer p (st .entries), s .few);
+      keys = pairs-without p OtherKey (st .entries) (s .keys);
+      sizes = each-without p Sizes (st .entries) (s .sizes);
+      versions = pairs-without p OtherVersion (st .entries) (s .versions);
+      issued = each-without p (Issued (st .last)) (st .entries) (s .issued);
+      last = s .last;
+      counts = s .counts;
+      seconds = s .seconds;
+    }
+
+pub table-history : {st : State} (h : History) → Counts h → Seconds h → IsTable st → IsTable (withHistory h st)
+table-history h c q s =
+    record { few = s .few; keys = s .keys; sizes = s .sizes; versions = s .versions; issued = s .issued; last = s .last; counts = c; seconds = q }

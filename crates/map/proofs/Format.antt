@@ -24,6 +24,7 @@ use Rattle.message.specs.Reply.{Reply, fields, message, isAwaited, rowsOf, bulk
 use Rattle.message.specs.Listing.{mostListed}
 use Rattle.message.proofs.RequestLaws.{code-found}
 use Rattle.message.proofs.RequestParts as asked
+use Rattle.message.proofs.Every.{every, rows-are}
 use Rattle.message.proofs.ReplyParts.{whole-reply}
 use Rattle.message.proofs.ReplySize.{longestReply, reply-most}
 use Rattle.statistics.specs.Statistics as stats
@@ -89,20 +90,7 @@ Coded o = Valid (guard (isAwaited o) 4 byte) (codeOf o + 1) × (rowsOf o (codeOf
 
 coded : (o : Operation) → Coded o
 unfolding guard byte
-coded Put = (refl, refl)
-coded Get = (refl, refl)
-coded PutIfAbsent = (refl, refl)
-coded Replace = (refl, refl)
-coded ReplaceIfUnmodified = (refl, refl)
-coded Remove = (refl, refl)
-coded RemoveIfUnmodified = (refl, refl)
-coded ContainsKey = (refl, refl)
-coded GetWithVersion = (refl, refl)
-coded Clear = (refl, refl)
-coded Stats = (refl, refl)
-coded Ping = (refl, refl)
-coded BulkGet = (refl, refl)
-coded BulkGetKeys = (refl, refl)
+coded o = (every (λ o. guard (isAwaited o) 4 byte .ok (codeOf o + 1)) refl o, rows-are o)
 
 -- the bytes of what is shown
 abbrev carried : Shown → Payload

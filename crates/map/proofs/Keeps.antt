@@ -17,7 +17,7 @@ use Rattle.map.specs.Deadline.{expired}
 use Rattle.map.specs.Plan.{Change, keep, store, drop, empty}
 use Rattle.map.specs.Step.{mostKeys, lastVersion, Context, Answer, answered, entry, stored, dropped, emptied, isNone, names, held, full, planned, present, swept, noted, arrive, step}
 use Rattle.map.specs.Table.{Each, Sizes, OtherKey, OtherVersion, Issued, lastSecond, IsTable, Ascending}
-use Rattle.map.proofs.Each.{fewer, each-map, each-without, pairs-without, each-left, each-add, pairs-add}
+use Rattle.map.proofs.Each.{table-without, fewer, each-map, each-without, pairs-without, each-left, each-add, pairs-add}
 use Rattle.map.proofs.Answered.{changed, did}
 use Rattle.wire.proofs.SameLaws.{other-differ}
 use Rattle.map.proofs.Deadline.{deadline-most}
@@ -70,18 +70,7 @@ module _ (r : Request) (st : State) (s : IsTable st) where
 
   rest-table : IsTable (dropped r st)
   unfolding dropped
-  rest-table =
-      let p = names r in
-      record {
-        few = omega (arith, fewer p (st .entries), s .few);
-        keys = pairs-without p OtherKey (st .entries) (s .keys);
-        sizes = each-without p Sizes (st .entries) (s .sizes);
-        versions = pairs-without p OtherVersion (st .entries) (s .versions);
-        issued = rest-issued;
-        last = s .last;
-        counts = s .counts;
-        seconds = s .seconds;
-      }
+  rest-table = table-without (names r) s
 
   module _ (fits : Sizes (entry (st .history .latest) r (suc (st .last)))) where
     stored-table : full r st ≡ false → st .last < lastVersion → IsTable (stored r st)

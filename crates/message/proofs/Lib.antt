@@ -1,5 +1,6 @@
 pub mod RequestLaws
 pub mod RequestParts
+pub mod Every
 pub mod Editions
 pub mod Lists
 pub mod Most

@@ -1,24 +1,25 @@
 -- The greatest length of a reply. Assumes nothing.
 use mathlib.Core.Path.{_≡_, refl}
-use mathlib.Core.List.{List, [], _∷_}
-use mathlib.Core.Option.{Option, none, some}
-use mathlib.Core.Bool.{Bool, true, false, cond, _&&_}
+use mathlib.Core.List.{List}
+use mathlib.Core.Option.{Option, some}
+use mathlib.Core.Bool.{Bool, true, false, cond}
 use Prim.Native.Nat.{ℕ, _+_, _*_, _≤_, zero-le}
 use native.Mathlib.Omega.{arith}
 use lib.ListN.{length}
 use lib.Dec.{eqb, leb, lit≤}
-use borrow.Author.Tests.{leb-true}
+use borrow.Author.Tests.{leb-true, le-leb}
 use Rattle.wire.specs.Codec.{Valid}
-use Rattle.wire.proofs.Laws.{never, both, guard-valid}
+use Rattle.wire.proofs.Laws.{never, guard-valid}
 use Rattle.wire.proofs.Basics.{pick}
 use Rattle.statistics.proofs.Writing.{statistics-most}
 use Rattle.message.specs.declared.Operation.{Operation}
 use Rattle.message.specs.declared.Operation.the-variants.{Put, Get, PutIfAbsent, Replace, ReplaceIfUnmodified, Remove, RemoveIfUnmodified, ContainsKey, GetWithVersion, Clear, Stats, Ping, BulkGet, BulkGetKeys}
 use Rattle.message.specs.Operation.{codeOf}
 use Rattle.message.specs.Request.{valueLimit}
-use Rattle.message.specs.ReplyTable.{Body, nothing, old, oldNone, value, versioned, text, statistics, entries, keys, errors, errorCode, bodyAt, isAllowed, allowed}
+use Rattle.message.specs.ReplyTable.{table, Body, nothing, old, oldNone, value, versioned, text, statistics, entries, keys, errors, errorCode, bodyAt, isAllowed, allowed}
 use Rattle.message.specs.Payload.{textLimit, noBody, valueBody, versionedBody, textBody, statisticsBody, listedBody, fieldsOf, formOf}
 use Rattle.message.specs.Reply.{asked, Reply, fields, message, isAwaited, rowsOf, reply, errorReply}
+use Rattle.message.proofs.Every.{every, bodies, every-body}
 use Rattle.message.proofs.RequestLaws.{code-found}
 use Rattle.message.proofs.ListingLaws.{longest, listing-most}
 use Rattle.message.proofs.Most.{Most, most-less, seq-most, guard-most, type-most, empty-most, byte-most, big-most, vLong-most, limited-most, text-most}
@@ -85,17 +86,9 @@ body-most flag statistics = statisticsBody-most
 body-most flag entries = listedBody-most true
 body-most flag keys = listedBody-most false
 
--- rows of which none carries more than n bytes
-abbrev under : ℕ → List (ℕ × Body) → Bool
-under n [] = true
-under n (r ∷ rs) = leb (bodyLongest (r .1)) n && under n rs
-
-under-at : (n s : ℕ) (rs : List (ℕ × Body)) → under n rs ≡ true → bodyLongest (allowed (bodyAt s rs)) ≤ n
-unfolding bodyAt
-under-at n s [] h = zero-le
-under-at n s (r ∷ rs) h =
-    let w = both (leb (bodyLongest (r .1)) n) (under n rs) h in
-    pick (λ x. bodyLongest (allowed x) ≤ n) (eqb s (r .0)) (λ e. leb-true (bodyLongest (r .1)) n (w .0)) (under-at n s rs (w .1))
+-- none of the rows carries more than n bytes
+abbrev short : ℕ → Body → Bool
+short n b = leb (bodyLongest b) n
 
 -- the greatest length of what a reply to an operation carries
 abbrev mostCarried : Operation → ℕ
@@ -114,21 +107,12 @@ mostCarried Ping = 266
 mostCarried BulkGet = 41_473
 mostCarried BulkGetKeys = 8_449
 
-under-rows : (o : Operation) (op : ℕ) → under (mostCarried o) (rowsOf o op) ≡ true
-under-rows Put op = pick (λ rs. under 266 rs ≡ true) (eqb op errorCode) (λ e. refl) refl
-under-rows Get op = pick (λ rs. under 266 rs ≡ true) (eqb op errorCode) (λ e. refl) refl
-under-rows PutIfAbsent op = pick (λ rs. under 266 rs ≡ true) (eqb op errorCode) (λ e. refl) refl
-under-rows Replace op = pick (λ rs. under 266 rs ≡ true) (eqb op errorCode) (λ e. refl) refl
-under-rows ReplaceIfUnmodified op = pick (λ rs. under 266 rs ≡ true) (eqb op errorCode) (λ e. refl) refl
-under-rows Remove op = pick (λ rs. under 266 rs ≡ true) (eqb op errorCode) (λ e. refl) refl
-under-rows RemoveIfUnmodified op = pick (λ rs. under 266 rs ≡ true) (eqb op errorCode) (λ e. refl) refl
-under-rows ContainsKey op = pick (λ rs. under 266 rs ≡ true) (eqb op errorCode) (λ e. refl) refl
-under-rows GetWithVersion op = pick (λ rs. under 266 rs ≡ true) (eqb op errorCode) (λ e. refl) refl
-under-rows Clear op = pick (λ rs. under 266 rs ≡ true) (eqb op errorCode) (λ e. refl) refl
-under-rows Stats op = pick (λ rs. under 294 rs ≡ true) (eqb op errorCode) (λ e. refl) refl
-under-rows Ping op = pick (λ rs. under 266 rs ≡ true) (eqb op errorCode) (λ e. refl) refl
-under-rows BulkGet op = pick (λ rs. under 41_473 rs ≡ true) (eqb op errorCode) (λ e. refl) refl
-under-rows BulkGetKeys op = pick (λ rs. under 8_449 rs ≡ true) (eqb op errorCode) (λ e. refl) refl
+under-rows : (o : Operation) (op s : ℕ) → bodyLongest (allowed (bodyAt s (rowsOf o op))) ≤ mostCarried o
+under-rows o op s =
+    leb-true (bodyLongest (allowed (bodyAt s (rowsOf o op)))) (mostCarried o)
+    (every-body (short (mostCarried o)) s (rowsOf o op) (le-leb 0 (mostCarried o) zero-le)
+    (pick (λ rs. bodies (short (mostCarried o)) rs ≡ true) (eqb op errorCode) (λ e. every (λ o. bodies (short (mostCarried o)) errors) refl o)
+    (every (λ o. bodies (short (mostCarried o)) (table o)) refl o)))
 
 -- "No reply is longer than 279 bytes" but "a stats reply may pass 279 bytes and stays under 512", and "such a reply may pass 279 bytes": that of bulkGet
 -- has at most 41,486, and that of bulkGetKeys 8,462
@@ -138,7 +122,7 @@ longestReply o = 13 + mostCarried o
 pub reply-most : (o : Operation) (flag : Bool) (r : Reply) → Valid (reply (asked (codeOf o) flag)) r → length (reply (asked (codeOf o) flag) .enc r) ≤ longestReply o
 unfolding reply
 reply-most o flag r v =
-    let m = message-most (isAwaited o) (rowsOf o) flag (mostCarried o) (λ op s e. most-less (under-at (mostCarried o) s (rowsOf o op) (under-rows o op)) (body-most flag (allowed (bodyAt s (rowsOf o op))))) in
+    let m = message-most (isAwaited o) (rowsOf o) flag (mostCarried o) (λ op s e. most-less (under-rows o op s) (body-most flag (allowed (bodyAt s (rowsOf o op))))) in
     rw (code-found o) (m .most r (rw (code-found o) at v))
 
 -- each error carries a text

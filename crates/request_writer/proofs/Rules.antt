@@ -4,7 +4,7 @@ use mathlib.Core.Bool.{Bool, true, false, _&&_}
 use Prim.Native.Nat.{ℕ, _≤_, _<_, _^_}
 use native.Mathlib.Omega.{arith}
 use lib.ListN.{length}
-use lib.Dec.{eqb, leb, lit≤}
+use lib.Dec.{eqb, leb}
 use borrow.Author.Tests.{leb-true, le-leb, eqb-true, eq-eqb, lt-ltb}
 use Rattle.wire.specs.Codec.{Codec, Valid, Bytes, empty, byte}
 use Rattle.wire.specs.Number.{vInt, vLong}
@@ -16,12 +16,12 @@ use Rattle.wire.proofs.FieldLaws.{big-good, limited-valid, limited-good}
 use Rattle.text.specs.Text.{isText}
 use Rattle.field.specs.FieldRead.{limitedText}
 use Rattle.message.specs.declared.Operation.{Operation}
-use Rattle.message.specs.declared.Operation.the-variants.{Put, Get, PutIfAbsent, Replace, ReplaceIfUnmodified, Remove, RemoveIfUnmodified, ContainsKey, GetWithVersion, Clear, Stats, Ping, BulkGet, BulkGetKeys}
 use Rattle.message.specs.Operation.{codeOf}
 use Rattle.message.specs.Request.{Shape, keyed, writes, writesIf, keyedIf, bare, bulk, shapeOf, Args, argsOf, isEmpty, noTimes, noEntry, noBulk, noValue, opFits, operation, isVersion, editionAt, Request, request, nameLimit, keyLimit, valueLimit}
 use Rattle.message.proofs.RequestLaws.{code-found}
 use Rattle.message.proofs.RequestParts.{parts, whole-request}
-use Rattle.message.proofs.Editions.{flags-small, version-small, code-small}
+use Rattle.message.proofs.Editions.{flags-small, version-small}
+use Rattle.message.proofs.Every.{every, code-small}
 use Rattle.request_writer.specs.Parts.{Limits, limitsOf}
 
 -- a test of a message tells its rules
@@ -180,20 +180,7 @@ module _ (a : Args) where
 -- each number that an operation sends is a vInt
 pub bulk-int : (o : Operation) → limitsOf (shapeOf o) .bulk ≤ 0xffff_ffff
 unfolding shapeOf
-bulk-int Put = lit≤ tt
-bulk-int Get = lit≤ tt
-bulk-int PutIfAbsent = lit≤ tt
-bulk-int Replace = lit≤ tt
-bulk-int ReplaceIfUnmodified = lit≤ tt
-bulk-int Remove = lit≤ tt
-bulk-int RemoveIfUnmodified = lit≤ tt
-bulk-int ContainsKey = lit≤ tt
-bulk-int GetWithVersion = lit≤ tt
-bulk-int Clear = lit≤ tt
-bulk-int Stats = lit≤ tt
-bulk-int Ping = lit≤ tt
-bulk-int BulkGet = lit≤ tt
-bulk-int BulkGetKeys = lit≤ tt
+bulk-int o = leb-true (limitsOf (shapeOf o) .bulk) 0xffff_ffff (every (λ o. leb (limitsOf (shapeOf o) .bulk) 0xffff_ffff) refl o)
 
 -- the test of the arguments, by limits that are those of the operation's shape
 module _ (o : Operation) (a : Args) (l : Limits) (e : l ≡ limitsOf (shapeOf o)) where

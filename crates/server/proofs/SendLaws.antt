@@ -1,7 +1,7 @@
 -- Replies that fit are written, and the reply to a request is the one that the map gives. Assumes nothing.
 use mathlib.Core.Path.{_≡_, refl, sym, ap, ap₂, _∙_}
 use mathlib.Core.List.{List, [], _∷_, _++_, map, append-nil}
-use mathlib.Core.Bool.{Bool, true, false, cond}
+use mathlib.Core.Bool.{Bool, true, false, cond, not, _||_}
 use mathlib.Core.Option.{Option, none, some}
 use Prim.Native.Nat.{ℕ, _+_, _*_, _≤_, _<_}
 use native.Mathlib.Nat.{zero-add}
@@ -11,29 +11,28 @@ use lib.Seq.{sets, sets-eq}
 use lib.Dec.{eqb}
 use types.Run.{OneOf, miss}
 use denote.Enum.Declared.{tagOf}
-use borrow.Author.Tests.{ne-eqb}
+use borrow.Author.Tests.{eqb-true}
 use Rattle.wire.specs.Codec.{Read, whole, more, refused, Codec, Valid, Bytes, byte, guard, seq, as-type}
 use Rattle.wire.specs.Number.{vLong}
 use Rattle.wire.specs.Write as wire
 use Rattle.wire.specs.Write.{send, written}
-use Rattle.wire.proofs.Basics.{pick}
 use Rattle.wire.proofs.Laws.{never, after-whole, seq-valid, seq-laws, guard-laws, byte-laws}
 use Rattle.wire.proofs.NumberLaws.{valid, vLong-laws}
 use Rattle.wire.proofs.WriteLaws.{send-room}
 use Rattle.message.specs.declared.Operation.{Operation}
-use Rattle.message.specs.declared.Operation.the-variants.{Put, Get, PutIfAbsent, Replace, ReplaceIfUnmodified, Remove, RemoveIfUnmodified, ContainsKey, GetWithVersion, Clear, Stats, Ping, BulkGet, BulkGetKeys}
+use Rattle.message.specs.declared.Operation.the-variants.{Stats}
 use Rattle.message.specs.Operation.{codeOf}
-use Rattle.message.specs.Request.{Request, valueLimit}
+use Rattle.message.specs.Request.{Request}
 use Rattle.message.specs.ReplyTable.{table, bodyAt, allowed}
-use Rattle.message.specs.Payload.{payload, oldForm, formOf}
+use Rattle.message.specs.Payload.{payload, formOf}
 use Rattle.message.specs.Reply.{asked, Reply, rowsOf, reply, errorReply, statisticsReply, bulkOperation, bulkReply}
 use Rattle.message.specs.Refusal.{refusal}
 use Rattle.message.proofs.ErrorLaws.{refusal-good}
 use Rattle.message.proofs.ReplySize.{error-most}
 use Rattle.map.specs.State.{Entry}
-use Rattle.map.specs.Plan.{Plan, plans, plan}
+use Rattle.map.specs.Plan.{plans, plan}
 use Rattle.map.specs.Shown.{noValue, value, shows, wanted, lowest, listedBy}
-use Rattle.map.specs.Step.{mostKeys, Context, wantsOld, held, versionOf, planned, statistics, answer}
+use Rattle.map.specs.Step.{mostKeys, Context, wantsOld, held, planned, statistics, answer}
 use Rattle.map.specs.Reply.{Piece, flat, pieces, payloadOf, pairOf, replyTo, askedBy}
 use Rattle.map.proofs.Format.{pieces-reply, reply-valid, bulk-reply, answer-most}
 use Rattle.map.proofs.ListedLaws.{listed-is}
@@ -48,7 +47,7 @@ use Rattle.message.specs.declared.Form.{Form}
 use Rattle.message.specs.declared.Form.the-variants as f
 use Rattle.message.proofs.Form as form-code
 use Rattle.message.proofs.Operation as operation-code
-use Rattle.message.proofs.Editions.{code-small}
+use Rattle.message.proofs.Every.{every, every-of, bodies, every-body, rows-are}
 use Rattle.service.specs.Serve as stream
 use Rattle.service.specs.Serve.{room, roomOf, errorPieces}
 use Rattle.service.proofs.Bounds.{reply-room}
@@ -121,36 +120,13 @@ shown-same f.Statistics ns es o p = never (cc)
 shown-same (f.Listed values) ns es o p = never (cc)
 
 -- the reply to such an operation is of such a form, by the rows of the reply table
-plain-old : (t : Bool) (lim : ℕ) → plain (oldForm t lim) ≡ true
-plain-old true lim = refl
-plain-old false lim = refl
+plain-test : (t : Bool) (o : Operation) → (not (isPlain o) || bodies (λ b. plain (formOf t b)) (table o)) ≡ true
+unfolding isPlain
+plain-test true = every (λ o. not (isPlain o) || bodies (λ b. plain (formOf true b)) (table o)) refl
+plain-test false = every (λ o. not (isPlain o) || bodies (λ b. plain (formOf false b)) (table o)) refl
 
-plain-form : (o : Operation) (t : Bool) (v : ℕ) (h : Option ℕ) → isPlain o ≡ true → plain (formOf t (allowed (bodyAt (plan o v h .status) (table o)))) ≡ true
-unfolding plan plans bodyAt isPlain
-plain-form Put t v h n = plain-old t valueLimit
-plain-form PutIfAbsent t v none n = plain-old t 0
-plain-form PutIfAbsent t v (some w) n = plain-old t valueLimit
-plain-form Replace t v none n = plain-old t 0
-plain-form Replace t v (some w) n = plain-old t valueLimit
-plain-form ReplaceIfUnmodified t v none n = plain-old t 0
-plain-form ReplaceIfUnmodified t v (some w) n =
-    pick (λ (p : Plan). plain (formOf t (allowed (bodyAt (p .status) (table ReplaceIfUnmodified)))) ≡ true) (eqb w v) (λ q. plain-old t valueLimit) (plain-old t 0)
-plain-form Remove t v none n = plain-old t 0
-plain-form Remove t v (some w) n = plain-old t valueLimit
-plain-form RemoveIfUnmodified t v none n = plain-old t 0
-plain-form RemoveIfUnmodified t v (some w) n =
-    pick (λ (p : Plan). plain (formOf t (allowed (bodyAt (p .status) (table RemoveIfUnmodified)))) ≡ true) (eqb w v) (λ q. plain-old t valueLimit) (plain-old t 0)
-plain-form Get t v none n = refl
-plain-form Get t v (some w) n = refl
-plain-form GetWithVersion t v none n = refl
-plain-form GetWithVersion t v (some w) n = refl
-plain-form ContainsKey t v none n = refl
-plain-form ContainsKey t v (some w) n = refl
-plain-form Clear t v h n = refl
-plain-form Stats t v h n = never (cc)
-plain-form Ping t v h n = refl
-plain-form BulkGet t v h n = never (cc)
-plain-form BulkGetKeys t v h n = never (cc)
+plain-rows : (o : Operation) (t : Bool) → isPlain o ≡ true → bodies (λ b. plain (formOf t b)) (table o) ≡ true
+plain-rows o t n = rw n at (plain-test t o)
 
 -- the tags of the operations whose replies show at most one entry, and of those that ask for no more room than any call has
 abbrev plainTags : List ℕ
@@ -158,44 +134,14 @@ plainTags = 0 ∷ 1 ∷ 2 ∷ 3 ∷ 4 ∷ 5 ∷ 6 ∷ 7 ∷ 8 ∷ 9 ∷ 11 ∷ [
 
 pub plain-tags : (o : Operation) → OneOf plainTags (tagOf operation-code.the-type o) → isPlain o ≡ true
 unfolding isPlain
-plain-tags Put k = refl
-plain-tags Get k = refl
-plain-tags PutIfAbsent k = refl
-plain-tags Replace k = refl
-plain-tags ReplaceIfUnmodified k = refl
-plain-tags Remove k = refl
-plain-tags RemoveIfUnmodified k = refl
-plain-tags ContainsKey k = refl
-plain-tags GetWithVersion k = refl
-plain-tags Clear k = refl
-plain-tags Stats k = absurd (miss plainTags 10 tt k)
-plain-tags Ping k = refl
-plain-tags BulkGet k = absurd (miss plainTags 12 tt k)
-plain-tags BulkGetKeys k = absurd (miss plainTags 13 tt k)
+plain-tags = every-of plainTags isPlain refl
 
 abbrev shortTags : List ℕ
 shortTags = 0 ∷ 1 ∷ 2 ∷ 3 ∷ 4 ∷ 5 ∷ 6 ∷ 7 ∷ 8 ∷ 9 ∷ 10 ∷ 11 ∷ []
 
 pub room-tags : (o : Operation) → OneOf shortTags (tagOf operation-code.the-type o) → room ≡ roomOf o
 unfolding roomOf
-room-tags Put k = refl
-room-tags Get k = refl
-room-tags PutIfAbsent k = refl
-room-tags Replace k = refl
-room-tags ReplaceIfUnmodified k = refl
-room-tags Remove k = refl
-room-tags RemoveIfUnmodified k = refl
-room-tags ContainsKey k = refl
-room-tags GetWithVersion k = refl
-room-tags Clear k = refl
-room-tags Stats k = refl
-room-tags Ping k = refl
-room-tags BulkGet k = absurd (miss shortTags 12 tt k)
-room-tags BulkGetKeys k = absurd (miss shortTags 13 tt k)
-
--- the rows of a reply to an operation are the operation's
-rows-are : (o : Operation) → rowsOf o (codeOf o + 1) ≡ table o
-rows-are o = rw (ne-eqb (codeOf o + 1) 0x50 (λ e. omega (arith, code-small o)))
+room-tags o k = eqb-true room (roomOf o) (every-of shortTags (λ o. eqb room (roomOf o)) refl o k)
 
 -- the form of the reply to a request, by the status
 abbrev pub form : Request → ℕ → Form
@@ -211,7 +157,7 @@ module _ (c : Context) {t : List ℕ} {q : Request} {y : Held} {s : ℕ} (g : Pl
       → (x, new) ≡ send (reply (asked code (wantsOld q))) (made code e v) old → (x, new) ≡ sentTo c q (stateOf t) old
   unfolding answer held planned
   held-sent old n o e w z =
-      let f = shown-same (formOf (wantsOld q) (allowed (bodyAt (planned q (stateOf t) .status) (table (q .op))))) (statistics c (stateOf t)) (listedBy q (stateOf t)) (heldAt t (q .args .key)) (plain-form (q .op) (wantsOld q) (q .args .entryVersion) (versionOf (heldAt t (q .args .key))) n) in
+      let f = shown-same (formOf (wantsOld q) (allowed (bodyAt (planned q (stateOf t) .status) (table (q .op))))) (statistics c (stateOf t)) (listedBy q (stateOf t)) (heldAt t (q .args .key)) (every-body (λ b. plain (formOf (wantsOld q) b)) (planned q (stateOf t) .status) (table (q .op)) refl (plain-rows (q .op) (wantsOld q) n)) in
       z ∙ rw (o, e, w, rows-are (q .op), ← (g .status), f)
 
   -- the reply to stats

@@ -7,19 +7,19 @@ use mathlib.Core.Logic.{⊎-elim}
 use Prim.Native.Nat.{ℕ, _≤_, _<_, zero-le}
 use native.Mathlib.Omega.{arith}
 use lib.ListN.{length}
-use lib.Dec.{eqb, ltb, lit≤}
-use borrow.Author.Tests.{le-ltb, ne-eqb, eqb-true}
+use lib.Dec.{eqb, leb, ltb}
+use borrow.Author.Tests.{le-ltb, ne-eqb, eqb-true, leb-true}
 use Rattle.wire.specs.Codec as wire
 use Rattle.wire.specs.Codec.{Read, Valid, Bytes}
 use Rattle.wire.proofs.Laws.{never}
 use Rattle.message.specs.declared.Operation.{Operation}
-use Rattle.message.specs.declared.Operation.the-variants.{Put, Get, PutIfAbsent, Replace, ReplaceIfUnmodified, Remove, RemoveIfUnmodified, ContainsKey, GetWithVersion, Clear, Stats, Ping, BulkGet, BulkGetKeys}
 use Rattle.message.specs.Request.{Request, request, isEmpty}
 use Rattle.message.specs.Reply.{errorReply}
 use Rattle.message.specs.Refusal.{refusal}
 use Rattle.message.proofs.RequestLaws.{request-laws}
 use Rattle.message.proofs.Sizes.{request-small}
 use Rattle.message.proofs.Refusals.{refusals}
+use Rattle.message.proofs.Every.{every}
 use Rattle.message.proofs.ReplySize.{longestReply, error-most}
 use Rattle.message.proofs.ErrorLaws.{refusal-good}
 use Rattle.message.specs.Start.{idIn}
@@ -65,20 +65,7 @@ late c r st =
 -- the longest reply to an operation fits the room that its requests ask for
 pub reply-room : (o : Operation) → longestReply o ≤ roomOf o
 unfolding roomOf
-reply-room Put = lit≤ tt
-reply-room Get = lit≤ tt
-reply-room PutIfAbsent = lit≤ tt
-reply-room Replace = lit≤ tt
-reply-room ReplaceIfUnmodified = lit≤ tt
-reply-room Remove = lit≤ tt
-reply-room RemoveIfUnmodified = lit≤ tt
-reply-room ContainsKey = lit≤ tt
-reply-room GetWithVersion = lit≤ tt
-reply-room Clear = lit≤ tt
-reply-room Stats = lit≤ tt
-reply-room Ping = lit≤ tt
-reply-room BulkGet = lit≤ tt
-reply-room BulkGetKeys = lit≤ tt
+reply-room o = leb-true (longestReply o) (roomOf o) (every (λ o. leb (longestReply o) (roomOf o)) refl o)
 
 -- so every reply fits the room of its request
 pub answer-fits : (c : Context) (r : Request) (st : State) (a : map-step.Answer) (t : State) → Valid request r → IsTable st → c .second < 0x1_0000_0000

@@ -1,31 +1,30 @@
 -- Reading a line: its fields one after another, and what the digits of a line say. Assumes nothing.
-use mathlib.Core.Path.{_≡_, refl, sym, ap, subst, _∙_}
-use mathlib.Core.List.{List, [], _∷_, _++_}
+use mathlib.Core.Path.{_≡_, refl, sym, ap, _∙_}
+use mathlib.Core.List.{List, [], _∷_}
 use mathlib.Core.Bool.{Bool, true, false, cond}
 use mathlib.Core.Option.{Option, none, some}
-use Prim.Native.Nat.{ℕ, _+_, _-_, _≤_, _<_}
+use Prim.Native.Nat.{ℕ, _-_, _≤_, _<_}
 use native.Mathlib.Omega.{arith}
 use types.Run.{OneOf}
 use denote.Enum.Declared.{tagOf}
-use lib.ListN.{length, take, drop, length-append}
-use lib.Seq.{take-at}
-use lib.Dec.{leb, eqb}
-use borrow.Author.Tests.{leb-false}
+use lib.ListN.{length, take, drop}
+use lib.Dec.{eqb}
 use Rattle.wire.specs.Codec.{Read, whole, more, refused, after, Codec, Bytes, byte, readAt, exactly}
 use Rattle.wire.specs.Field.{bigEndian, limited}
-use Rattle.wire.proofs.Laws.{Laws, never, after-after}
+use Rattle.wire.proofs.Laws.{Laws, after-after}
 use Rattle.wire.proofs.At.{at-front, at-seq, at-type, at-guard, at-cond}
 use Rattle.message.specs.Request.{keyLimit, valueLimit}
 use Rattle.message.proofs.Most.{Most}
 use Rattle.field.specs.FieldRead.{stopped}
 use Rattle.field.proofs.Parts.{not-whole}
 use Rattle.hex.specs.Hex.{fromHex}
-use Rattle.hex.specs.Number.{fromDigits}
-use Rattle.hex.specs.Coding.{decodedTo, decoded}
+use Rattle.hex.specs.Number.{fromBytes, fromDigits}
+use Rattle.hex.specs.Coding.{decoded}
 use Rattle.hex.specs.declared.Decoded.{Decoded}
 use Rattle.hex.specs.declared.Decoded.the-variants as d
 use Rattle.hex.proofs.Decoded as decoded-type
 use Rattle.hex.proofs.HexLaws.{to-from}
+use Rattle.hex.proofs.Decodes.{Decodes, decodes}
 use Rattle.hex.proofs.Values.{bytes-read}
 use Rattle.stored.specs.File.{form1, entryLine, headLine}
 use Rattle.stored.specs.StoreLoad.{headLoaded, lineLoaded, loaded}
@@ -54,25 +53,12 @@ pub record Digits {A : Type 0} (c : Codec A) (s new : List ℕ) (n : ℕ) : Type
   pub within : n ≤ length new
 
 module _ {A : Type 0} (c : Codec A) (s old new : List ℕ) where
-  decoded-some : (n : ℕ) (bs : List ℕ) (t : Bool) → fromHex s ≡ some bs
-      → _≡_ {A = Decoded × List ℕ} (d.Bytes n, new) (cond t (d.Bytes (length bs), bs ++ drop (length bs) old) (d.Short, old)) → Digits c s new n
-  unfolding fromDigits
-  decoded-some n bs true p e =
-      let q : d.Bytes n ≡ d.Bytes (length bs) = ap (λ (x : Decoded × List ℕ). x .0) e in
-      let m : n ≡ length bs = cc in
-      let w : new ≡ bs ++ drop (length bs) old = ap (λ (x : Decoded × List ℕ). x .1) e in
-      let z : n - 0 ≡ length bs = omega arith in
-      let y : take (n - 0) new ≡ bs = rw (z, w) (take-at bs (drop (length bs) old) (length bs) refl) in
-      record { read = rw (p, y); within = omega (arith, ap length w, length-append bs (drop (length bs) old)) }
-  decoded-some n bs false p e = let q : d.Bytes n ≡ d.Short = ap (λ (x : Decoded × List ℕ). x .0) e in never (cc)
-
   pub digits-read : (n : ℕ) → (d.Bytes n, new) ≡ decoded s old → Digits c s new n
-  unfolding decoded
-  digits-read n e = go (fromHex s) refl e
-    where
-      go : (o : Option (List ℕ)) → fromHex s ≡ o → _≡_ {A = Decoded × List ℕ} (d.Bytes n, new) (decodedTo old o) → Digits c s new n
-      go none p q = let x : d.Bytes n ≡ d.Bad = ap (λ (x : Decoded × List ℕ). x .0) q in never (cc)
-      go (some bs) p q = decoded-some n bs (leb (length bs) (length old)) p q
+  unfolding fromDigits
+  digits-read n e =
+      let h = decodes s old (d.Bytes n) new e in
+      let z : n - 0 ≡ n = omega arith in
+      record { read = rw (h .0, z); within = h .1 }
 
   module _ (l : Laws c) (m : ℕ) (most : Most c m) (room : m ≤ length old) where
     -- a value that has a written form is not too long
@@ -83,21 +69,14 @@ module _ {A : Type 0} (c : Codec A) (s old new : List ℕ) where
         go none e = refl
         go (some a) e = let x = bytes-read c l bs a b e in absurd (omega (arith, ap length (x .1), most .most a (x .0)))
 
-    decoded-none : (r : Decoded) (bs : List ℕ) (t : Bool) → leb (length bs) (length old) ≡ t → fromHex s ≡ some bs → OneOf (1 ∷ 2 ∷ []) (tagOf decoded-type.the-type r)
-        → _≡_ {A = Decoded × List ℕ} (r, new) (cond t (d.Bytes (length bs), bs ++ drop (length bs) old) (d.Short, old)) → fromDigits c s ≡ none
-    unfolding fromDigits
-    decoded-none r bs true q p k e =
-        let x : r ≡ d.Bytes (length bs) = ap (λ (x : Decoded × List ℕ). x .0) e in
-        not-whole (subst (λ (y : Decoded). OneOf (1 ∷ 2 ∷ []) (tagOf decoded-type.the-type y)) x k)
-    decoded-none r bs false q p k e = rw p (too-long bs (to-from s bs p .1) (leb-false (length bs) (length old) q))
-
     digits-none : (r : Decoded) → OneOf (1 ∷ 2 ∷ []) (tagOf decoded-type.the-type r) → (r, new) ≡ decoded s old → fromDigits c s ≡ none
-    unfolding decoded fromDigits
-    digits-none r k e = go (fromHex s) refl e
+    unfolding fromDigits
+    digits-none r k e = go r k (decodes s old r new e)
       where
-        go : (o : Option (List ℕ)) → fromHex s ≡ o → _≡_ {A = Decoded × List ℕ} (r, new) (decodedTo old o) → fromDigits c s ≡ none
-        go none p q = rw p
-        go (some bs) p q = decoded-none r bs (leb (length bs) (length old)) refl p k q
+        go : (r : Decoded) → OneOf (1 ∷ 2 ∷ []) (tagOf decoded-type.the-type r) → Decodes old r new (fromHex s) → fromBytes c (fromHex s) ≡ none
+        go (d.Bytes n) k h = not-whole k
+        go d.Bad k h = rw h
+        go d.Short k h = rw (h .1 .0) (too-long (h .0) (to-from s (h .0) (h .1 .0) .1) (h .1 .1))
 
 -- a line that is not of digits, or of too many, is not loaded
 pub loaded-none : (b : Bool) (s t old new : List ℕ) (r : Decoded) → 339 ≤ length old → OneOf (1 ∷ 2 ∷ []) (tagOf decoded-type.the-type r) → (r, new) ≡ decoded s old

@@ -6,46 +6,17 @@ use native.Mathlib.Omega.{arith}
 use lib.ListN.{length, length-append}
 use Rattle.wire.specs.Codec.{Valid}
 use Rattle.map.specs.History.{History, noHistory}
-use Rattle.map.specs.State.{Entry, State, withHistory}
+use Rattle.map.specs.State.{Entry, State}
 use Rattle.map.specs.Deadline.{expired}
-use Rattle.map.specs.Table.{Each, Sizes, OtherKey, OtherVersion, Issued, IsTable}
-use Rattle.map.proofs.Each.{fewer, each-without, pairs-without}
+use Rattle.map.specs.Table.{Each, IsTable}
+use Rattle.map.proofs.Each.{pairs-without, table-without, table-history}
 use Rattle.table.specs.Memory.{stateOf, Sound}
 use Rattle.map.proofs.CountLaws.{fresh-counts}
 use Rattle.hex.specs.Hex.{line}
-use Rattle.stored.specs.File.{Form, entryLine, headLine, entryLines, linesOf, lasting, file, afresh, Stores}
+use Rattle.stored.specs.File.{Form, entryLine, headLine, entryLines, linesOf, file, afresh, Stores}
 use Rattle.stored.proofs.LineLaws.{entry-laws, table-good, head-laws, head-good, same-line}
 use Rattle.stored.proofs.FileLaws.{file-afresh}
 use Rattle.hex.proofs.HexLaws.{line-length}
-
--- a table with no history is one
-table-afresh : {st : State} → IsTable st → IsTable (withHistory noHistory st)
-table-afresh s =
-    record {
-      few = s .few;
-      keys = s .keys;
-      sizes = s .sizes;
-      versions = s .versions;
-      issued = s .issued;
-      last = s .last;
-      counts = fresh-counts;
-      seconds = record { first = omega arith; latest = omega arith };
-    }
-
--- and so is one with the entries that stand
-table-lasting : {st : State} → IsTable st → IsTable (lasting st)
-table-lasting {st} s =
-    let p = expired (st .history .latest) in
-    record {
-      few = omega (arith, fewer p (st .entries), s .few);
-      keys = pairs-without p OtherKey (st .entries) (s .keys);
-      sizes = each-without p Sizes (st .entries) (s .sizes);
-      versions = pairs-without p OtherVersion (st .entries) (s .versions);
-      issued = each-without p (Issued (st .last)) (st .entries) (s .issued);
-      last = s .last;
-      counts = s .counts;
-      seconds = s .seconds;
-    }
 
 module _ (f : Form) where
   some-line : (e : Entry) (x : List ℕ) → line (entryLine f .enc e) ++ x ≡ [] → ⊥
@@ -100,7 +71,7 @@ module _ (f : Form) where
   stores-own t s =
       let st = stateOf t in
       record {
-        table = table-afresh (table-lasting (s .table));
+        table = table-history noHistory fresh-counts (record { first = omega arith; latest = omega arith }) (table-without (expired (st .history .latest)) (s .table));
         order = pairs-without (expired (st .history .latest)) _ (st .entries) (s .form .order);
         history = refl;
         same = sym (file-afresh f (afresh st) refl);

@@ -1,14 +1,14 @@
 -- The laws of the fields made of bytes and numbers. Assumes nothing.
 use mathlib.Core.Path.{_≡_, refl, sym, ap, _∙_}
-use mathlib.Core.List.{List, [], _∷_, _++_, append-assoc, append-nil}
+use mathlib.Core.List.{List, [], _∷_, append-nil}
 use mathlib.Core.Bool.{true, false, cond}
 use Prim.Native.Nat.{ℕ, zero, suc, _+_, _-_, _*_, _/_, _%_, _^_, _≤_, _<_}
-use native.Mathlib.Nat.{add-zero, add-suc, pow-suc, pow-le-pow-right}
+use native.Mathlib.Nat.{add-zero, pow-suc, pow-le-pow-right}
 use native.Mathlib.Numerals.{add-one}
 use native.Mathlib.Omega.{arith}
 use native.Mathlib.Decide.{decLt}
-use lib.ListN.{length, getD, take, drop, set, length-append, length-set, drop-of-length-le}
-use lib.Seq.{sets, drop-cons}
+use lib.ListN.{length, getD, take, drop, length-append, drop-of-length-le}
+use lib.Seq.{drop-cons}
 use lib.Dec.{leb, ltb, eqb, lit≤}
 use borrow.Author.Tests.{ltb-true, lt-ltb, leb-true, le-leb, lt-leb, eqb-true, eq-eqb}
 use Rattle.wire.specs.Codec.{whole, more, refused, after, Valid, Bytes, isBytes, empty, byte, raw, guard, seq, as-type, all, readAt}
@@ -18,7 +18,8 @@ use Rattle.wire.specs.Write.{Wrote}
 use Rattle.wire.proofs.Laws.{Laws, both, and, and-false, after-after, seq-valid, guard-valid, type-valid, seq-laws, guard-laws, type-laws, empty-laws, byte-laws, raw-laws, raw-valid, is-bytes, bytes-append, bytes-none, bytes-cons, same-read}
 use Rattle.wire.proofs.NumberLaws.{vInt-laws}
 use Rattle.wire.proofs.NumberWrite.{number-bad, int-long}
-use Rattle.wire.proofs.WriteLaws.{sets-after, wrote-seq, wrote-guard, wrote-type}
+use Rattle.wire.proofs.Digits.{digitsIn, Filled, fill-end}
+use Rattle.wire.proofs.WriteLaws.{wrote-seq, wrote-guard, wrote-type}
 use Rattle.wire.proofs.At.{at-front, at-seq, at-type, at-guard, at-raw, at-cond}
 
 -- a number of n bytes
@@ -173,37 +174,11 @@ pub at-limited : (s : List ℕ) (at lim : ℕ) → readAt (limited lim) s at
 unfolding limited
 at-limited s at lim = simp (at-type, at-seq, at-guard, at-raw, after-after, at-cond)
 
--- writing a number of m bytes from the last to the first: those from index i on are written, and x is left
-pub record Filled (m v at : ℕ) (old new : List ℕ) (x i : ℕ) : Type 0 where
-  pub tail : List ℕ
-  pub split : bigEndian m .enc v ≡ bigEndian i .enc x ++ tail
-  pub list : new ≡ sets old (at + i) tail
-  pub long : length new ≡ length old
-  pub within : i ≤ m
+-- writing a number of m bytes from the last to the first
+big-digits : (n v : ℕ) → bigEndian n .enc v ≡ digitsIn 256 (λ x. x % 256) n v
+unfolding bigEndian seq byte as-type empty
+big-digits zero v = refl
+big-digits (suc n) v = rw (big-digits n (v / 256))
 
-module _ (m v at : ℕ) (old : List ℕ) where
-  pub fill-begin : Filled m v at old old v m
-  fill-begin = record { tail = []; split = sym (append-nil _); list = refl; long = refl; within = omega arith }
-
-  module _ (new : List ℕ) (x : ℕ) where
-    fill-suc : (i : ℕ) → Filled m v at old new x (suc i) → Filled m v at old (set new (at + i) (x % 256)) (x / 256) i
-    unfolding bigEndian seq byte as-type
-    fill-suc i g =
-        record {
-          tail = x % 256 ∷ g .tail;
-          split = g .split ∙ append-assoc (bigEndian i .enc (x / 256)) (x % 256 ∷ []) (g .tail);
-          list = ap (λ (l : List ℕ). set l (at + i) (x % 256)) (g .list)
-              ∙ rw add-suc (sets-after (g .tail) old (suc (at + i)) (at + i) (x % 256) (omega arith));
-          long = length-set new (at + i) (x % 256) ∙ g .long;
-          within = omega (arith, g .within);
-        }
-
-    pub fill-on : (i : ℕ) → 0 < i → Filled m v at old new x i → Filled m v at old (set new (at + (i - 1)) (x % 256)) (x / 256) (i - 1)
-    fill-on zero h g = absurd (omega arith)
-    fill-on (suc i) h g = let e : suc i - 1 ≡ i = omega arith in rw e (fill-suc i g)
-
-    pub fill-end : (i : ℕ) → i ≡ 0 → Filled m v at old new x i → Wrote (bigEndian m) v old new at (at + m)
-    unfolding bigEndian empty as-type
-    fill-end i z g =
-        let e : bigEndian m .enc v ≡ g .tail = g .split ∙ rw z in
-        record { next = rw (big-length m v); list = g .list ∙ rw (z, add-zero, e); long = g .long }
+pub big-filled : (m v at : ℕ) {old new : List ℕ} {x i : ℕ} → i ≡ 0 → Filled 256 (λ x. x % 256) m v at old new x i → Wrote (bigEndian m) v old new at (at + m)
+big-filled m v at {old} {new} {x} {i} z g = record { next = rw (big-length m v); list = fill-end m v at old new x i z g ∙ rw (big-digits m v); long = g .long }

@@ -4,8 +4,9 @@ pub mod NumberLaws
 pub mod NumberRead
 pub mod NumberWrite
 pub mod At
-pub mod FieldLaws
 pub mod WriteLaws
+pub mod Digits
+pub mod FieldLaws
 pub mod SameLaws
 pub mod ListedLaws
 pub mod UptoLaws

@@ -2,8 +2,8 @@
 use mathlib.Core.Path.{_≡_, refl, sym, ap, _∙_}
 use mathlib.Core.List.{List, [], _∷_}
 use mathlib.Core.Bool.{Bool, true, false, cond}
-use Prim.Native.Nat.{ℕ, zero, suc, _+_, _-_, _/_, _%_, _≤_, _<_, suc-le-suc, zero-le}
-use native.Mathlib.Numerals.{add-one, one-add}
+use Prim.Native.Nat.{ℕ, zero, suc, _+_, _/_, _%_, _≤_, _<_, suc-le-suc, zero-le}
+use native.Mathlib.Numerals.{add-one}
 use native.Mathlib.Omega.{arith}
 use lib.ListN.{length, set, length-set}
 use lib.Seq.{sets}
@@ -13,6 +13,7 @@ use Rattle.wire.specs.Codec.{Valid}
 use Rattle.wire.proofs.Laws.{and, and-false}
 use Rattle.wire.specs.Number.{numberEnc, limit, number, vInt, vLong}
 use Rattle.wire.specs.Write.{Wrote}
+use Rattle.wire.proofs.Digits.{Digits}
 
 enc-one : (c x : ℕ) → x < 128 → numberEnc c x ≡ x ∷ []
 unfolding numberEnc
@@ -47,30 +48,10 @@ enc-same (suc c) (suc j) v h g =
     let e : numberEnc c (v / 128) ≡ numberEnc j (v / 128) = enc-same c j (v / 128) (omega arith) (omega arith) in
     rw e
 
--- counting a number's bytes: n of them are counted, and x is left
-pub record Counted (most v n x : ℕ) : Type 0 where
-  pub some : 1 ≤ n
-  pub few : n ≤ suc most
-  pub same : n + length (numberEnc (suc most - n) x) ≡ suc (length (numberEnc most v))
-
-pub count-begin : (most v : ℕ) → Counted most v 1 v
-count-begin most v = let e : suc most - 1 ≡ most = omega arith in record { some = omega arith; few = omega arith; same = rw (e, one-add) }
-
-pub count-on : (most v n x : ℕ) → Counted most v n x → 128 ≤ x → (n ≡ suc most → ⊥) → Counted most v (n + 1) (x / 128)
+-- the digits of a number, seven bits each
+pub number-digits : Digits 128 numberEnc
 unfolding numberEnc
-count-on most v n x g h l =
-    let e : suc most - n ≡ suc (most - n) = omega (arith, g .few) in
-    let f : suc most - (n + 1) ≡ most - n = omega arith in
-    record { some = omega arith; few = omega (arith, g .few); same = rw f (omega (arith, simp (e, le-ltb x 128 h) at (g .same))) }
-
-pub count-end : (most v n x : ℕ) → Counted most v n x → x < 128 → n ≡ length (numberEnc most v)
-count-end most v n x g h = omega (arith, g .same, ap length (enc-one (suc most - n) x h))
-
-pub count-full : (most v n x : ℕ) → Counted most v n x → n ≡ suc most → n ≡ length (numberEnc most v)
-unfolding numberEnc
-count-full most v n x g h =
-    let e : suc most - n ≡ 0 = omega arith in
-    omega (arith, rw e at (g .same))
+number-digits = record { one = λ c x h. ap length (enc-one c x h); on = λ c x h. rw (le-ltb x 128 h); last = λ x. refl }
 
 module _ (k top most v at : ℕ) (old : List ℕ) where
   pub record Left (new : List ℕ) (i x : ℕ) : Type 0 where

@@ -1,7 +1,7 @@
 -- `rules::is_awaited` meets its contract. Assumes nothing.
 use native.Mathlib.Omega.{arith}
 use borrow.Author.Tests.{eq-eqb, ne-eqb}
-use Rattle.message.proofs.Editions.{code-small}
+use Rattle.message.proofs.Every.{code-small}
 use borrow.Author.Needs.{needs}
 use Rattle.rules.proofs.is_awaited.Statement.{statement}
 use Rattle.rules.proofs.is_awaited.Tie as tie

@@ -1,14 +1,16 @@
 -- `field::put::put_version` meets its contract: from the last byte to the first, the loop knows what `Filled` says. Assumes nothing.
+use Prim.Native.Nat.{_%_}
 use native.Mathlib.Omega.{arith}
 use Rattle.wire.proofs.WriteLaws.{put-short, put-done}
 use Rattle.wire.specs.Field.{bigEndian}
-use Rattle.wire.proofs.FieldLaws.{big-good, big-length, Filled, fill-begin, fill-on, fill-end}
+use Rattle.wire.proofs.Digits.{Filled, fill-begin, fill-on}
+use Rattle.wire.proofs.FieldLaws.{big-good, big-length, big-filled}
 use borrow.Author.Needs.{needs}
 use Rattle.field.proofs.put.put_version.Statement.{statement}
 use Rattle.field.proofs.put.put_version.Tie as tie
 
 abbrev Inv-loop : tie.InvT-loop
-Inv-loop out₀ at x₀ i₀ out x i = Filled 8 x₀ at out₀ out x i
+Inv-loop out₀ at x₀ i₀ out x i = Filled 256 (λ x. x % 256) 8 x₀ at out₀ out x i
 
 abbrev μ-loop : tie.MeasureT-loop
 μ-loop out₀ at x₀ i₀ out x i = i
@@ -32,7 +34,7 @@ same-length : tie.Need-same-length Inv-loop μ-loop
 same-length c = c .before .loop .inv .long
 
 returns-3 : tie.Need-returns-3 Inv-loop μ-loop
-returns-3 c = put-done (bigEndian 8) _ _ _ (big-good 8 _ (omega arith)) (omega (arith, big-length 8 (c .before .before .before .before .args .v .0))) _ _ (fill-end 8 _ _ _ _ _ _ (omega arith) (c .before .loop .inv))
+returns-3 c = put-done (bigEndian 8) _ _ _ (big-good 8 _ (omega arith)) (omega (arith, big-length 8 (c .before .before .before .before .args .v .0))) _ _ (big-filled 8 _ _ (omega arith) (c .before .loop .inv))
 
 pub put-version-spec : {M : Type 1} → statement M
 put-version-spec =

@@ -2,7 +2,7 @@
 use mathlib.Core.Path.{_≡_, _∙_}
 use native.Mathlib.Omega.{arith}
 use Rattle.message.specs.Request.{requestOf}
-use Rattle.message.proofs.Editions.{code-small}
+use Rattle.message.proofs.Every.{code-small}
 use Rattle.server.proofs.SendLaws.{form, held-sent}
 use borrow.Author.Needs.{needs}
 use Rattle.server.proofs.act.write_held.Statement.{statement}

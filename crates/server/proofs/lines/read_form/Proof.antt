@@ -5,7 +5,8 @@ use Prim.Native.Nat.{_-_}
 use lib.ListN.{length, take, drop}
 use Rattle.hex.specs.Hex.{fromHex}
 use Rattle.hex.specs.Number.{asNumber}
-use Rattle.server.proofs.LineLaws.{form-long, form-short, form-blank, form-number, rest-long, form-digits, form-good, DecodedIs, decoded-is, no-bytes}
+use Rattle.hex.proofs.Decodes.{Decodes, decodes}
+use Rattle.server.proofs.LineLaws.{form-long, form-short, form-blank, form-number, rest-long, form-digits, form-good, no-bytes}
 use borrow.Author.Needs.{needs}
 use Rattle.server.proofs.lines.read_form.Statement.{statement}
 use Rattle.server.proofs.lines.read_form.Tie as tie
@@ -28,14 +29,20 @@ returns-4 c =
 abbrev begin : tie.After-decode → tie.Start
 begin c = c .before .before .before .before .before .before .before .before .before .before .before .before .before .before
 
-digits : (c : tie.After-decode) → let s = begin c .args .line .now in DecodedIs (c .decode .result) (c .decode .last .1 .0) (fromHex (take (length s - 9) (drop 9 s)))
-digits c =
-    let s = begin c in
-    decoded-is _ _ _ _ (omega (arith, rest-long (s .args .line .now), c .before .before .before .before .before .before .before .before .before .before .before .if1 .left, s .pre))
-    (c .decode .ensures)
+digits : (c : tie.After-decode) → let s = begin c .args .line .now in
+    Decodes (begin c .args .frame .now) (c .decode .result) (c .decode .last .1 .0) (fromHex (take (length s - 9) (drop 9 s)))
+digits c = decodes _ _ _ _ (c .decode .ensures)
 
 returns-5 : tie.Need-returns-5
-returns-5 c = let w = c .before .before .before in record { form = form-digits _ (no-bytes (w .decode .result) (w .decode .last .1 .0) _ (c .match2 .keys2) (digits w)); within = tt }
+returns-5 c =
+    let w = c .before .before .before in
+    let s = begin w in
+    record {
+      form = form-digits _ (no-bytes _ _ (w .decode .result) (w .decode .last .1 .0)
+          (omega (arith, rest-long (s .args .line .now), w .before .before .before .before .before .before .before .before .before .before .before .if1 .left, s .pre))
+          (c .match2 .keys2) (digits w));
+      within = tt;
+    }
 
 returns-6 : tie.Need-returns-6
 returns-6 c =
@@ -45,7 +52,7 @@ returns-6 c =
     let v = w .before .before .before .before in
     let n = v .before .before in
     let e = n .before .before in
-    let y = subst (λ r. DecodedIs r (w .decode .last .1 .0) (fromHex (take (length s - 9) (drop 9 s)))) (x .d .given .1) (digits w) in
+    let y = subst (λ r. Decodes (begin w .args .frame .now) r (w .decode .last .1 .0) (fromHex (take (length s - 9) (drop 9 s)))) (x .d .given .1) (digits w) in
     record {
       form = form-good _ (e .before .before .before .if1 .left) (e .if3 .left) (sym (n .number .ensures) ∙ ap asNumber (v .s .given .1)) (y .0);
       within = (y .1, omega arith);

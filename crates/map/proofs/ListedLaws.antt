@@ -40,7 +40,7 @@ apart e f h = go (decLt (e .version) (f .version))
         rw (lt-ltb (f .version) (e .version) l, le-ltb (e .version) (f .version) (omega arith))
 
 -- what is said of each is said of the first ones
-each-take : (P : Entry → Type 0) (n : ℕ) (es : List Entry) → Each P es → Each P (take n es)
+pub each-take : (P : Entry → Type 0) (n : ℕ) (es : List Entry) → Each P es → Each P (take n es)
 each-take P zero es h = tt
 each-take P (suc n) [] h = tt
 each-take P (suc n) (e ∷ es) h = (h .0, each-take P n es (h .1))

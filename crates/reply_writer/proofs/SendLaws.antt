@@ -259,6 +259,9 @@ module _ (values : Bool) (id : ℕ) where
   pub head-ok : Valid vLong id → Valid (framed noBody) (bulkReply values id [])
   head-ok v = sym (framed-ok noBody (bulkReply values id []) (bulk-small values) (lit< tt)) ∙ rw (v, none-ok)
 
+  pub head-bad : vLong .ok id ≡ false → framed noBody .ok (bulkReply values id []) ≡ false
+  head-bad e = sym (framed-ok noBody (bulkReply values id []) (bulk-small values) (lit< tt)) ∙ rw e
+
   pub head-length : length (framed noBody .enc (bulkReply values id [])) ≡ 4 + length (vLong .enc id)
   unfolding noBody as-type empty
   head-length = framed-length noBody (bulkReply values id []) ∙ add-zero _
@@ -296,6 +299,18 @@ module _ (values : Bool) (id : ℕ) (es : List (List ℕ × List ℕ)) (old : Li
           let q : m ≡ n = omega (arith, y .next, head-length values id, l) in
           send-done (framed (listedBody values)) _ old (bulk-valid values id es v (bulk-moved .0)) (omega (arith, bulk-moved .1, bulk-length values id es, l)) _ _
           (bulk-wrote values id es bulk-mid (rw q at y))
+
+-- or the header is written first, and they behind it
+pub bulk-behind : (values : Bool) (id : ℕ) (es : List (List ℕ × List ℕ)) (old : List ℕ) {mid new : List ℕ} {n r : ℕ} → Valid vLong id → Valid (listing values) es
+    → 4 + length (vLong .enc id) + length (listing values .enc es) ≤ length old → (n, mid) ≡ putAt (framed noBody) (bulkReply values id []) 0 old
+    → (Room (listing values) es n mid → Wrote (listing values) es mid new n r) → (written r, new) ≡ send (framed (listedBody values)) (bulkReply values id es) old
+unfolding seq
+bulk-behind values id es old v g h e f =
+    let l = head-length values id in
+    let x = put-wrote (framed noBody) (bulkReply values id []) 0 old (head-ok values id v) (omega (arith, l)) _ _ e in
+    let w = wrote-seq (framed noBody) (λ _. listing values) x (f (omega (arith, l, x .next, x .long))) in
+    send-done (framed (listedBody values)) _ old (bulk-valid values id es v g) (omega (arith, bulk-length values id es)) _ _
+    (record { next = w .next ∙ rw (bulk-enc values id es); list = w .list ∙ rw (bulk-enc values id es); long = w .long })
 
 -- it answers its operation, whatever the flag
 pub send-bulk : (values flag : Bool) (id : ℕ) (es : List (List ℕ × List ℕ)) (old : List ℕ)

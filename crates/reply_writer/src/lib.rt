@@ -4,22 +4,25 @@ mod listed;
 mod write;
 
 use field::EntryVersion;
+use field::put;
 use message::Asked;
 use message::Found;
 use message::ReplyHead;
 use message::Sent;
 use statistics::Statistics;
 ghost use mathlib.Core.Path.{_≡_};
+ghost use mathlib.Core.List.{[]};
 ghost use mathlib.Core.Bool.{Bool};
 ghost use Prim.Native.Nat.{_≤_};
-ghost use Rattle.wire.specs.Write.{send};
+ghost use Rattle.wire.specs.Write.{putAt, send};
 ghost use Rattle.message.specs.Sent.{asSent};
 ghost use Rattle.statistics.specs.Statistics.{listOf};
 ghost use Rattle.listing.specs.EntryWrite.{listedIn};
 ghost use Rattle.message.specs.Operation.{codeOf};
+ghost use Rattle.message.specs.Payload.{noBody};
 ghost use Rattle.message.specs.Reply.{asked, reply, replyOf, errorReply, statisticsReply, bulkOperation, bulkReply};
 ghost use Rattle.message.specs.Refusal.{refusal};
-ghost use Rattle.reply_writer.specs.Frame.{errorOf};
+ghost use Rattle.reply_writer.specs.Frame.{framed, errorOf};
 
 // The reply to what was asked: its numbers, value and text. What is not sent is 0 or empty. A reply to stats has no written form without its
 // statistics: it is 16 here, and `write_statistics` writes it. A reply to bulkGet or bulkGetKeys has no entries here: `write_entries` writes those.
@@ -53,6 +56,19 @@ pub fn write_entries(out: &mut [u8], id: u64, values: bool, bytes: &[u8], number
     ensures { λ r. ⌜ ((flag : Bool) → (asSent r, now (out .exit)) ≡ send (reply (asked (codeOf (bulkOperation values)) flag)) (bulkReply values id (listedIn (now (bytes .entry)) (now (numbers .entry)))) (now (out .entry))) ⌝ }
 {
     listed::write_listed(out, id, values, bytes, numbers)
+}
+
+// The header of a reply to bulkGet, or to bulkGetKeys where values are not asked for, at the front: the entries are to be written behind it.
+pub fn put_bulk_head(out: &mut [u8], id: u64, values: bool) -> usize
+    ensures { λ r. ⌜ (r, now (out .exit)) ≡ putAt (framed noBody) (bulkReply values id []) 0 (now (out .entry)) ⌝ }
+{
+    if 0x7fff_ffff_ffff_ffff < id {
+        return 0;
+    }
+    if out.len() < 4 + put::number_len(id) {
+        return 0;
+    }
+    listed::put_head(out, id, values)
 }
 
 // The error reply of a refusal, whatever was asked.

@@ -23,7 +23,7 @@ fn bulk_code(values: bool) -> u8
 }
 
 // The header alone.
-fn put_head(out: &mut [u8], id: u64, values: bool) -> usize
+pub(crate) fn put_head(out: &mut [u8], id: u64, values: bool) -> usize
     requires { ⌜ Valid (framed noBody) (bulkReply values id []) ⌝ }
     requires { ⌜ Room (framed noBody) (bulkReply values id []) 0 (now out) ⌝ }
     ensures { λ r. ⌜ Wrote (framed noBody) (bulkReply values id []) (now (out .entry)) (now (out .exit)) 0 r ⌝ }

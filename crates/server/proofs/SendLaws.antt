@@ -3,15 +3,15 @@ use mathlib.Core.Path.{_≡_, refl, sym, ap, ap₂, _∙_}
 use mathlib.Core.List.{List, [], _∷_, _++_, map, append-nil}
 use mathlib.Core.Bool.{Bool, true, false, cond, not, _||_}
 use mathlib.Core.Option.{Option, none, some}
-use Prim.Native.Nat.{ℕ, _+_, _*_, _≤_, _<_}
+use Prim.Native.Nat.{ℕ, _+_, _≤_, _<_, min}
 use native.Mathlib.Nat.{zero-add}
 use native.Mathlib.Omega.{arith}
-use lib.ListN.{length, take, drop, List·getD-eq-default}
-use lib.Seq.{sets, sets-eq}
+use lib.ListN.{length, take, drop, getD, length-take, length-map, List·getD-map, List·getD-eq-default}
+use lib.Seq.{sets, sets-eq, getD-take}
 use lib.Dec.{eqb}
 use types.Run.{OneOf, miss}
 use denote.Enum.Declared.{tagOf}
-use borrow.Author.Tests.{eqb-true}
+use borrow.Author.Tests.{eqb-true, eq-eqb, ne-eqb}
 use Rattle.wire.specs.Codec.{Read, whole, more, refused, Codec, Valid, Bytes, byte, guard, seq, as-type}
 use Rattle.wire.specs.Number.{vLong}
 use Rattle.wire.specs.Write as wire
@@ -22,12 +22,14 @@ use Rattle.wire.proofs.WriteLaws.{send-room}
 use Rattle.message.specs.declared.Operation.{Operation}
 use Rattle.message.specs.declared.Operation.the-variants.{Stats}
 use Rattle.message.specs.Operation.{codeOf}
-use Rattle.message.specs.Request.{Request}
+use Rattle.message.specs.Request.{Request, valueLimit}
 use Rattle.message.specs.ReplyTable.{table, bodyAt, allowed}
 use Rattle.message.specs.Payload.{payload, formOf}
 use Rattle.message.specs.Reply.{asked, Reply, rowsOf, reply, errorReply, statisticsReply, bulkOperation, bulkReply}
+use Rattle.message.specs.Listing.{listing}
 use Rattle.message.specs.Refusal.{refusal}
 use Rattle.message.proofs.ErrorLaws.{refusal-good}
+use Rattle.message.proofs.ListingLaws.{longest, listing-most}
 use Rattle.message.proofs.ReplySize.{error-most}
 use Rattle.map.specs.State.{Entry}
 use Rattle.map.specs.Plan.{plans, plan}
@@ -35,13 +37,12 @@ use Rattle.map.specs.Shown.{noValue, value, shows, wanted, lowest, listedBy}
 use Rattle.map.specs.Step.{mostKeys, Context, wantsOld, held, planned, statistics, answer}
 use Rattle.map.specs.Reply.{Piece, flat, pieces, payloadOf, pairOf, replyTo, askedBy}
 use Rattle.map.proofs.Format.{pieces-reply, reply-valid, bulk-reply, answer-most}
-use Rattle.map.proofs.ListedLaws.{listed-is}
+use Rattle.map.specs.Table.{Sizes}
+use Rattle.map.proofs.ListedLaws.{each-take, listed-is}
+use Rattle.map.proofs.ListedFormat.{listing-good}
 use Rattle.table.specs.Memory as memory
 use Rattle.table.specs.Memory.{stateOf, Sound}
 use Rattle.table.specs.Found.{entryAt}
-use Rattle.table.specs.List.{listRoom, listAt}
-use Rattle.table.proofs.Listed.{list-most, list-is}
-use Rattle.listing.specs.EntryWrite.{listedIn}
 use Rattle.message.specs.Start.{start, idFound, idIn}
 use Rattle.message.specs.declared.Form.{Form}
 use Rattle.message.specs.declared.Form.the-variants as f
@@ -49,13 +50,14 @@ use Rattle.message.proofs.Form as form-code
 use Rattle.message.proofs.Operation as operation-code
 use Rattle.message.proofs.Every.{every, every-of, bodies, every-body, rows-are}
 use Rattle.service.specs.Serve as stream
-use Rattle.service.specs.Serve.{room, roomOf, errorPieces}
+use Rattle.service.specs.Serve.{room, bulkRoom, roomOf, errorPieces}
 use Rattle.service.proofs.Bounds.{reply-room}
 use Rattle.plan.specs.declared.Held.{Held}
 use Rattle.plan.specs.Plan.{heldAt}
 use Rattle.server.specs.declared.Answer.{Answer}
 use Rattle.server.specs.CallDone.{Says, Sends}
-use Rattle.server.specs.Act.{isPlain, valueShown, entryShown, sentTo, sentListed, Planned}
+use Rattle.server.specs.Act.{isPlain, valueShown, entryShown, sentTo, Planned}
+use Rattle.server.specs.Bulk.{pairAt, listedOf, Listable, sentListed}
 
 -- a message that fits is written, and its bytes are the pieces sent
 module _ {A : Type 0} (c : Codec A) (a : A) {x : wire.Sent} {old new : List ℕ} {ps : List Piece} {n : ℕ} {v : stream.Verdict} {r : Answer} where
@@ -183,13 +185,48 @@ module _ (c : Context) {t : List ℕ} {q : Request} {y : Held} {s : ℕ} (g : Pl
       sent (reply (askedBy q)) (replyTo q (answer c q (stateOf t))) z (reply-valid c q (stateOf t) (g .valid) (g .sound .table) k)
       (omega (arith, ap length p, b, reply-room (q .op), l)) p h
 
--- the entries that the table names by numbers are those that a bulk reply lists
-pub listed-named : (values : Bool) (n : ℕ) (t numbers : List ℕ) {r : ℕ} {new : List ℕ} → (r, new) ≡ listAt values n t numbers → listRoom ≤ length numbers
-    → (r ≤ mostKeys) × (listedIn t (take (4 * r) new) ≡ map (pairOf values) (lowest n (stateOf t .entries)))
-listed-named values n t numbers e h =
-    let p = ap (λ (z : ℕ × List ℕ). z .0) e in
-    let q = ap (λ (z : ℕ × List ℕ). z .1) e in
-    rw (p, q) (list-most values n t numbers, list-is values n t numbers h)
+longest-most : (values : Bool) → longest values ≤ 323
+longest-most true = omega arith
+longest-most false = omega arith
+
+-- the entries that a bulk reply lists: how many there are, and which they are
+module _ (n : ℕ) (t : List ℕ) where
+  pub many-all : n ≡ 0 → length (stateOf t .entries) ≡ length (lowest n (stateOf t .entries))
+  many-all e = rw (eq-eqb n 0 e)
+
+  pub many-some : (n ≡ 0 → ⊥) → min n (length (stateOf t .entries)) ≡ length (lowest n (stateOf t .entries))
+  many-some h = rw (ne-eqb n 0 h) (sym (length-take n (stateOf t .entries)))
+
+  module _ (values : Bool) where
+    pub listed-long : length (listedOf values n (stateOf t)) ≡ length (lowest n (stateOf t .entries))
+    listed-long = length-map (lowest n (stateOf t .entries)) (pairOf values)
+
+    pub listed-at : (i : ℕ) → i < length (lowest n (stateOf t .entries)) → getD (listedOf values n (stateOf t)) i (pairOf values (memory.entry [] [] 0 0)) ≡ pairAt values t i
+    unfolding entryAt
+    listed-at i l = List·getD-map (pairOf values) (lowest n (stateOf t .entries)) i (memory.entry [] [] 0 0) ∙ ap (pairOf values) (go (eqb n 0) l)
+      where
+        go : (b : Bool) → i < length (cond b (stateOf t .entries) (take n (stateOf t .entries)))
+            → getD (cond b (stateOf t .entries) (take n (stateOf t .entries))) i (memory.entry [] [] 0 0) ≡ getD (stateOf t .entries) i (memory.entry [] [] 0 0)
+        go true l = refl
+        go false l = getD-take n (stateOf t .entries) i (memory.entry [] [] 0 0) (omega (arith, length-take n (stateOf t .entries)))
+
+    -- a table's have a written form
+    pub listed-valid : Sound t → Valid (listing values) (listedOf values n (stateOf t))
+    listed-valid s = go (eqb n 0)
+      where
+        go : (b : Bool) → Valid (listing values) (map (pairOf values) (cond b (stateOf t .entries) (take n (stateOf t .entries))))
+        go true = listing-good values (stateOf t .entries) (s .table .few) (s .table .sizes)
+        go false = listing-good values (take n (stateOf t .entries)) (omega (arith, s .table .few, length-take n (stateOf t .entries))) (each-take Sizes n (stateOf t .entries) (s .table .sizes))
+
+    -- and take at most 41,473 bytes
+    pub listed-most : Sound t → length (listing values .enc (listedOf values n (stateOf t))) ≤ 41_473
+    listed-most s = omega (arith, longest-most values, listing-most values .most (listedOf values n (stateOf t)) (listed-valid s))
+
+-- so much room there is for them
+pub bulk-room : (values : Bool) (o : Operation) {l : ℕ} → o ≡ bulkOperation values → roomOf o ≤ l → bulkRoom ≤ l
+unfolding roomOf
+bulk-room true o e h = rw e at h
+bulk-room false o e h = rw e at h
 
 -- a message id is small
 found-small : (s : List ℕ) → Bytes s → (r : Read ℕ) → start .dec s ≡ r → idFound r < 0x8000_0000_0000_0000

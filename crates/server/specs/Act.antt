@@ -1,6 +1,6 @@
 -- What a request is given to be served with, and what a reply shows by the form of its body.
 use mathlib.Core.Path.{_≡_}
-use mathlib.Core.List.{List, [], map}
+use mathlib.Core.List.{List, []}
 use mathlib.Core.Bool.{Bool, cond, not, _||_}
 use mathlib.Core.Option.{Option, none, some}
 use Prim.Native.Nat.{ℕ, _<_, _≤_}
@@ -15,13 +15,11 @@ use Rattle.message.specs.Request.{keyLimit, valueLimit, Request, request}
 use Rattle.map.specs.History.{is}
 use Rattle.map.specs.Plan.{Change, keep, store, drop, empty}
 use Rattle.map.specs.State.{Entry, State, withEntries, without, hasKey}
-use Rattle.map.specs.Shown.{lowest}
 use Rattle.map.specs.Step as step
 use Rattle.map.specs.Step.{Context}
 use Rattle.map.specs.Table.{IsTable}
-use Rattle.map.specs.Reply.{pieces, askedBy, pairOf, replyTo}
-use Rattle.message.specs.Operation.{codeOf}
-use Rattle.message.specs.Reply.{asked, reply, bulkOperation, bulkReply}
+use Rattle.map.specs.Reply.{pieces, askedBy, replyTo}
+use Rattle.message.specs.Reply.{reply}
 use Rattle.message.specs.declared.Form.{Form}
 use Rattle.message.specs.declared.Form.the-variants as f
 use Rattle.table.specs.Memory.{stateOf, Sound}
@@ -62,11 +60,6 @@ isPlain o = not (is Stats o || (is BulkGet o || is BulkGetKeys o))
 -- the map's reply to the request, as a writer sends it into a buffer
 abbrev pub sentTo : Context → Request → State → List ℕ → Sent × List ℕ
 sentTo c q st old = send (reply (askedBy q)) (replyTo q (step.answer c q st)) old
-
--- the reply to bulkGet, or to bulkGetKeys where values are not asked for, with the first n entries
-abbrev pub sentListed : Bool → Bool → ℕ → ℕ → State → List ℕ → Sent × List ℕ
-sentListed flag values id n st old =
-    send (reply (asked (codeOf (bulkOperation values)) flag)) (bulkReply values id (map (pairOf values) (lowest n (st .entries)))) old
 
 -- the state without the entry that has the key
 abbrev pub less : List ℕ → State → State

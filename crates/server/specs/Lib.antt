@@ -1,3 +1,4 @@
 pub mod CallDone
 pub mod Act
+pub mod Bulk
 pub mod Lines

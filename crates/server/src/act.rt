@@ -1,6 +1,7 @@
 // Serving a request on a table that is sound, with room for an error reply at least.
 use crate::Answer;
 use crate::Verdict;
+use crate::bulk;
 use field::EntryVersion;
 use field::Second;
 use message::Asked;
@@ -18,7 +19,7 @@ use table::Found;
 use table::Table;
 ghost use mathlib.Core.Path.{_≡_};
 ghost use mathlib.Core.List.{List};
-ghost use mathlib.Core.Bool.{Bool, true};
+ghost use mathlib.Core.Bool.{true};
 ghost use mathlib.Core.Option.{some};
 ghost use Prim.Native.Nat.{ℕ, _+_, _≤_, _<_};
 ghost use lib.ListN.{length};
@@ -35,7 +36,7 @@ ghost use Rattle.service.specs.Serve as stream;
 ghost use Rattle.service.specs.Stream.{Becomes, Serves};
 ghost use Rattle.plan.specs.Plan.{asChange, Holds, HoldsAt, heldAt, heldVersion};
 ghost use Rattle.server.specs.CallDone.{asVerdict, callOf, doneOf, Says, Sends};
-ghost use Rattle.server.specs.Act.{at, isPlain, valueShown, entryShown, sentTo, sentListed, less, replaced, Storable, after, Planned, Agreed, Given, Arrives, Replies, Performs, PerformsWithin};
+ghost use Rattle.server.specs.Act.{at, isPlain, valueShown, entryShown, sentTo, less, replaced, Storable, after, Planned, Agreed, Given, Arrives, Replies, Performs, PerformsWithin};
 
 // Nothing sent.
 pub(crate) fn unsent(taken: usize, v: Verdict) -> Answer
@@ -133,26 +134,16 @@ fn write_held(out: &mut [u8], t: &[u8], h: Head, status: u8, held: Held) -> Sent
     )
 }
 
-// Writes the reply to bulkGet, or to bulkGetKeys where values are not asked for, with the first n entries, or with all where n is 0.
-fn write_listed(out: &mut [u8], t: &[u8], id: u64, n: u64, values: bool) -> Sent
-    ensures { λ r. ⌜ ((flag : Bool) → (asSent r, now (out .exit)) ≡ sentListed flag values id n (stateOf (now (t .entry))) (now (out .entry))) ⌝ }
-{
-    let mut numbers: [u64; 512] = [0; 512];
-    let many = table::list(t, n, values, &mut numbers);
-    let end = 4 * many;
-    reply_writer::write_entries(out, id, values, t, &numbers[..end])
-}
-
 // Writes the reply of a status: the statistics at the second, the entries listed, or what it shows of the entry held.
 fn write(out: &mut [u8], t: &[u8], h: Head, status: u8, held: Held, second: Second) -> Sent
     requires { ⌜ second .0 < 0x1_0000_0000 ⌝ }
-    ensures { λ r. ⌜ ((name key value : List ℕ) → Planned (now (t .entry)) (requestOf h name key value) held status → (asSent r, now (out .exit)) ≡ sentTo (at (second .0)) (requestOf h name key value) (stateOf (now (t .entry))) (now (out .entry))) ⌝ }
+    ensures { λ r. ⌜ ((name key value : List ℕ) → stream.roomOf (h .op) ≤ length (now (out .entry)) → Planned (now (t .entry)) (requestOf h name key value) held status → (asSent r, now (out .exit)) ≡ sentTo (at (second .0)) (requestOf h name key value) (stateOf (now (t .entry))) (now (out .entry))) ⌝ }
 {
     let op = h.op;
     match op {
         Operation::Stats => reply_writer::write_statistics(out, h.id, table::statistics(t, second)),
-        Operation::BulkGet => write_listed(out, t, h.id, h.bulk, true),
-        Operation::BulkGetKeys => write_listed(out, t, h.id, 0, false),
+        Operation::BulkGet => bulk::write_bulk(out, t, h.id, h.bulk, true),
+        Operation::BulkGetKeys => bulk::write_bulk(out, t, h.id, 0, false),
         _ => write_held(out, t, h, status, held),
     }
 }

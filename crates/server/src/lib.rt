@@ -1,5 +1,6 @@
 // The server: one call, a stream of calls, and the lines of a file.
 mod act;
+mod bulk;
 mod lines;
 
 use field::Second;

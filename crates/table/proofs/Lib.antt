@@ -19,4 +19,3 @@ pub mod SoundLaws
 pub mod Behind
 pub mod Restores
 pub mod HasForm
-pub mod Listed

@@ -1,7 +1,6 @@
 pub mod Bytes
 pub mod Memory
 pub mod Found
-pub mod List
 pub mod Compare
 pub mod Change
 pub mod Write

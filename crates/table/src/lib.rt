@@ -3,7 +3,6 @@ mod check;
 mod expiry;
 mod history;
 mod mark;
-mod named;
 mod number;
 mod rows;
 
@@ -21,7 +20,6 @@ ghost use Rattle.map.specs.Deadline.{expired, standing};
 ghost use Rattle.statistics.specs.Statistics.{listOf};
 ghost use Rattle.table.specs.Compare.{compared};
 ghost use Rattle.table.specs.Found.{entryAt, FoundIs, NumberAt, Tells};
-ghost use Rattle.table.specs.List.{listAt};
 ghost use Rattle.table.specs.Sweep.{isDue};
 ghost use Rattle.table.specs.Change.{doneOr, Answers, AnswersBy, made, started, added, restored, renewed, removed, cleared, arrived};
 
@@ -54,9 +52,6 @@ impl Table {
     pub const SIZE: usize = 45280;
 
     pub const KEYS: usize = 128;
-
-    // How many numbers name the entries that it holds at most, four for each.
-    pub const LISTED: usize = 512;
 
     pub const LAST_VERSION: u64 = 0x7fff_ffff_ffff_ffff;
 
@@ -341,23 +336,6 @@ pub fn is_due(t: &[u8], second: Second) -> bool
         return false;
     }
     rows::header(t, Table::BOUND) <= second.0
-}
-
-// Where the first n entries stand in the memory, all where n is 0, ascending by version: for each of them four numbers, the start and the length of its
-// key, and those of its value, 0 and 0 where values are not asked for. It answers how many entries there are. A list shorter than 512 numbers, and
-// memory of another length, tell of none.
-pub fn list(t: &[u8], n: u64, values: bool, numbers: &mut [u64]) -> usize
-    ensures { λ r. ⌜ (r, now (numbers .exit)) ≡ listAt values n (now (t .entry)) (now (numbers .entry)) ⌝ }
-{
-    if t.len() != Table::SIZE {
-        return 0;
-    }
-    if numbers.len() < Table::LISTED {
-        return 0;
-    }
-    let many = named::asked(t, n);
-    named::put_entries(t, many, values, numbers);
-    many
 }
 
 // Adds an entry behind the last, of the next version, where there is room for it and a version is left.

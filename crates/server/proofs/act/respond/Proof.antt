@@ -9,7 +9,7 @@ returns : tie.Need-returns
 returns c name key value g =
     let w = c .before .before .before in
     let s = w .before .before .before .before in
-    reply-sent (at (s .args .second .0)) g _ (s .pre .1) (s .pre .0) (w .write .ensures name key value g) (c .ended .ensures)
+    reply-sent (at (s .args .second .0)) g _ (s .pre .1) (s .pre .0) (w .write .ensures name key value (s .pre .0) g) (c .ended .ensures)
 
 pub respond-spec : {M : Type 1} → statement M
 respond-spec =

@@ -1,0 +1,34 @@
+-- A bulk reply from a table: the entries that it lists, and what they are written by.
+use mathlib.Core.Path.{_≡_}
+use mathlib.Core.List.{List, map}
+use mathlib.Core.Bool.{Bool}
+use Prim.Native.Nat.{ℕ}
+use lib.ListN.{length}
+use Rattle.wire.specs.Codec.{Valid}
+use Rattle.wire.specs.Write.{Room, Sent, send}
+use Rattle.message.specs.Operation.{codeOf}
+use Rattle.message.specs.Listing.{listing}
+use Rattle.message.specs.Reply.{asked, reply, bulkOperation, bulkReply}
+use Rattle.map.specs.State.{State}
+use Rattle.map.specs.Shown.{lowest}
+use Rattle.map.specs.Reply.{pairOf}
+use Rattle.table.specs.Memory.{stateOf}
+use Rattle.table.specs.Found.{entryAt}
+
+-- entry i of a table as a bulk reply lists it, and the first n, all where n is 0
+abbrev pub pairAt : Bool → List ℕ → ℕ → List ℕ × List ℕ
+pairAt values t i = pairOf values (entryAt t i)
+
+abbrev pub listedOf : Bool → ℕ → State → List (List ℕ × List ℕ)
+listedOf values n st = map (pairOf values) (lowest n (st .entries))
+
+-- these are m, have a written form, and there is room for them
+pub record Listable (values : Bool) (n m : ℕ) (t : List ℕ) (at : ℕ) (old : List ℕ) : Type 0 where
+  pub many : m ≡ length (lowest n (stateOf t .entries))
+  pub valid : Valid (listing values) (listedOf values n (stateOf t))
+  pub room : Room (listing values) (listedOf values n (stateOf t)) at old
+
+-- the reply to bulkGet, or to bulkGetKeys where values are not asked for, as a writer sends it into a buffer
+abbrev pub sentListed : Bool → Bool → ℕ → ℕ → State → List ℕ → Sent × List ℕ
+sentListed flag values id n st old =
+    send (reply (asked (codeOf (bulkOperation values)) flag)) (bulkReply values id (listedOf values n st)) old

@@ -118,7 +118,7 @@ def same(found, wanted, name):
 
 def expiring(host, browser, caller, others):
     """A ship beside others, before its deadline and behind it. It is put before the page asks for data, and still there before it asks the third time."""
-    ship, lifespan, deadline = (b'berth/1', b'Ida'), 10, [0]
+    ship, lifespan, deadline = (b'berth/1', b'Ida'), 6, [0]
 
     def put():
         caller.call(PUT, key=ship[0], value=ship[1], lifespan=lifespan)

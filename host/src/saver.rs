@@ -140,11 +140,10 @@ impl Saver {
     /// Has the table stored if that is due. Where the one before still waits
     /// for the disk, it is due again.
     pub fn look(&mut self, table: &Table, now: Instant) {
-        let due = self.due.is_some_and(|due| now >= due);
         let Way::Beside(sender, _) = &self.way else {
             return;
         };
-        if due {
+        if self.due.is_some_and(|due| now >= due) {
             self.due = match sender.try_send(table.store()) {
                 Ok(()) => None,
                 Err(TrySendError::Full(_)) => Some(now + STORE_AFTER),

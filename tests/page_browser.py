@@ -13,7 +13,7 @@ from board_frames import GET, PUT, REMOVE
 from host_page import HOSTILE, Shown, is_text, rest
 from host_run import Bench, SECONDS, demand, run_part
 
-SIZES = {'wall': '1920,1080', 'phone': '390,844', 'turned': '844,390'}
+SIZES = {'wall': '1920,1080', 'upright': '1080,1920', 'phone': '390,844', 'turned': '844,390'}
 LONG = b'Her Serene Highness Princess Wilhelmina Augusta of the Northern Isles'
 SHIPS = [(b'berth/1', b'Ida'), (b'berth/2', 'Äolus, due 14:20'.encode()), (b'berth/9', LONG)]
 
@@ -159,13 +159,14 @@ def views(bench, browser):
         hostile = [(key, HOSTILE[(at + 7) % len(HOSTILE)] * 3) for at, key in enumerate(HOSTILE)]
         for one in hostile:
             put(*one)
-        for size in SIZES:
+        for size in ('wall', 'phone'):
             same(browser.look(host, f'hostile-{size}', size), (rows_of(hostile), '', f'Live, {len(hostile)} entries'), f'hostile entries, {size}')
     with Shown(bench.table('full')) as host, host.connect() as caller:
         full = [(b'berth/' + b'%03d' % at, b'Ship %d' % at) for at in range(128)]
         for key, value in full:
             caller.call(PUT, key=key, value=value)
-        same(browser.look(host, 'full'), (rows_of(full), '', 'Live, 128 entries'), 'a full table')
+        for size in ('wall', 'upright'):
+            same(browser.look(host, f'full-{size}', size), (rows_of(full), '', 'Live, 128 entries'), f'a full table, {size}')
         browser.look(host, 'full-later', milliseconds=12_000)
     with Shown(bench.table('away'), '--connections', '0') as host:
         same(browser.look(host, 'away', steps={1: lambda: True}), ([], 'The server does not answer.', 'It is asked again each second.'), 'a server that is away')

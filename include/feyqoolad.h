@@ -147,7 +147,7 @@ uint64_t fq_serve_stream(const uint8_t *input, size_t input_len, uint8_t *table,
 
 /* Files. */
 
-/* Serves request lines, as `board` does: the lines of a piece of a file, as far as `out`, FQ_LINES_ROOM bytes or more, has room for what they give.
+/* Serves request lines, as `board` does: the lines of a chunk of a file, as far as `out`, FQ_LINES_ROOM bytes or more, has room for what they give.
    FQ_DONE is served; 12 or 13, and then nothing is told. Told: bytes taken, bytes given, and 1 where the rest of a line is to be passed over. The next
    call gets what was not taken and what was read behind it, and that 1 or 0 as `passing`, which is false at first. Where nothing is taken, more of the
    file is needed; at its end `last` is true, and where nothing is taken then, all is served. */

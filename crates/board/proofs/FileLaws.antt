@@ -1,4 +1,4 @@
--- What a read leaves of a buffer is a piece of the file behind the bytes held. Assumes nothing.
+-- What a read leaves of a buffer is a chunk of the file behind the bytes held. Assumes nothing.
 use mathlib.Core.Path.{_≡_, refl, sym, ap, _∙_}
 use mathlib.Core.Bool.{true}
 use mathlib.Core.List.{List, [], _∷_, _++_}
@@ -16,7 +16,7 @@ use Rattle.files.proofs.WindowLaws.{brings-some}
 use Rattle.board.specs.declared.file.Turned.{Turned}
 use Rattle.board.specs.declared.file.Turned.the-variants as turned
 use Rattle.board.proofs.file.Turned as turned-code
-use Rattle.board.specs.Turn.{Piece, FileServed, LoadReady, Loads, Builds, Stores}
+use Rattle.board.specs.Turn.{Chunk, FileServed, LoadReady, Loads, Builds, Stores}
 use Rattle.table.specs.Memory.{Sound}
 use Rattle.files.specs.declared.NextStore.{NextStore}
 use Rattle.files.specs.declared.NextStore.the-variants as store
@@ -29,31 +29,31 @@ use denote.Enum.Declared.{tagOf}
 abbrev pub after : List ℕ → ℕ → List ℕ → List ℕ
 after buf k sub = take k buf ++ (sub ++ drop (length buf - k) (drop k buf))
 
-pub read-piece : (buf sub : List ℕ) (s r : Window) (n : ℕ) → s .held ≤ length buf → length sub ≡ length buf - s .held
-    → n ≤ length (take (length (after buf (s .held) sub) - s .held) (drop (s .held) (after buf (s .held) sub))) → length buf ≤ greatest → Arrives s n r → Piece buf s r (after buf (s .held) sub)
-read-piece buf sub s r n h l m g a =
+pub read-chunk : (buf sub : List ℕ) (s r : Window) (n : ℕ) → s .held ≤ length buf → length sub ≡ length buf - s .held
+    → n ≤ length (take (length (after buf (s .held) sub) - s .held) (drop (s .held) (after buf (s .held) sub))) → length buf ≤ greatest → Arrives s n r → Chunk buf s r (after buf (s .held) sub)
+read-chunk buf sub s r n h l m g a =
     let k : ℕ = s .held in
     let new : List ℕ = after buf k sub in
     let long : length new ≡ length buf = simp (length-append, length-take, length-drop, l) (omega arith) in
     let f : k + n ≤ length buf = omega (arith, length-take (length new - k) (drop k new), length-drop k new) in
     let p : length (take n (drop k new)) ≡ n = length-take-le n (drop k new) (omega (arith, length-drop k new)) in
     record {
-      piece = take n (drop k new);
+      chunk = take n (drop k new);
       brings = brings-some buf new k n (take-at (take k buf) _ k (length-take-le k buf h)) long f;
       next = a .sum (omega arith) ∙ ap (arrived s) (sym p);
     }
 
 -- a run that was put together from its turns
 pub served-file : {buf t buf′ t′ t″ : List ℕ} {s : Window} → Ahead buf t begin buf′ t′ s → Runs buf′ t′ s [] [] t″ → FileServed t t″
-served-file a x = let y = whole-served (a .on x) in record { pieces = _; written = _; gives = y .0; sound = y .1 }
+served-file a x = let y = whole-served (a .on x) in record { chunks = _; written = _; gives = y .0; sound = y .1 }
 
 -- a file that was loaded, or stores no table
 pub built : {buf t buf′ t′ : List ℕ} {s : Window} (buf″ t″ : List ℕ) (r : Turned) → OneOf (1 ∷ 2 ∷ 3 ∷ []) (tagOf turned-code.the-type r) → LoadAhead buf t begin buf′ t′ s
     → Loads buf′ t′ s r buf″ t″ → Builds t r t″
 built buf″ t″ (turned.On s) k a x = absurd (miss (1 ∷ 2 ∷ 3 ∷ []) 0 tt k)
-built buf″ t″ turned.Done k a x = let y = whole-loaded (a .on x) .0 refl in record { pieces = _; stores = y .1; sound = y .0 }
+built buf″ t″ turned.Done k a x = let y = whole-loaded (a .on x) .0 refl in record { chunks = _; stores = y .1; sound = y .0 }
 built {s = s} buf″ t″ (turned.Broken n) k a x =
-    record { pieces = a .pieces; ended = s .ended; none = λ l more f st q. whole-loaded (a .on (broken x f)) .1 l refl st q }
+    record { chunks = a .chunks; ended = s .ended; none = λ l more f st q. whole-loaded (a .on (broken x f)) .1 l refl st q }
 built buf″ t″ turned.Failed k a x = tt
 
 -- a buffer of the program is long enough

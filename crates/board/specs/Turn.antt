@@ -20,14 +20,14 @@ use Rattle.board.specs.declared.file.Got.the-variants as got
 use Rattle.board.specs.declared.file.Turned.{Turned}
 use Rattle.board.specs.declared.file.Turned.the-variants as turned
 
--- a piece of the file stands behind the bytes held, and the window goes on with it
-pub record Piece (buf : List ℕ) (s s′ : Window) (buf′ : List ℕ) : Type 0 where
-  pub piece : List ℕ
-  pub brings : Brings buf (s .held) piece buf′
-  pub next : s′ ≡ arrived s (length piece)
+-- a chunk of the file stands behind the bytes held, and the window goes on with it
+pub record Chunk (buf : List ℕ) (s s′ : Window) (buf′ : List ℕ) : Type 0 where
+  pub chunk : List ℕ
+  pub brings : Brings buf (s .held) chunk buf′
+  pub next : s′ ≡ arrived s (length chunk)
 
 abbrev pub ReadsOn : List ℕ → Window → Got → List ℕ → Type 0
-ReadsOn buf s (got.More s′) buf′ = Piece buf s s′ buf′
+ReadsOn buf s (got.More s′) buf′ = Chunk buf s s′ buf′
 ReadsOn buf s got.Failed buf′ = Unit {0}
 
 -- A turn of serving is a step of a run, behind which all is ready for the next, or its end. No turn is refused, and no window lies outside its buffer.
@@ -49,11 +49,11 @@ Loads buf t s turned.Done buf′ t′ = Loadings buf t s [] true t′
 Loads buf t s (turned.Broken n) buf′ t′ = LoadsNone buf t s n buf′ t′
 Loads buf t s turned.Failed buf′ t′ = Unit {0}
 
--- A file was served to its end, through pieces that reads brought: the table at the end is the one that its lines leave, and sound.
+-- A file was served to its end, through chunks that reads brought: the table at the end is the one that its lines leave, and sound.
 pub record FileServed (t t′ : List ℕ) : Type 0 where
-  pub pieces : List (List ℕ)
+  pub chunks : List (List ℕ)
   pub written : List ℕ
-  pub gives : FileGives (joined pieces) t written t′
+  pub gives : FileGives (joined chunks) t written t′
   pub sound : Sound t′
 
 -- what is to be done next in storing: no call is refused
@@ -64,15 +64,15 @@ Stores (store.Refused k) = ⊥
 
 -- a stored table was loaded
 pub record FileLoaded (t′ : List ℕ) : Type 0 where
-  pub pieces : List (List ℕ)
-  pub stores : file.Stores form1 (joined pieces) (stateOf t′)
+  pub chunks : List (List ℕ)
+  pub stores : file.Stores form1 (joined chunks) (stateOf t′)
   pub sound : Sound t′
 
 -- What was read stores no table, whatever comes behind it; at the file's end, nothing does.
 pub record FileBroken (t : List ℕ) : Type 0 where
-  pub pieces : List (List ℕ)
+  pub chunks : List (List ℕ)
   pub ended : Bool
-  pub none : length t ≡ size → (more : List (List ℕ)) → (ended ≡ true → more ≡ []) → (st : State) → file.Stores form1 (joined (pieces ++ more)) st → ⊥
+  pub none : length t ≡ size → (more : List (List ℕ)) → (ended ≡ true → more ≡ []) → (st : State) → file.Stores form1 (joined (chunks ++ more)) st → ⊥
 
 -- how loading a file ends
 abbrev pub Builds : List ℕ → Turned → List ℕ → Type 0

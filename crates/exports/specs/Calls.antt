@@ -66,7 +66,7 @@ abbrev pub servedTold : Served → List ℕ → List ℕ
 servedTold (s.Fed f) old = tell (f .taken ∷ f .size ∷ bit (f .passing) ∷ []) old
 servedTold (s.Refused k) old = old
 
--- the same of a piece of a file of lines
+-- the same of a chunk of a file of lines
 pub record TellsServed (last pass : Bool) (input t lent out t' old new : List ℕ) (n : ℕ) : Type 0 where
   pub answer : Served
   pub serves : ServesLines last pass input t lent answer out t'

@@ -218,7 +218,7 @@ pub extern "C" fn fq_serve_stream(
     calls::serve_stream(input, table, second, reply, answer)
 }
 
-// Serves the lines of a piece of a file: 256 is served. Numbers told: bytes taken, bytes of the output, and 1 where the rest of a line is still to be
+// Serves the lines of a chunk of a file: 256 is served. Numbers told: bytes taken, bytes of the output, and 1 where the rest of a line is still to be
 // passed over. Where it is refused, none are told.
 #[no_mangle]
 pub extern "C" fn fq_serve_lines(

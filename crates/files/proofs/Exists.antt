@@ -31,7 +31,7 @@ use Rattle.map.proofs.Keeps.{keeps}
 use Rattle.service.specs.Line.{longest, asksOf, asks, Given, given, stateLeft, refused15, inDigits, onFrame, onAsked, lineStep}
 use Rattle.service.specs.Feed.{lineEnd, Turn, turn, ended, turnOf}
 use Rattle.service.specs.Turns.{lineRoom, both, Turns, full, done, then}
-use Rattle.service.proofs.Pieces.{left-later}
+use Rattle.service.proofs.Chunks.{left-later}
 use Rattle.service.proofs.Bounds.{Late, late, answer-longest, error-size}
 use Rattle.table.proofs.Lists.{lt-or-ge}
 use Rattle.wire.specs.Write.{part}

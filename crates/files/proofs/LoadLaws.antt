@@ -24,13 +24,13 @@ use Rattle.stored.proofs.LineLaws.{entry-most, head-most, head-good, table-good
 use Rattle.stored.proofs.FileLaws.{file-afresh}
 use Rattle.stored.proofs.OneTable.{file-front}
 use Rattle.stored.proofs.WholeLaws.{loads-both, loads-stores, all-loaded}
-use Rattle.service.proofs.Pieces.{joined-more}
+use Rattle.service.proofs.Chunks.{joined-more}
 use Rattle.files.specs.declared.Window.{Window}
 use Rattle.files.specs.declared.NextLoad.the-variants as load
 use Rattle.stored.specs.declared.Loading.{Loading}
 use Rattle.files.specs.Window.{begin, inside, arrived, Brings}
 use Rattle.files.specs.Loading.{longestStored, Loads, LoadsOn, LoadsAll, Wrong, bad, cut-off, too-long, LoadsNone, LoadsNext, Loadings, read, done, broken}
-use Rattle.files.proofs.TurnsLaws.{no-pieces}
+use Rattle.files.proofs.TurnsLaws.{no-chunks}
 use Rattle.files.proofs.WindowLaws.{inside-more, carried-more}
 
 -- 'done': all lines are loaded
@@ -38,12 +38,12 @@ module _ {buf t buf′ t′ : List ℕ} {s : Window} where
   all-on : {s′ : Window} {p buf″ v : List ℕ} (q : List ℕ) → LoadsOn buf t s s′ buf′ t′ → Brings buf′ (s′ .held) p buf″
       → LoadsWhole form1 (s′ .carried) (inside buf″ (arrived s′ (length p)) ++ q) t′ true v → LoadsWhole form1 (s .carried) (inside buf s ++ (p ++ q)) t true v
   all-on {p = p} q x b l =
-      let n = x .piece .taken in
+      let n = x .chunk .taken in
       let y = rw (inside-more (x .moves) b, carried-more (x .moves) b, append-assoc) at l in
       rw (← (append-assoc (take n (inside buf s)) (drop n (inside buf s)) (p ++ q)), take-append-drop n (inside buf s)) at (loads-both (x .loads .lines .loads) y)
 
   all-done : LoadsAll buf t s buf′ t′ → LoadsWhole form1 (s .carried) (inside buf s ++ joined []) t true t′
-  all-done x = rw (no-pieces, append-nil) (rw (x .all, take-length, x .begun) at (x .loads .lines .loads))
+  all-done x = rw (no-chunks, append-nil) (rw (x .all, take-length, x .begun) at (x .loads .lines .loads))
 
 all-lines : {buf t t′ : List ℕ} {s : Window} {ps : List (List ℕ)} {r : Bool} → Loadings buf t s ps r t′ → r ≡ true
     → LoadsWhole form1 (s .carried) (inside buf s ++ joined ps) t true t′
@@ -69,7 +69,7 @@ record Stopped (b : Bool) (bytes t : List ℕ) : Type 0 where
 stopped-on : {buf t buf′ t′ : List ℕ} {s s′ : Window} {p buf″ : List ℕ} (q : List ℕ) → LoadsOn buf t s s′ buf′ t′ → Brings buf′ (s′ .held) p buf″
     → Stopped (s′ .carried) (inside buf″ (arrived s′ (length p)) ++ q) t′ → Stopped (s .carried) (inside buf s ++ (p ++ q)) t
 stopped-on {buf = buf} {s = s} {p = p} q x b z =
-    let n = x .piece .taken in
+    let n = x .chunk .taken in
     let i = inside buf s in
     let d : z .front ++ z .rest ≡ drop n i ++ (p ++ q) = sym (z .split) ∙ rw (inside-more (x .moves) b, append-assoc) in
     record {
@@ -90,16 +90,16 @@ stuck-here : {buf t t′ : List ℕ} {s : Window} {p : Loading} (ps : List (List
     → Stuck (p .begun) (drop (p .taken) (inside buf s) ++ joined ps) t′
 stuck-here {buf} {t′ = t′} {s} {p} ps l f (bad g) = line-bad (ends-on (p .begun) (drop (p .taken) (inside buf s)) t′ (joined ps) (rw g at (l .lines .ends)))
 stuck-here {buf} {s = s} {p} ps l f (cut-off g e n) =
-    rw (f e, no-pieces, append-nil)
+    rw (f e, no-chunks, append-nil)
     (line-open (rw g at (l .lines .ends)) (λ b z. n b (omega (arith, l .lines .within, ap length z, length-drop (p .taken) (inside buf s)))))
 stuck-here {buf} {s = s} {p} ps l f (too-long g h) = line-long (drop (p .taken) (inside buf s)) (joined ps) refl (rw g at (l .lines .ends)) h
 
 stopped-here : {buf t buf′ t′ : List ℕ} {s : Window} {n : ℕ} {ps : List (List ℕ)} → LoadsNone buf t s n buf′ t′ → (s .ended ≡ true → ps ≡ [])
     → Stopped (s .carried) (inside buf s ++ joined ps) t
 stopped-here {buf = buf} {t′ = t′} {s = s} {ps = ps} x f =
-    let n = x .piece .taken in
+    let n = x .chunk .taken in
     record {
-      flag = x .piece .begun;
+      flag = x .chunk .begun;
       front = take n (inside buf s);
       rest = drop n (inside buf s) ++ joined ps;
       table = t′;

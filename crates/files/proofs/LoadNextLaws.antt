@@ -26,7 +26,7 @@ module _ {buf t t′ : List ℕ} {s : Window} {p : Loading} (l : Loads buf t s p
   behind = lineBehind (p .begun) (stateOf t′)
 
   none : Wrong buf s p → LoadsNone buf t s behind buf t′
-  none w = record { piece = p; line = refl; loads = l; wrong = w; buffer = refl }
+  none w = record { chunk = p; line = refl; loads = l; wrong = w; buffer = refl }
 
   pub is-bad : p .good ≡ false → LoadsNone buf t s behind buf t′
   is-bad g = none (bad g)
@@ -42,7 +42,7 @@ module _ {buf t t′ : List ℕ} {s : Window} {p : Loading} (l : Loads buf t s p
     no-line h = none (too-long g (omega (arith, left-is)))
 
     pub all : s .ended ≡ true → p .begun ≡ true → s .from + p .taken ≡ s .held → LoadsAll buf t s buf t′
-    all e b a = record { piece = p; loads = l; ended = e; begun = b; all = omega (arith, inside-long (l .lies)); buffer = refl }
+    all e b a = record { chunk = p; loads = l; ended = e; begun = b; all = omega (arith, inside-long (l .lies)); buffer = refl }
 
     pub on : {buf′ : List ℕ} {n : ℕ} → s .ended ≡ false → s .held - (s .from + p .taken) ≤ longestStored
         → buf′ ≡ sets buf 0 (part buf (s .from + p .taken) (s .held - (s .from + p .taken))) → n ≡ s .held - (s .from + p .taken)
@@ -50,7 +50,7 @@ module _ {buf t t′ : List ℕ} {s : Window} {p : Loading} (l : Loads buf t s p
     on {n = n} e h b m =
         let z : n ≡ length (drop (p .taken) (inside buf s)) = omega (arith, left-is) in
         record {
-          piece = p;
+          chunk = p;
           loads = l;
           good = g;
           moves = record { on = e; next = rw z; buffer = rw (← (inside-behind (l .lies) (p .taken) (p .begun) (l .lines .within))) b; room = omega (arith, l .long) };

@@ -10,24 +10,24 @@ use Rattle.map.specs.State.{State}
 use Rattle.service.specs.Feed.{joined}
 use Rattle.table.specs.Memory.{size, stateOf, Sound}
 use Rattle.stored.specs.File.{form1, Stores}
-use Rattle.service.proofs.Pieces.{joined-more}
+use Rattle.service.proofs.Chunks.{joined-more}
 use Rattle.files.specs.declared.Window.{Window}
 use Rattle.files.specs.declared.NextLoad.{NextLoad}
 use Rattle.files.specs.declared.NextLoad.the-variants as load
 use Rattle.files.specs.Window.{begin, Lies, arrived, Cuts}
 use Rattle.files.specs.Loading.{longestStored, LoadsOn, LoadsNext, read, done, broken, LoadAnswers, LoadRan}
-use Rattle.files.proofs.TurnsLaws.{no-pieces}
+use Rattle.files.proofs.TurnsLaws.{no-chunks}
 use Rattle.files.proofs.Progress.{togo, Cut, cut}
 use Rattle.files.proofs.LoadLaws.{whole-loaded}
 
--- what is left of a file, as one piece
+-- what is left of a file, as one chunk
 rest : List ℕ → List (List ℕ)
 rest [] = []
 rest (b ∷ file) = (b ∷ file) ∷ []
 
 rest-all : (file : List ℕ) → joined (rest file) ≡ file
 unfolding joined rest
-rest-all [] = no-pieces
+rest-all [] = no-chunks
 rest-all (b ∷ file) = append-nil (b ∷ file)
 
 rest-none : (file : List ℕ) → file ≡ [] → rest file ≡ []
@@ -35,11 +35,11 @@ unfolding rest
 rest-none file e = rw e
 
 ran-read : {file buf t buf′ t′ : List ℕ} {s s′ : Window} → LoadsOn buf t s s′ buf′ t′ → (z : Cut file buf s s′ buf′)
-    → LoadRan (z .rest) (z .new) t′ (arrived s′ (length (z .piece))) → LoadRan file buf t s
+    → LoadRan (z .rest) (z .new) t′ (arrived s′ (length (z .chunk))) → LoadRan file buf t s
 ran-read x z y =
     record {
-      pieces = z .piece ∷ y .pieces;
-      all = joined-more (z .piece) (y .pieces) ∙ rw (y .all) (z .all);
+      chunks = z .chunk ∷ y .chunks;
+      all = joined-more (z .chunk) (y .chunks) ∙ rw (y .all) (z .all);
       good = y .good;
       table = y .table;
       runs = read x (z .brings) (y .runs);
@@ -51,10 +51,10 @@ module _ (c : Cuts) {n : ℕ}
   after-answer : (buf′ t′ : List ℕ) (a : NextLoad) → LoadsNext buf t s a buf′ t′ → LoadRan file buf t s
   after-answer buf′ t′ (load.Read s′) x =
       let z = cut c file (x .moves) in
-      ran-read x z (on (z .rest) (z .new) t′ (arrived s′ (length (z .piece))) (z .lies) (omega (arith, z .long)) (z .none) (omega (arith, z .less)))
-  after-answer buf′ t′ load.Done x = record { pieces = []; all = no-pieces ∙ sym (f (x .ended)); good = true; table = t′; runs = done x }
+      ran-read x z (on (z .rest) (z .new) t′ (arrived s′ (length (z .chunk))) (z .lies) (omega (arith, z .long)) (z .none) (omega (arith, z .less)))
+  after-answer buf′ t′ load.Done x = record { chunks = []; all = no-chunks ∙ sym (f (x .ended)); good = true; table = t′; runs = done x }
   after-answer buf′ t′ (load.Broken m) x =
-      record { pieces = rest file; all = rest-all file; good = false; table = t′; runs = broken x (λ e. rest-none file (f e)) }
+      record { chunks = rest file; all = rest-all file; good = false; table = t′; runs = broken x (λ e. rest-none file (f e)) }
   after-answer buf′ t′ (load.Refused k) x = absurd (omega (arith, x .short))
   after-answer buf′ t′ load.Astray x = absurd (x .outside l)
 

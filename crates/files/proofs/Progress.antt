@@ -15,13 +15,13 @@ use Rattle.service.specs.Line.{longest}
 use Rattle.service.specs.Turns.{lineRoom}
 use Rattle.table.specs.Memory.{Sound}
 use Rattle.server.proofs.LeftLaws.{left-sound}
-use Rattle.service.proofs.Pieces.{joined-more}
+use Rattle.service.proofs.Chunks.{joined-more}
 use Rattle.files.specs.declared.Window.{Window}
 use Rattle.files.specs.declared.NextServe.{NextServe}
 use Rattle.files.specs.declared.NextServe.the-variants as next
 use Rattle.files.specs.Window.{begin, inside, Lies, Moves, arrived, Brings, Cuts}
 use Rattle.files.specs.Serving.{Ready, Writes, Reads, Refuses, ServesNext, wrote, read, done, FileGives, Answers, Ran}
-use Rattle.files.proofs.TurnsLaws.{no-pieces, turns-within, turns-some}
+use Rattle.files.proofs.TurnsLaws.{no-chunks, turns-within, turns-some}
 use Rattle.files.proofs.WindowLaws.{inside-behind, lies-behind, inside-read, lies-read, inside-front, front-long, lies-more, long-more}
 use Rattle.files.proofs.RunLaws.{whole-served}
 
@@ -44,17 +44,17 @@ none-left : (c : Cuts) (room left : ℕ) → 0 < room → c .brings room left �
 none-left c room zero h e = refl
 none-left c room (suc n) h e = absurd (omega (arith, c .some room (suc n) h (omega arith)))
 
--- the next piece of a file: what is read of it, what is left of it, and the buffer with what was read
+-- the next chunk of a file: what is read of it, what is left of it, and the buffer with what was read
 pub record Cut (file buf : List ℕ) (s s′ : Window) (buf′ : List ℕ) : Type 0 where
-  pub piece : List ℕ
+  pub chunk : List ℕ
   pub rest : List ℕ
   pub new : List ℕ
-  pub all : piece ++ rest ≡ file
-  pub brings : Brings buf′ (s′ .held) piece new
-  pub lies : Lies new (arrived s′ (length piece))
+  pub all : chunk ++ rest ≡ file
+  pub brings : Brings buf′ (s′ .held) chunk new
+  pub lies : Lies new (arrived s′ (length chunk))
   pub long : length new ≡ length buf
-  pub none : arrived s′ (length piece) .ended ≡ true → rest ≡ []
-  pub less : togo rest new (arrived s′ (length piece)) < togo file buf s
+  pub none : arrived s′ (length chunk) .ended ≡ true → rest ≡ []
+  pub less : togo rest new (arrived s′ (length chunk)) < togo file buf s
 
 pub cut : (c : Cuts) (file : List ℕ) {buf buf′ : List ℕ} {s s′ : Window} {n : ℕ} {d : Bool} → Moves buf s n d s′ buf′ → Cut file buf s s′ buf′
 cut c file {buf} {buf′} {s} {s′} {n} x =
@@ -71,7 +71,7 @@ cut c file {buf} {buf′} {s} {s′} {n} x =
     let q : length (inside (sets buf′ (s′ .held) p) (arrived s′ (length p))) ≡ length (inside buf′ s′) + length p = ap length (inside-read s′ z b) ∙ length-append (inside buf′ s′) p in
     let o : k ≡ 0 → length (drop k file) ≡ 0 = λ e. omega (arith, length-drop k file, none-left c room (length file) (omega (arith, x .room)) e) in
     record {
-      piece = p;
+      chunk = p;
       rest = drop k file;
       new = sets buf′ (s′ .held) p;
       all = take-append-drop k file;
@@ -115,14 +115,14 @@ ready-read {t = t} {t′ = t′} x b =
 
 -- a run behind a call
 ran-wrote : {file buf t out buf′ t′ out′ : List ℕ} {s s′ : Window} {k : ℕ} → Writes buf t out s k s′ buf′ t′ out′ → Ran file buf′ t′ s′ → Ran file buf t s
-ran-wrote x y = record { pieces = y .pieces; all = y .all; written = _; table = y .table; runs = wrote x (y .runs) }
+ran-wrote x y = record { chunks = y .chunks; all = y .all; written = _; table = y .table; runs = wrote x (y .runs) }
 
 ran-read : {file buf t out buf′ t′ out′ : List ℕ} {s s′ : Window} → Reads buf t out s s′ buf′ t′ out′ → (z : Cut file buf s s′ buf′)
-    → Ran (z .rest) (z .new) t′ (arrived s′ (length (z .piece))) → Ran file buf t s
+    → Ran (z .rest) (z .new) t′ (arrived s′ (length (z .chunk))) → Ran file buf t s
 ran-read x z y =
     record {
-      pieces = z .piece ∷ y .pieces;
-      all = joined-more (z .piece) (y .pieces) ∙ rw (y .all) (z .all);
+      chunks = z .chunk ∷ y .chunks;
+      all = joined-more (z .chunk) (y .chunks) ∙ rw (y .all) (z .all);
       written = y .written;
       table = y .table;
       runs = read x (z .brings) (y .runs);
@@ -143,12 +143,12 @@ module _ (c : Cuts) {n : ℕ}
   after-read : {buf′ t′ out′ : List ℕ} {s′ : Window} → Reads buf t out s s′ buf′ t′ out′ → Ran file buf t s
   after-read {t′ = t′} {out′} {s′} x =
       let z = cut c file (x .moves) in
-      ran-read x z (on (z .rest) (z .new) t′ out′ (arrived s′ (length (z .piece))) (ready-read x (z .brings)) (z .none) (omega (arith, z .less)))
+      ran-read x z (on (z .rest) (z .new) t′ out′ (arrived s′ (length (z .chunk))) (ready-read x (z .brings)) (z .none) (omega (arith, z .less)))
 
   after-answer : (buf′ t′ out′ : List ℕ) (a : NextServe) → ServesNext buf t out s a buf′ t′ out′ → Ran file buf t s
   after-answer buf′ t′ out′ (next.Write k s′) x = after-write x
   after-answer buf′ t′ out′ (next.Read s′) x = after-read x
-  after-answer buf′ t′ out′ next.Done x = record { pieces = []; all = no-pieces ∙ sym (f (x .ended)); written = []; table = t′; runs = done x }
+  after-answer buf′ t′ out′ next.Done x = record { chunks = []; all = no-chunks ∙ sym (f (x .ended)); written = []; table = t′; runs = done x }
   after-answer buf′ t′ out′ (next.Refused k) x = absurd (never-refused r x)
   after-answer buf′ t′ out′ next.Astray x = absurd (x .outside (r .lies))
 

@@ -1,4 +1,4 @@
--- A whole run is a file in pieces: what is written is what the lines of the file give, and the table at the end is sound and has the state behind them.
+-- A whole run is a file in chunks: what is written is what the lines of the file give, and the table at the end is sound and has the state behind them.
 -- Assumes nothing.
 use mathlib.Core.Path.{_≡_, refl, sym, ap, _∙_}
 use mathlib.Core.Bool.{Bool, true}
@@ -11,7 +11,7 @@ use lib.Seq.{sets, sets-eq, take-append-seam}
 use Rattle.wire.proofs.Laws.{never}
 use Rattle.service.specs.Line.{Given, given, later, linesStep}
 use Rattle.service.specs.Feed.{linesOf, joined, Feeds, read as feeds-read, end as feeds-end}
-use Rattle.service.proofs.Pieces.{restStep, pieces}
+use Rattle.service.proofs.Chunks.{restStep, chunks}
 use Rattle.wire.specs.Write.{part}
 use Rattle.table.specs.Memory.{stateOf, Sound}
 use Rattle.service.specs.Stream.{Becomes}
@@ -27,13 +27,13 @@ use Rattle.files.proofs.WindowLaws.{inside-behind, inside-more, carried
 pub given-out : (out text : List ℕ) → length text ≤ length out → take (length text) (sets out 0 text) ≡ text
 given-out out text h = rw (sets-eq text out 0 (omega arith)) (take-append-seam text _)
 
--- at the file's end there is no further piece
+-- at the file's end there is no further chunk
 ended-none : {buf t w t′ : List ℕ} {s : Window} {ps : List (List ℕ)} → Runs buf t s ps w t′ → s .ended ≡ true → ps ≡ []
 ended-none (wrote x r) e = ended-none r (ap (λ (s : Window). s .ended) (x .next) ∙ e)
 ended-none (read x b r) e = never (cc (x .moves .on))
 ended-none (done x) e = refl
 
--- a file in pieces, from a place on: what is written, and the table that is left
+-- a file in chunks, from a place on: what is written, and the table that is left
 pub record Fed (passing : Bool) (here : List ℕ) (ps : List (List ℕ)) (t w t′ : List ℕ) : Type 0 where
   pub next : Option State
   pub feeds : Feeds passing here ps (stateOf t) (given w next)
@@ -92,7 +92,7 @@ pub whole-served : {buf t w t′ : List ℕ} {ps : List (List ℕ)} → Runs buf
 unfolding restStep
 whole-served {t = t} {w} {t′} {ps} r =
     let f = fed r in
-    let e : given w (f .next) ≡ linesStep (linesOf (joined ps)) (stateOf t) = pieces (f .feeds) in
+    let e : given w (f .next) ≡ linesStep (linesOf (joined ps)) (stateOf t) = chunks (f .feeds) in
     (record { text = ap (λ (g : Given). g .text) e; table = rw (ap (λ (g : Given). g .next) e) at (f .table) }, ends-sound r)
 
 -- what is written, and the state at the end, go by the file and the state before it alone

@@ -68,7 +68,7 @@ module _ {buf buf′ p buf″ : List ℕ} {s s′ : Window} {n : ℕ} {c : Bool}
   pub carried-more : s′ .carried ≡ c
   carried-more = ap (λ (s : Window). s .carried) (m .next)
 
--- whatever a read leaves behind the bytes held, its first bytes are a piece
+-- whatever a read leaves behind the bytes held, its first bytes are a chunk
 pub brings-some : (buf buf′ : List ℕ) (k n : ℕ) → take k buf′ ≡ take k buf → length buf′ ≡ length buf → k + n ≤ length buf → Brings buf k (take n (drop k buf′)) buf′
 brings-some buf buf′ k n e l h =
     let m : length (take n (drop k buf′)) ≡ n = length-take-le n (drop k buf′) (omega (arith, length-drop k buf′)) in

@@ -27,18 +27,18 @@ pub record Loads (buf t : List ℕ) (s : Window) (p : Loading) (t′ : List ℕ)
 
 -- "read into the buffer behind the bytes that s′ holds"
 pub record LoadsOn (buf t : List ℕ) (s s′ : Window) (buf′ t′ : List ℕ) : Type 0 where
-  pub piece : Loading
-  pub loads : Loads buf t s piece t′
-  pub good : piece .good ≡ true
-  pub moves : Moves buf s (piece .taken) (piece .begun) s′ buf′
+  pub chunk : Loading
+  pub loads : Loads buf t s chunk t′
+  pub good : chunk .good ≡ true
+  pub moves : Moves buf s (chunk .taken) (chunk .begun) s′ buf′
 
 -- "done": the file's end is reached, its first line is loaded, and nothing is left behind the last one
 pub record LoadsAll (buf t : List ℕ) (s : Window) (buf′ t′ : List ℕ) : Type 0 where
-  pub piece : Loading
-  pub loads : Loads buf t s piece t′
+  pub chunk : Loading
+  pub loads : Loads buf t s chunk t′
   pub ended : s .ended ≡ true
-  pub begun : piece .begun ≡ true
-  pub all : piece .taken ≡ length (inside buf s)
+  pub begun : chunk .begun ≡ true
+  pub all : chunk .taken ≡ length (inside buf s)
   pub buffer : buf′ ≡ buf
 
 -- Why a file stores no table: a line is not good; the file ends without its first line, or within a line; or a line is too long.
@@ -53,10 +53,10 @@ lineBehind begun st = cond begun (length (st .entries) + 2) 1
 
 -- "17: stored form broken", seen at line n
 pub record LoadsNone (buf t : List ℕ) (s : Window) (n : ℕ) (buf′ t′ : List ℕ) : Type 0 where
-  pub piece : Loading
-  pub line : n ≡ lineBehind (piece .begun) (stateOf t′)
-  pub loads : Loads buf t s piece t′
-  pub wrong : Wrong buf s piece
+  pub chunk : Loading
+  pub line : n ≡ lineBehind (chunk .begun) (stateOf t′)
+  pub loads : Loads buf t s chunk t′
+  pub wrong : Wrong buf s chunk
   pub buffer : buf′ ≡ buf
 
 -- the buffer is too short for a line: nothing was changed
@@ -80,8 +80,8 @@ LoadsNext buf t s (load.Broken n) buf′ t′ = LoadsNone buf t s n buf′ t′
 LoadsNext buf t s (load.Refused k) buf′ t′ = TooShort buf t s k buf′ t′
 LoadsNext buf t s load.Astray buf′ t′ = LoadStrays buf t s buf′ t′
 
--- A whole run, from a buffer, a table and a window on: the pieces of the file, whether it ends with 'done', and the memory at the end. Where it ends
--- with 17, the pieces from there on are not read.
+-- A whole run, from a buffer, a table and a window on: the chunks of the file, whether it ends with 'done', and the memory at the end. Where it ends
+-- with 17, the chunks from there on are not read.
 pub data Loadings : List ℕ → List ℕ → Window → List (List ℕ) → Bool → List ℕ → Type 0 where
   read : {buf t buf′ t′ p buf″ t″ : List ℕ} {s s′ : Window} {ps : List (List ℕ)} {r : Bool} → LoadsNext buf t s (load.Read s′) buf′ t′
       → Brings buf′ (s′ .held) p buf″ → Loadings buf″ t′ (arrived s′ (length p)) ps r t″ → Loadings buf t s (p ∷ ps) r t″
@@ -89,10 +89,10 @@ pub data Loadings : List ℕ → List ℕ → Window → List (List ℕ) → Boo
   broken : {buf t buf′ t′ : List ℕ} {s : Window} {n : ℕ} {ps : List (List ℕ)} → LoadsNext buf t s (load.Broken n) buf′ t′ → (s .ended ≡ true → ps ≡ [])
       → Loadings buf t s ps false t′
 
--- Between two calls of a run: whatever run goes on from here, the pieces read so far come before its own.
+-- Between two calls of a run: whatever run goes on from here, the chunks read so far come before its own.
 pub record LoadAhead (buf t : List ℕ) (s : Window) (buf′ t′ : List ℕ) (s′ : Window) : Type 0 where
-  pub pieces : List (List ℕ)
-  pub on : {ps : List (List ℕ)} {r : Bool} {t″ : List ℕ} → Loadings buf′ t′ s′ ps r t″ → Loadings buf t s (pieces ++ ps) r t″
+  pub chunks : List (List ℕ)
+  pub on : {ps : List (List ℕ)} {r : Bool} {t″ : List ℕ} → Loadings buf′ t′ s′ ps r t″ → Loadings buf t s (chunks ++ ps) r t″
 
 -- what a call answers, and what it leaves
 pub record LoadAnswers (buf t : List ℕ) (s : Window) : Type 0 where
@@ -103,8 +103,8 @@ pub record LoadAnswers (buf t : List ℕ) (s : Window) : Type 0 where
 
 -- a run that loads a file, to its end or to a refusal
 pub record LoadRan (file buf t : List ℕ) (s : Window) : Type 0 where
-  pub pieces : List (List ℕ)
-  pub all : joined pieces ≡ file
+  pub chunks : List (List ℕ)
+  pub all : joined chunks ≡ file
   pub good : Bool
   pub table : List ℕ
-  pub runs : Loadings buf t s pieces good table
+  pub runs : Loadings buf t s chunks good table

@@ -81,7 +81,7 @@ ServesNext buf t out s next.Done buf′ t′ out′ = Ends buf t out s buf′ t�
 ServesNext buf t out s (next.Refused k) buf′ t′ out′ = Refuses buf t out s k buf′ t′ out′
 ServesNext buf t out s next.Astray buf′ t′ out′ = Strays buf t out s buf′ t′ out′
 
--- A whole run, from a buffer, a table and a window on: the pieces that reads bring, one after the other, all that is written, in order, and the table
+-- A whole run, from a buffer, a table and a window on: the chunks that reads bring, one after the other, all that is written, in order, and the table
 -- at the end. The buffer for output may be another at each call, and what stands in it does not matter.
 pub data Runs : List ℕ → List ℕ → Window → List (List ℕ) → List ℕ → List ℕ → Type 0 where
   wrote : {buf t out buf′ t′ out′ w t″ : List ℕ} {s s′ : Window} {n : ℕ} {ps : List (List ℕ)} → ServesNext buf t out s (next.Write n s′) buf′ t′ out′
@@ -96,11 +96,11 @@ pub record FileGives (file t written t′ : List ℕ) : Type 0 where
   pub text : written ≡ linesStep (linesOf file) (stateOf t) .text
   pub table : Becomes t (linesStep (linesOf file) (stateOf t) .next) t′
 
--- Between two calls of a run: whatever run goes on from here, the pieces read and the bytes written so far come before its own.
+-- Between two calls of a run: whatever run goes on from here, the chunks read and the bytes written so far come before its own.
 pub record Ahead (buf t : List ℕ) (s : Window) (buf′ t′ : List ℕ) (s′ : Window) : Type 0 where
-  pub pieces : List (List ℕ)
+  pub chunks : List (List ℕ)
   pub written : List ℕ
-  pub on : {ps : List (List ℕ)} {w t″ : List ℕ} → Runs buf′ t′ s′ ps w t″ → Runs buf t s (pieces ++ ps) (written ++ w) t″
+  pub on : {ps : List (List ℕ)} {w t″ : List ℕ} → Runs buf′ t′ s′ ps w t″ → Runs buf t s (chunks ++ ps) (written ++ w) t″
 
 -- what a call answers, and what it leaves
 pub record Answers (buf t out : List ℕ) (s : Window) : Type 0 where
@@ -112,8 +112,8 @@ pub record Answers (buf t out : List ℕ) (s : Window) : Type 0 where
 
 -- a run that serves a file to its end
 pub record Ran (file buf t : List ℕ) (s : Window) : Type 0 where
-  pub pieces : List (List ℕ)
-  pub all : joined pieces ≡ file
+  pub chunks : List (List ℕ)
+  pub all : joined chunks ≡ file
   pub written : List ℕ
   pub table : List ℕ
-  pub runs : Runs buf t s pieces written table
+  pub runs : Runs buf t s chunks written table

@@ -48,7 +48,7 @@ pub record Arrives (s : Window) (n : ℕ) (r : Window) : Type 0 where
   pub sum : s .held + n ≤ greatest → r ≡ arrived s n
   pub over : greatest < s .held + n → r ≡ at (s .from) greatest (s .carried) false
 
--- a read into the buffer from k on brings a piece of the file
+-- a read into the buffer from k on brings a chunk of the file
 pub record Brings (buf : List ℕ) (k : ℕ) (p buf′ : List ℕ) : Type 0 where
   pub fits : k + length p ≤ length buf
   pub bytes : take (k + length p) buf′ ≡ take k buf ++ p

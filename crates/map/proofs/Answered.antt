@@ -1,4 +1,4 @@
--- What a step that is answered says: its answer, and the change of the state. Assumes nothing.
+-- What a step that is answered says: its result, and the change of the state. Assumes nothing.
 use mathlib.Core.Path.{_≡_, refl}
 use mathlib.Core.Bool.{Bool, true, false, cond}
 use Prim.Native.Nat.{ℕ, _<_}
@@ -8,7 +8,7 @@ use Rattle.wire.proofs.Laws.{never}
 use Rattle.message.specs.Request.{Request, isEmpty}
 use Rattle.map.specs.State.{State}
 use Rattle.map.specs.Plan.{Change, keep, store, drop, empty}
-use Rattle.map.specs.Step.{Context, Answer, Outcome, refused, answered, lastVersion, stored, dropped, emptied, full, planned, answer, act, core, arrive, step}
+use Rattle.map.specs.Step.{Context, Result, Outcome, refused, answered, lastVersion, stored, dropped, emptied, full, planned, result, act, core, arrive, step}
 
 -- the state behind a change
 unfoldable pub changed : Request → State → Change → State
@@ -18,21 +18,21 @@ changed r st drop = dropped r st
 changed r st empty = emptied st
 
 -- what is refused is not answered
-unless : {a : Answer} {t : State} (b : Bool) (k : ℕ) (o : Outcome) → cond b (refused k) o ≡ answered a t → (b ≡ false) × (o ≡ answered a t)
+unless : {a : Result} {t : State} (b : Bool) (k : ℕ) (o : Outcome) → cond b (refused k) o ≡ answered a t → (b ≡ false) × (o ≡ answered a t)
 unless true k o e = never (cc)
 unless false k o e = (refl, e)
 
-if : {a : Answer} {t : State} (b : Bool) (k : ℕ) (o : Outcome) → cond b o (refused k) ≡ answered a t → (b ≡ true) × (o ≡ answered a t)
+if : {a : Result} {t : State} (b : Bool) (k : ℕ) (o : Outcome) → cond b o (refused k) ≡ answered a t → (b ≡ true) × (o ≡ answered a t)
 if true k o e = (refl, e)
 if false k o e = never (cc)
 
-module _ (c : Context) (r : Request) (st : State) (a : Answer) (t : State) where
-  pub record Did (b : Answer) (d : Change) : Type 0 where
+module _ (c : Context) (r : Request) (st : State) (a : Result) (t : State) where
+  pub record Did (b : Result) (d : Change) : Type 0 where
     pub same : a ≡ b
     pub state : t ≡ changed r st d
     pub room : d ≡ store → (full r st ≡ false) × (st .last < lastVersion)
 
-  act-did : (b : Answer) (d : Change) → act r st b d ≡ answered a t → Did b d
+  act-did : (b : Result) (d : Change) → act r st b d ≡ answered a t → Did b d
   unfolding act changed
   act-did b keep e = record { same = cc; state = cc; room = λ q. never (cc) }
   act-did b drop e = record { same = cc; state = cc; room = λ q. never (cc) }
@@ -43,12 +43,12 @@ module _ (c : Context) (r : Request) (st : State) (a : Answer) (t : State) where
       let q = y .1 in
       record { same = cc; state = cc; room = λ z. (x .0, ltb-true (st .last) lastVersion (y .0)) }
 
-  core-did : core c r st ≡ answered a t → Did (answer c r st) (planned r st .change)
+  core-did : core c r st ≡ answered a t → Did (result c r st) (planned r st .change)
   unfolding core
-  core-did e = act-did (answer c r st) (planned r st .change) (if (isEmpty (r .name)) 9 _ e .1)
+  core-did e = act-did (result c r st) (planned r st .change) (if (isEmpty (r .name)) 9 _ e .1)
 
 -- the step does this to the state that the call left when it came
-pub did : (c : Context) (r : Request) (st : State) (a : Answer) (t : State) → step c r st ≡ answered a t
-    → Did c r (arrive c r st) a t (answer c r (arrive c r st)) (planned r (arrive c r st) .change)
+pub did : (c : Context) (r : Request) (st : State) (a : Result) (t : State) → step c r st ≡ answered a t
+    → Did c r (arrive c r st) a t (result c r (arrive c r st)) (planned r (arrive c r st) .change)
 unfolding step
 did c r st a t e = core-did c r (arrive c r st) a t e

@@ -16,9 +16,9 @@ use Rattle.map.specs.State.{Entry, State, without}
 use Rattle.map.specs.Deadline.{deadline, expired}
 use Rattle.map.specs.Plan.{Change, keep, store, drop, empty}
 use Rattle.map.specs.Shown.{shows, listedBy}
-use Rattle.map.specs.Step.{Context, Answer, answered, lastVersion, entry, stored, dropped, emptied, isNone, names, held, versionOf, full, planned, statistics, answer, act, core, present, swept, noted, arrive, step}
+use Rattle.map.specs.Step.{Context, Result, answered, lastVersion, entry, stored, dropped, emptied, isNone, names, held, versionOf, full, planned, statistics, result, act, core, present, swept, noted, arrive, step}
 use Rattle.map.specs.Table.{Each}
-use Rattle.map.specs.Revalue.{entriesWith, stateWith, foundWith, shownWith, answerWith, outcomeWith, outcomeState}
+use Rattle.map.specs.Revalue.{entriesWith, stateWith, foundWith, shownWith, resultWith, outcomeWith, outcomeState}
 use Rattle.map.proofs.Each.{each-without}
 use Rattle.map.proofs.Answered.{changed, did}
 use Rattle.map.proofs.ListedLaws.{listed-with}
@@ -61,9 +61,9 @@ module _ (v : ℕ) (w : List ℕ) where
     unfolding statistics stateWith
     statistics-with = rw length-with
 
-    answer-with : answer c r (stateWith v w st) ≡ answerWith v w (answer c r st)
-    unfolding answer answerWith
-    answer-with = rw (planned-with, held-with, statistics-with, listed-with r v w st, shows-with)
+    result-with : result c r (stateWith v w st) ≡ resultWith v w (result c r st)
+    unfolding result resultWith
+    result-with = rw (planned-with, held-with, statistics-with, listed-with r v w st, shows-with)
 
     drops : dropped r (stateWith v w st) ≡ stateWith v w (dropped r st)
     unfolding dropped stateWith
@@ -74,10 +74,10 @@ module _ (v : ℕ) (w : List ℕ) where
     stored-with h =
         rw (without-with v w (names r) (λ e. refl) (st .entries), append-with, ne-eqb (suc (st .last)) v (λ q. omega arith))
 
-    act-with : v ≤ st .last → (a : Answer) (d : Change) → act r (stateWith v w st) (answerWith v w a) d ≡ outcomeWith v w (act r st a d)
+    act-with : v ≤ st .last → (a : Result) (d : Change) → act r (stateWith v w st) (resultWith v w a) d ≡ outcomeWith v w (act r st a d)
     unfolding act outcomeWith emptied stateWith entriesWith
     act-with h a keep = refl
-    act-with h a drop = ap (answered (answerWith v w a)) drops
+    act-with h a drop = ap (answered (resultWith v w a)) drops
     act-with h a empty = refl
     act-with h a store =
         rw (full-with, stored-with h, cond-of (outcomeWith v w) (full r st), cond-of (outcomeWith v w) (ltb (st .last) lastVersion))
@@ -85,7 +85,7 @@ module _ (v : ℕ) (w : List ℕ) where
     core-with : v ≤ st .last → core c r (stateWith v w st) ≡ outcomeWith v w (core c r st)
     unfolding core outcomeWith
     core-with h =
-        rw (planned-with, answer-with, act-with h (answer c r st) (planned r st .change), cond-of (outcomeWith v w) (isEmpty (r .name)))
+        rw (planned-with, result-with, act-with h (result c r st) (planned r st .change), cond-of (outcomeWith v w) (isEmpty (r .name)))
 
     swept-with : swept c (stateWith v w st) ≡ stateWith v w (swept c st)
     unfolding swept stateWith expired
@@ -116,7 +116,7 @@ module _ (w : List ℕ) (c : Context) (r : Request) (st : State) (h : Each (λ e
   unfolding stored stateWith entriesWith entry deadline
   stores-value = rw (append-with, rest-there, eq-eqb (suc (st .last)) (suc (st .last)) refl)
 
-  act-value : (a : Answer) (d : Change) → act (withValue w r) st a d ≡ outcomeState (suc (st .last)) w (act r st a d)
+  act-value : (a : Result) (d : Change) → act (withValue w r) st a d ≡ outcomeState (suc (st .last)) w (act r st a d)
   unfolding act outcomeState stateWith entriesWith dropped emptied full held
   act-value a keep = rw none-there
   act-value a drop = rw rest-there
@@ -129,9 +129,9 @@ module _ (w : List ℕ) (c : Context) (r : Request) (st : State) (h : Each (λ e
       )
 
   core-value : core c (withValue w r) st ≡ outcomeState (suc (st .last)) w (core c r st)
-  unfolding core outcomeState planned answer held listedBy
+  unfolding core outcomeState planned result held listedBy
   core-value =
-      rw (act-value (answer c r st) (planned r st .change), cond-of (outcomeState (suc (st .last)) w) (isEmpty (r .name)))
+      rw (act-value (result c r st) (planned r st .change), cond-of (outcomeState (suc (st .last)) w) (isEmpty (r .name)))
 
 pub step-value : (w : List ℕ) (c : Context) (r : Request) (st : State) → Each (λ e. e .version ≤ st .last) (st .entries)
     → step c (withValue w r) st ≡ outcomeState (suc (st .last)) w (step c r st)
@@ -158,7 +158,7 @@ last-step n store = inr refl
 last-step n drop = inl refl
 last-step n empty = inl refl
 
-module _ (c : Context) (r : Request) (st : State) (a : Answer) (t : State) (e : step c r st ≡ answered a t) where
+module _ (c : Context) (r : Request) (st : State) (a : Result) (t : State) (e : step c r st ≡ answered a t) where
   -- a step that is answered issues a version if it stores, and none if it removes, clears or keeps
   pub issues-by : t .last ≡ lastBehind (planned r (arrive c r st) .change) (st .last)
   unfolding arrive noted swept

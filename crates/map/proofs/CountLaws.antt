@@ -20,7 +20,7 @@ use Rattle.map.specs.History.{countsHeld, mostCount, onward, is, adds, m
 use Rattle.map.specs.State.{Entry, State, fresh, find, without}
 use Rattle.map.specs.Plan.{Change, keep, store, drop, empty, plans, plan}
 use Rattle.map.specs.Shown.{shows, counted}
-use Rattle.map.specs.Step.{Context, Answer, Outcome, refused, answered, entry, stored, dropped, emptied, isNone, names, held, versionOf, planned, statistics, answer, present, swept, noted, arrive, step, stateAfter, run}
+use Rattle.map.specs.Step.{Context, Result, Outcome, refused, answered, entry, stored, dropped, emptied, isNone, names, held, versionOf, planned, statistics, result, present, swept, noted, arrive, step, stateAfter, run}
 use Rattle.map.specs.Table.{Counts}
 use Rattle.map.specs.Counted.{says, absentAt, number, ends, atMost}
 use Rattle.map.proofs.Each.{each-left}
@@ -43,7 +43,7 @@ gone-after r st store = rw (find-stored (r .args .key) (st .entries) (entry (st 
 gone-after r st drop = ap isNone (find-none (names r) (without (names r) (st .entries)) (each-left (names r) (st .entries)))
 gone-after r st empty = refl
 
--- what an answer of a status says
+-- what a result of a status says
 abbrev saysOf : Operation → ℕ → Bool → Bool → List Bool
 saysOf o s before after =
     (before && not after)
@@ -99,7 +99,7 @@ history-changed r st store = refl
 history-changed r st drop = refl
 history-changed r st empty = refl
 
-module _ (c : Context) (r : Request) (st : State) (a : Answer) (t : State) (e : step c r st ≡ answered a t) where
+module _ (c : Context) (r : Request) (st : State) (a : Result) (t : State) (e : step c r st ≡ answered a t) where
   history-step : t .history ≡ arrive c r st .history
   history-step = rw (did c r st a t e .state) (history-changed r (arrive c r st) (planned r (arrive c r st) .change))
 
@@ -108,9 +108,9 @@ module _ (c : Context) (r : Request) (st : State) (a : Answer) (t : State) (e : 
   unfolding arrive noted swept
   latest-step = rw history-step
 
-  answer-says : says (r .op) (answered a t) (absentAt (t .history .latest) r st) (isNone (held r t)) ≡ adds (r .op) (isNone (held r (swept c st)))
-  unfolding says answer planned held arrive noted swept
-  answer-says =
+  result-says : says (r .op) (answered a t) (absentAt (t .history .latest) r st) (isNone (held r t)) ≡ adds (r .op) (isNone (held r (swept c st)))
+  unfolding says result planned held arrive noted swept
+  result-says =
       let d = did c r st a t e in
       let x = arrive c r st in
       rw (latest-step, d .same, d .state, gone-after r x (planned r x .change))
@@ -164,7 +164,7 @@ module _ (i : ℕ) (l : i < countsHeld) (c : Context) (r : Request) (st : State)
   at-step (refused j) e k = rw (refused-says (r .op) j, nowhere-at i)
   at-step (answered a t) e k =
       rw (
-        answer-says c r st a t e,
+        result-says c r st a t e,
         history-step c r st a t e,
         marked-at (adds (r .op) (isNone (held r (swept c st)))) (st .history .counts) i (omega (arith, s .long)),
       )
@@ -200,7 +200,7 @@ adds-split o absent h m = go (is Get o) absent
 says-split : (c : Context) (r : Request) (st : State) (o : Outcome) → step c r st ≡ o
     → Split (says (r .op) o (absentAt (stateAfter st o .history .latest) r st) (isNone (held r (stateAfter st o))))
 says-split c r st (refused k) e h m = rw (refused-says (r .op) k)
-says-split c r st (answered a t) e h m = rw (answer-says c r st a t e) (adds-split (r .op) (isNone (held r (swept c st))) h m)
+says-split c r st (answered a t) e h m = rw (result-says c r st a t e) (adds-split (r .op) (isNone (held r (swept c st))) h m)
 
 number-split : (xs : List (Context × Request)) (st : State) → number hits st (run xs st) + number misses st (run xs st) ≡ number retrievals st (run xs st)
 unfolding run number
@@ -260,7 +260,7 @@ marked-none zero ns = refl
 marked-none (suc n) [] = refl
 marked-none (suc n) (x ∷ ns) = ap (λ (l : List ℕ). x ∷ l) (marked-none n ns)
 
-module _ (c : Context) (r : Request) (st : State) (a : Answer) (t : State) (e : step c r st ≡ answered a t) where
+module _ (c : Context) (r : Request) (st : State) (a : Result) (t : State) (e : step c r st ≡ answered a t) where
   same-counts : adds (r .op) (isNone (held r (swept c st))) ≡ replicate countsHeld false → t .history .counts ≡ st .history .counts
   unfolding arrive noted swept tally
   same-counts h = rw (history-step c r st a t e, h) (marked-none countsHeld (st .history .counts))
@@ -280,7 +280,7 @@ module _ (c : Context) (r : Request) (st : State) (a : Answer) (t : State) (e : 
 
   -- a stats reply shows the statistics behind the arrival of its own call
   pub stats-shown : r .op ≡ Stats → a .shown ≡ counted (statistics c (arrive c r st))
-  unfolding answer planned plan plans shows bodyAt
+  unfolding result planned plan plans shows bodyAt
   stats-shown q = rw (did c r st a t e .same, q)
 
   -- "the first call served": the first one that is answered

@@ -20,7 +20,7 @@ use Rattle.map.specs.State.{Entry, State}
 use Rattle.map.specs.Deadline.{standing}
 use Rattle.map.specs.Plan.{Change, keep, store, drop, empty}
 use Rattle.map.specs.Shown.{Shown, nothing, noValue, value, versioned, counted, listed, shows, byVersion, wanted, lowest, listedBy}
-use Rattle.map.specs.Step.{mostKeys, lastVersion, Context, Answer, Outcome, refused, answered, wantsOld, entry, stored, isNone, names, held, full, planned, statistics, answer, act, core, present, swept, noted, arrive, step, stateAfter, run}
+use Rattle.map.specs.Step.{mostKeys, lastVersion, Context, Result, Outcome, refused, answered, wantsOld, entry, stored, isNone, names, held, full, planned, statistics, result, act, core, present, swept, noted, arrive, step, stateAfter, run}
 use Rattle.map.specs.Table.{Each}
 use Rattle.map.specs.Counted.{ends}
 use Rattle.map.specs.Reply.{Piece, itemPieces, listPieces, shownPieces, pieces}
@@ -33,7 +33,7 @@ use Rattle.map.proofs.ListedLaws.{listed-each}
 use Rattle.map.proofs.CountLaws.{latest-step}
 use Rattle.map.proofs.Standing.{standing-stand, standing-all}
 
--- an answer shows entries of the state that it is given from
+-- a result shows entries of the state that it is given from
 shows-each : (P : Entry → Type 0) (g : Form) (ns : List ℕ) (es : List Entry) (f : Option Entry) → Each P es → Maybe P f → ShowsEach P (shows g ns es f)
 unfolding shows
 shows-each P form.Nothing ns es f h i = tt
@@ -45,9 +45,9 @@ shows-each P form.Statistics ns es f h i = tt
 shows-each P form.Text ns es f h i = tt
 shows-each P (form.Listed values) ns es f h i = h
 
-answer-each : (P : Entry → Type 0) (c : Context) (r : Request) (st : State) → Each P (st .entries) → ShowsEach P (answer c r st .shown)
-unfolding answer held
-answer-each P c r st h =
+result-each : (P : Entry → Type 0) (c : Context) (r : Request) (st : State) → Each P (st .entries) → ShowsEach P (result c r st .shown)
+unfolding result held
+result-each P c r st h =
     shows-each P (formOf (wantsOld r) (allowed (bodyAt (planned r st .status) (table (r .op))))) (statistics c st) (listedBy r st) (held r st)
     (listed-each r st P h) (each-find (names r) P (st .entries) h)
 
@@ -74,7 +74,7 @@ shown-have P (versioned e) h = (tt, (tt, (h, tt)))
 shown-have P (counted ns) h = (tt, tt)
 shown-have P (listed values es) h = list-have P values es h
 
-pub pieces-have : (P : Entry → Type 0) (r : Request) (a : Answer) → ShowsEach P (a .shown) → PiecesHave P (pieces r a)
+pub pieces-have : (P : Entry → Type 0) (r : Request) (a : Result) → ShowsEach P (a .shown) → PiecesHave P (pieces r a)
 unfolding pieces
 pieces-have P r a h = (tt, shown-have P (a .shown) h)
 
@@ -83,7 +83,7 @@ both : (a b : Bool) → (a && b) ≡ true → b ≡ true
 both true b e = e
 both false b e = never (cc)
 
-act-ten : (r : Request) (st : State) (a : Answer) (d : Change) → act r st a d ≡ refused 10 → full r st ≡ true
+act-ten : (r : Request) (st : State) (a : Result) (d : Change) → act r st a d ≡ refused 10 → full r st ≡ true
 unfolding act
 act-ten r st a keep e = never (cc)
 act-ten r st a drop e = never (cc)
@@ -99,16 +99,16 @@ core-ten : (c : Context) (r : Request) (st : State) → core c r st ≡ refused 
 unfolding core
 core-ten c r st e = go (isEmpty (r .name)) e
   where
-    go : (b : Bool) → cond b (act r st (answer c r st) (planned r st .change)) (refused 9) ≡ refused 10 → full r st ≡ true
-    go true q = act-ten r st (answer c r st) (planned r st .change) q
+    go : (b : Bool) → cond b (act r st (result c r st) (planned r st .change)) (refused 9) ≡ refused 10 → full r st ≡ true
+    go true q = act-ten r st (result c r st) (planned r st .change) q
     go false q = let z : _≡_ {A = ℕ} 9 10 = cc in absurd (omega arith)
 
 module _ (c : Context) (r : Request) (st : State) where
-  -- what an answer shows stands at the present second
-  pub shows-standing : (a : Answer) (t : State) → step c r st ≡ answered a t → ShowsEach (Stands (present c st)) (a .shown)
+  -- what a result shows stands at the present second
+  pub shows-standing : (a : Result) (t : State) → step c r st ≡ answered a t → ShowsEach (Stands (present c st)) (a .shown)
   unfolding arrive noted swept
   shows-standing a t e =
-      rw (did c r st a t e .same) (answer-each (Stands (present c st)) c r (arrive c r st) (standing-stand (present c st) (st .entries)))
+      rw (did c r st a t e .same) (result-each (Stands (present c st)) c r (arrive c r st) (standing-stand (present c st) (st .entries)))
 
   in-time : (o : Outcome) → step c r st ≡ o → InTime o
   in-time (refused k) e = tt
@@ -152,7 +152,7 @@ module _ (c : Context) (r : Request) (st : State) where
       (rw (standing-all (present c st) (st .entries) (rw own h)), own)
 
 -- "Deadlines are reckoned from it": what a step stores has the deadline from the present second
-pub stores-from : (c : Context) (r : Request) (st : State) (a : Answer) (t : State) → step c r st ≡ answered a t → planned r (arrive c r st) .change ≡ store
+pub stores-from : (c : Context) (r : Request) (st : State) (a : Result) (t : State) → step c r st ≡ answered a t → planned r (arrive c r st) .change ≡ store
     → held r t ≡ some (entry (present c st) r (suc (st .last)))
 unfolding changed stored held entry arrive noted swept
 stores-from c r st a t e q =

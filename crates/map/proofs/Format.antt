@@ -33,7 +33,7 @@ use Rattle.map.specs.History.{startOf}
 use Rattle.map.specs.State.{Entry, State}
 use Rattle.map.specs.Plan.{Plan, plans, plan}
 use Rattle.map.specs.Shown.{Shown, nothing, noValue, value, shows, listedBy}
-use Rattle.map.specs.Step.{mostKeys, Context, lastVersion, Answer, wantsOld, names, held, versionOf, planned, statistics, answer}
+use Rattle.map.specs.Step.{mostKeys, Context, lastVersion, Result, wantsOld, names, held, versionOf, planned, statistics, result}
 use Rattle.map.specs.Table.{Each, Sizes, Issued, IsTable}
 use Rattle.map.specs.Reply.{askedBy, pairOf, payloadOf, replyTo, flat, shownPieces, pieces}
 use Rattle.map.proofs.ListedLaws.{listed-each, listed-few}
@@ -184,7 +184,7 @@ message-enc : (comes : ℕ → Bool) (rows : ℕ → List (ℕ × Body)) (flag :
 unfolding message fields seq guard byte as-type
 message-enc comes rows flag x = refl
 
-pieces-enc : (r : Request) (a : Answer) → flat (pieces r a) ≡ 0xa1 ∷ (vLong .enc (r .id) ++ ((codeOf (r .op) + 1) ∷ a .status ∷ 0 ∷ flat (shownPieces (a .shown))))
+pieces-enc : (r : Request) (a : Result) → flat (pieces r a) ≡ 0xa1 ∷ (vLong .enc (r .id) ++ ((codeOf (r .op) + 1) ∷ a .status ∷ 0 ∷ flat (shownPieces (a .shown))))
 unfolding flat pieces
 pieces-enc r a = ap (λ (s : List ℕ). 0xa1 ∷ s) (append-assoc (vLong .enc (r .id)) ((codeOf (r .op) + 1) ∷ a .status ∷ 0 ∷ []) (flat (shownPieces (a .shown))))
 
@@ -205,39 +205,39 @@ module _ (c : Context) (r : Request) (st : State) where
   few l = omega (arith, listed-few r st)
 
   -- the pieces of a reply are the bytes of its format
-  pub pieces-reply : length (st .entries) ≤ mostKeys → flat (pieces r (answer c r st)) ≡ reply (askedBy r) .enc (replyTo r (answer c r st))
-  unfolding answer
+  pub pieces-reply : length (st .entries) ≤ mostKeys → flat (pieces r (result c r st)) ≡ reply (askedBy r) .enc (replyTo r (result c r st))
+  unfolding result
   pieces-reply l =
-      pieces-enc r (answer c r st)
+      pieces-enc r (result c r st)
       ∙ rw (
         reply-is,
-        message-enc (isAwaited (r .op)) (rowsOf (r .op)) (wantsOld r) (replyTo r (answer c r st)),
+        message-enc (isAwaited (r .op)) (rowsOf (r .op)) (wantsOld r) (replyTo r (result c r st)),
         coded (r .op) .1,
         shown-enc (wantsOld r) row (statistics c st) (listedBy r st) (held r st) (few l) (planned-told .1),
       )
 
   -- the reply to a bulk request has the entries that it lists, and nothing else
-  pub bulk-reply : (values : Bool) → r .op ≡ bulkOperation values → replyTo r (answer c r st) ≡ bulkReply values (r .id) (map (pairOf values) (listedBy r st))
-  unfolding answer planned plan plans shows bodyAt
+  pub bulk-reply : (values : Bool) → r .op ≡ bulkOperation values → replyTo r (result c r st) ≡ bulkReply values (r .id) (map (pairOf values) (listedBy r st))
+  unfolding result planned plan plans shows bodyAt
   bulk-reply true e = rw e
   bulk-reply false e = rw e
 
   -- an old value is shown only if the flag was set; of a key that was absent, and of one kept by an IfUnmodified operation, it has length 0
-  pub old-shown : row ≡ m.old → answer c r st .shown ≡ cond (wantsOld r) (oldOf (held r st)) nothing
-  unfolding answer
+  pub old-shown : row ≡ m.old → result c r st .shown ≡ cond (wantsOld r) (oldOf (held r st)) nothing
+  unfolding result
   old-shown e = rw e (shows-old (wantsOld r) (statistics c st) (listedBy r st) (held r st))
 
-  pub old-none : row ≡ m.oldNone → answer c r st .shown ≡ cond (wantsOld r) noValue nothing
-  unfolding answer
+  pub old-none : row ≡ m.oldNone → result c r st .shown ≡ cond (wantsOld r) noValue nothing
+  unfolding result
   old-none e = rw e (shows-none (wantsOld r) (statistics c st) (listedBy r st) (held r st))
 
   module _ (v : Valid request r) (s : IsTable st) (h : c .second < 0x1_0000_0000) where
     -- the reply to a well-formed request from a table is valid
-    pub reply-valid : Valid (reply (askedBy r)) (replyTo r (answer c r st))
-    unfolding answer
+    pub reply-valid : Valid (reply (askedBy r)) (replyTo r (result c r st))
+    unfolding result
     reply-valid =
         rw reply-is
-        (whole-reply (isAwaited (r .op)) (rowsOf (r .op)) (wantsOld r) (replyTo r (answer c r st))
+        (whole-reply (isAwaited (r .op)) (rowsOf (r .op)) (wantsOld r) (replyTo r (result c r st))
         (record {
           id = asked.parts r v .id;
           op = coded (r .op) .0;
@@ -248,5 +248,5 @@ module _ (c : Context) (r : Request) (st : State) where
         }))
 
     -- no reply is longer than the longest one to its operation
-    pub answer-most : length (flat (pieces r (answer c r st))) ≤ longestReply (r .op)
-    answer-most = rw (pieces-reply (s .few)) (reply-most (r .op) (wantsOld r) (replyTo r (answer c r st)) reply-valid)
+    pub result-most : length (flat (pieces r (result c r st))) ≤ longestReply (r .op)
+    result-most = rw (pieces-reply (s .few)) (reply-most (r .op) (wantsOld r) (replyTo r (result c r st)) reply-valid)

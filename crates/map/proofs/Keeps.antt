@@ -15,7 +15,7 @@ use Rattle.message.proofs.Sizes.{small}
 use Rattle.map.specs.State.{Entry, State, find, without}
 use Rattle.map.specs.Deadline.{expired}
 use Rattle.map.specs.Plan.{Change, keep, store, drop, empty}
-use Rattle.map.specs.Step.{mostKeys, lastVersion, Context, Answer, answered, entry, stored, dropped, emptied, isNone, names, held, full, planned, present, swept, noted, arrive, step}
+use Rattle.map.specs.Step.{mostKeys, lastVersion, Context, Result, answered, entry, stored, dropped, emptied, isNone, names, held, full, planned, present, swept, noted, arrive, step}
 use Rattle.map.specs.Table.{Each, Sizes, OtherKey, OtherVersion, Issued, lastSecond, IsTable, Ascending}
 use Rattle.map.proofs.Each.{table-without, fewer, each-map, each-without, pairs-without, each-left, each-add, pairs-add}
 use Rattle.map.proofs.Answered.{changed, did}
@@ -114,7 +114,7 @@ module _ (r : Request) (st : State) (s : IsTable st) where
     order-changed drop = rest-order
     order-changed empty = tt
 
-module _ (c : Context) (r : Request) (st : State) (s : IsTable st) (a : Answer) (t : State) (e : step c r st ≡ answered a t) where
+module _ (c : Context) (r : Request) (st : State) (s : IsTable st) (a : Result) (t : State) (e : step c r st ≡ answered a t) where
   keeps-order : c .second < 0x1_0000_0000 → Ascending (st .entries) → Ascending (t .entries)
   unfolding arrive noted swept
   keeps-order h o =

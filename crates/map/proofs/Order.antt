@@ -9,7 +9,7 @@ use Rattle.message.specs.Request.{Request, isEmpty}
 use Rattle.map.specs.State.{Entry, State, find, without, hasKey}
 use Rattle.map.specs.Deadline.{expired}
 use Rattle.map.specs.Plan.{Change, keep, store, drop, empty}
-use Rattle.map.specs.Step.{Context, Answer, Outcome, lastVersion, stored, dropped, emptied, names, held, full, planned, statistics, answer, act, core, present, swept, noted, arrive, step}
+use Rattle.map.specs.Step.{Context, Result, Outcome, lastVersion, stored, dropped, emptied, names, held, full, planned, statistics, result, act, core, present, swept, noted, arrive, step}
 use Rattle.map.specs.Table.{Pairs, OtherKey, OtherVersion, IsTable}
 use Rattle.map.specs.Order.{SameState, SameOutcome}
 use Rattle.wire.proofs.SameLaws.{same-true}
@@ -79,9 +79,9 @@ module _ (c : Context) (r : Request) (st us : State) (s : SameState st us) (keys
   unfolding statistics
   same-statistics = rw (s .history, same-length (s .entries))
 
-  same-answer : answer c r st ≡ answer c r us
-  unfolding answer
-  same-answer = rw (same-planned, same-held, same-statistics, same-listed r st us s versions)
+  same-result : result c r st ≡ result c r us
+  unfolding result
+  same-result = rw (same-planned, same-held, same-statistics, same-listed r st us s versions)
 
   same-rest : Perm (without (names r) (st .entries)) (without (names r) (us .entries))
   same-rest = same-without (names r) (s .entries)
@@ -90,7 +90,7 @@ module _ (c : Context) (r : Request) (st us : State) (s : SameState st us) (keys
   unfolding stored
   same-stored = rw (s .last, s .history) (record { entries = Permᴰ·append-right _ same-rest; last = refl; history = refl })
 
-  same-act : (a : Answer) (d : Change) → SameOutcome (act r st a d) (act r us a d)
+  same-act : (a : Result) (d : Change) → SameOutcome (act r st a d) (act r us a d)
   unfolding act dropped emptied
   same-act a keep = (refl, s)
   same-act a drop = (refl, record { entries = same-rest; last = s .last; history = s .history })
@@ -102,7 +102,7 @@ module _ (c : Context) (r : Request) (st us : State) (s : SameState st us) (keys
 
   core-order : SameOutcome (core c r st) (core c r us)
   unfolding core
-  core-order = rw (same-planned, same-answer) (same-if (isEmpty (r .name)) _ _ _ _ (same-act (answer c r us) (planned r us .change)) refl)
+  core-order = rw (same-planned, same-result) (same-if (isEmpty (r .name)) _ _ _ _ (same-act (result c r us) (planned r us .change)) refl)
 
   same-noted : SameState (noted c r st) (noted c r us)
   unfolding noted

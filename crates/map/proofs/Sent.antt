@@ -9,9 +9,9 @@ use Rattle.wire.specs.Number.{vInt}
 use Rattle.message.specs.Request.{Request}
 use Rattle.map.specs.State.{Entry}
 use Rattle.map.specs.Shown.{Shown, nothing, noValue, value, versioned, counted, listed}
-use Rattle.map.specs.Step.{Answer}
-use Rattle.map.specs.Reply.{Piece, fixed, held, bytes, flat, sized, itemPieces, listPieces, shownPieces, pieces}
-use Rattle.map.specs.Revalue.{entryWith, entriesWith, shownWith, answerWith, pieceWith, piecesWith}
+use Rattle.map.specs.Step.{Result}
+use Rattle.map.specs.Reply.{Piece, fixed, ofEntry, bytes, flat, sized, itemPieces, listPieces, shownPieces, pieces}
+use Rattle.map.specs.Revalue.{entryWith, entriesWith, shownWith, resultWith, pieceWith, piecesWith}
 
 module _ (v : ℕ) (u w : List ℕ) (len : length w ≡ length u) where
   level : (b : Bool) (x : List ℕ) → length (cond b w x) ≡ length (cond b u x)
@@ -24,7 +24,7 @@ module _ (v : ℕ) (u w : List ℕ) (len : length w ≡ length u) where
 
   sized-with : (e : Entry) → entryWith v u e ≡ e → sized (entryWith v w e) ≡ piecesWith v w (sized e)
   unfolding piecesWith
-  sized-with e h = ap (λ (n : ℕ). fixed (vInt .enc n) ∷ held (entryWith v w e) ∷ []) (kept e h)
+  sized-with e h = ap (λ (n : ℕ). fixed (vInt .enc n) ∷ ofEntry (entryWith v w e) ∷ []) (kept e h)
 
   append-pieces : (ps qs : List Piece) → piecesWith v w (ps ++ qs) ≡ piecesWith v w ps ++ piecesWith v w qs
   unfolding piecesWith
@@ -52,14 +52,14 @@ module _ (v : ℕ) (u w : List ℕ) (len : length w ≡ length u) where
   shown-with (counted ns) h = refl
   shown-with (listed values es) h = list-with values es (cc)
 
-  -- an answer whose value of the entry of version v is u, and that answer with w for it
-  pub pieces-with : (r : Request) (a : Answer) → answerWith v u a ≡ a → pieces r (answerWith v w a) ≡ piecesWith v w (pieces r a)
-  unfolding answerWith pieces piecesWith
-  pieces-with r a h = ap₂ _∷_ refl (shown-with (a .shown) (ap (λ (x : Answer). x .shown) h))
+  -- a result whose value of the entry of version v is u, and that result with w for it
+  pub pieces-with : (r : Request) (a : Result) → resultWith v u a ≡ a → pieces r (resultWith v w a) ≡ piecesWith v w (pieces r a)
+  unfolding resultWith pieces piecesWith
+  pieces-with r a h = ap₂ _∷_ refl (shown-with (a .shown) (ap (λ (x : Result). x .shown) h))
 
   piece-level : (p : Piece) → length (bytes (pieceWith v w p)) ≡ length (bytes (pieceWith v u p))
   piece-level (fixed s) = refl
-  piece-level (held e) = level (eqb (e .version) v) (e .value)
+  piece-level (ofEntry e) = level (eqb (e .version) v) (e .value)
 
   flat-level : (ps : List Piece) → length (flat (piecesWith v w ps)) ≡ length (flat (piecesWith v u ps))
   unfolding flat piecesWith
@@ -70,5 +70,5 @@ module _ (v : ℕ) (u w : List ℕ) (len : length w ≡ length u) where
   same-size ps h = flat-level ps ∙ ap (λ (x : List Piece). length (flat x)) h
 
 -- and u for it is no change
-pub own : (v : ℕ) (u : List ℕ) (r : Request) (a : Answer) → answerWith v u a ≡ a → piecesWith v u (pieces r a) ≡ pieces r a
+pub own : (v : ℕ) (u : List ℕ) (r : Request) (a : Result) → resultWith v u a ≡ a → piecesWith v u (pieces r a) ≡ pieces r a
 own v u r a h = sym (pieces-with v u u refl r a h) ∙ ap (pieces r) h

@@ -12,7 +12,7 @@ use Rattle.map.specs.State.{State, find}
 use Rattle.map.specs.Deadline.{standing}
 use Rattle.map.specs.Step.{Outcome, refused, answered, Taken, isNone, names, held}
 
--- the outcome is an answer, and one of a status
+-- the outcome is a result, and one of a status
 abbrev pub isAnswered : Outcome → Bool
 isAnswered (refused k) = false
 isAnswered (answered a st) = true

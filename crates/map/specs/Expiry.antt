@@ -8,7 +8,7 @@ use Rattle.map.specs.Shown.{Shown, nothing, noValue, value, versioned, c
 use Rattle.map.specs.Step.{Context, Outcome, refused, answered, Taken}
 use Rattle.map.specs.Table.{Each}
 use Rattle.map.specs.Counted.{isAnswered}
-use Rattle.map.specs.Reply.{Piece, fixed, held}
+use Rattle.map.specs.Reply.{Piece, fixed, ofEntry}
 
 -- "An entry whose deadline isn't 0 and isn't above the present second counts as absent": every other one stands
 abbrev pub Stands : ℕ → Entry → Type 0
@@ -26,13 +26,13 @@ ShowsEach P (listed values es) = Each P es
 -- each entry whose value is in the pieces of a reply has the property
 abbrev pub PieceHas : (Entry → Type 0) → Piece → Type 0
 PieceHas P (fixed s) = Unit {0}
-PieceHas P (held e) = P e
+PieceHas P (ofEntry e) = P e
 
 abbrev pub PiecesHave : (Entry → Type 0) → List Piece → Type 0
 PiecesHave P [] = Unit {0}
 PiecesHave P (p ∷ ps) = PieceHas P p × PiecesHave P ps
 
--- An answer shows what stands at the latest second that its step left, which is its present second (`latest-run`).
+-- A result shows what stands at the latest second that its step left, which is its present second (`latest-run`).
 abbrev pub InTime : Outcome → Type 0
 InTime (refused k) = Unit {0}
 InTime (answered a st) = ShowsEach (Stands (st .history .latest)) (a .shown)

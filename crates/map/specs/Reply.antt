@@ -14,19 +14,19 @@ use Rattle.message.specs.declared.Asked.{Asked}
 use Rattle.message.specs.Reply.{asked}
 use Rattle.map.specs.State.{Entry}
 use Rattle.map.specs.Shown.{Shown, nothing, noValue, value, versioned, counted, listed}
-use Rattle.map.specs.Step.{Answer, wantsOld}
+use Rattle.map.specs.Step.{Result, wantsOld}
 
 -- what was asked by a request
 abbrev pub askedBy : Request → Asked
 askedBy r = asked (codeOf (r .op)) (wantsOld r)
 
-abbrev pub entryOf : Shown → ℕ
-entryOf nothing = 0
-entryOf noValue = 0
-entryOf (value e) = 0
-entryOf (versioned e) = e .version
-entryOf (counted ns) = 0
-entryOf (listed values es) = 0
+abbrev pub versionIn : Shown → ℕ
+versionIn nothing = 0
+versionIn noValue = 0
+versionIn (value e) = 0
+versionIn (versioned e) = e .version
+versionIn (counted ns) = 0
+versionIn (listed values es) = 0
 
 abbrev pub valueOf : Shown → List ℕ
 valueOf nothing = []
@@ -58,20 +58,20 @@ entriesOf (listed values es) = map (pairOf values) es
 
 -- what a reply carries
 abbrev pub payloadOf : Shown → Payload
-payloadOf s = record { entryVersion = entryOf s; value = valueOf s; text = []; statistics = numbersOf s; entries = entriesOf s }
+payloadOf s = record { entryVersion = versionIn s; value = valueOf s; text = []; statistics = numbersOf s; entries = entriesOf s }
 
 -- the reply to a request
-abbrev pub replyTo : Request → Answer → message.Reply
+abbrev pub replyTo : Request → Result → message.Reply
 replyTo r a =
     record { id = r .id; op = codeOf (r .op) + 1; status = a .status; payload = payloadOf (a .shown) }
 
 pub data Piece : Type 0 where
   fixed : List ℕ → Piece
-  held : Entry → Piece
+  ofEntry : Entry → Piece
 
 abbrev pub bytes : Piece → List ℕ
 bytes (fixed s) = s
-bytes (held e) = e .value
+bytes (ofEntry e) = e .value
 
 unfoldable pub flat : List Piece → List ℕ
 flat [] = []
@@ -79,7 +79,7 @@ flat (p ∷ ps) = bytes p ++ flat ps
 
 -- a value behind its length
 abbrev pub sized : Entry → List Piece
-sized e = fixed (vInt .enc (length (e .value))) ∷ held e ∷ []
+sized e = fixed (vInt .enc (length (e .value))) ∷ ofEntry e ∷ []
 
 -- an entry of a list: "a byte 1 before each entry", its key behind its length, and its value if values are asked for
 abbrev pub itemPieces : Bool → Entry → List Piece
@@ -100,5 +100,5 @@ shownPieces (counted ns) = fixed (stats.statistics .enc ns) ∷ []
 shownPieces (listed values es) = listPieces values es
 
 -- magic, message id, operation, status and marker, and what is shown: the law `pieces-reply` says that these are the bytes of `replyTo`
-unfoldable pub pieces : Request → Answer → List Piece
+unfoldable pub pieces : Request → Result → List Piece
 pieces r a = fixed (0xa1 ∷ vLong .enc (r .id) ++ ((codeOf (r .op) + 1) ∷ a .status ∷ 0 ∷ [])) ∷ shownPieces (a .shown)

@@ -5,9 +5,9 @@ use mathlib.Core.Option.{Option, none, some}
 use Prim.Native.Nat.{ℕ}
 use lib.Dec.{eqb}
 use Rattle.map.specs.State.{Entry, State, withEntries}
-use Rattle.map.specs.Reply.{Piece, fixed, held}
+use Rattle.map.specs.Reply.{Piece, fixed, ofEntry}
 use Rattle.map.specs.Shown.{Shown, nothing, noValue, value, versioned, counted, listed}
-use Rattle.map.specs.Step.{Answer, Outcome, refused, answered}
+use Rattle.map.specs.Step.{Result, Outcome, refused, answered}
 
 module _ (v : ℕ) (w : List ℕ) where
   abbrev pub entryWith : Entry → Entry
@@ -32,12 +32,12 @@ module _ (v : ℕ) (w : List ℕ) where
   shownWith (counted ns) = counted ns
   shownWith (listed values es) = listed values (entriesWith es)
 
-  unfoldable pub answerWith : Answer → Answer
-  answerWith a = record { status = a .status; shown = shownWith (a .shown) }
+  unfoldable pub resultWith : Result → Result
+  resultWith a = record { status = a .status; shown = shownWith (a .shown) }
 
   unfoldable pub outcomeWith : Outcome → Outcome
   outcomeWith (refused k) = refused k
-  outcomeWith (answered a st) = answered (answerWith a) (stateWith st)
+  outcomeWith (answered a st) = answered (resultWith a) (stateWith st)
 
   -- the state alone
   unfoldable pub outcomeState : Outcome → Outcome
@@ -46,7 +46,7 @@ module _ (v : ℕ) (w : List ℕ) where
 
   abbrev pub pieceWith : Piece → Piece
   pieceWith (fixed s) = fixed s
-  pieceWith (held e) = held (entryWith e)
+  pieceWith (ofEntry e) = ofEntry (entryWith e)
 
   -- bytes that are no value of that entry are kept
   unfoldable pub piecesWith : List Piece → List Piece

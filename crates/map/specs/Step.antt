@@ -26,14 +26,14 @@ lastVersion = 0x7fff_ffff_ffff_ffff
 pub record Context : Type 0 where
   pub second : ℕ
 
-pub record Answer : Type 0 where
+pub record Result : Type 0 where
   pub status : ℕ
   pub shown : Shown
 
--- a refusal 9, 10 or 11, which changes nothing, or an answer with the next state
+-- a refusal 9, 10 or 11, which changes nothing, or a result with the next state
 pub data Outcome : Type 0 where
   refused : ℕ → Outcome
-  answered : Answer → State → Outcome
+  answered : Result → State → Outcome
 
 -- flag 0x0001
 abbrev pub wantsOld : Request → Bool
@@ -83,15 +83,15 @@ planned r st = plan (r .op) (r .args .entryVersion) (versionOf (held r st))
 unfoldable pub statistics : Context → State → List ℕ
 statistics c st = (c .second - startOf (st .history .first) (c .second)) ∷ length (st .entries) ∷ st .history .counts
 
-unfoldable pub answer : Context → Request → State → Answer
-answer c r st =
+unfoldable pub result : Context → Request → State → Result
+result c r st =
     record {
       status = planned r st .status;
       shown = shows (formOf (wantsOld r) (allowed (bodyAt (planned r st .status) (table (r .op))))) (statistics c st) (listedBy r st) (held r st);
     }
 
 -- "11: the write would take effect and no version is left"
-unfoldable pub act : Request → State → Answer → Change → Outcome
+unfoldable pub act : Request → State → Result → Change → Outcome
 act r st a keep = answered a st
 act r st a drop = answered a (dropped r st)
 act r st a empty = answered a (emptied st)
@@ -99,7 +99,7 @@ act r st a store = cond (full r st) (refused 10) (cond (ltb (st .last) lastVersi
 
 -- "9: cache name not empty"
 unfoldable pub core : Context → Request → State → Outcome
-core c r st = cond (isEmpty (r .name)) (act r st (answer c r st) (planned r st .change)) (refused 9)
+core c r st = cond (isEmpty (r .name)) (act r st (result c r st) (planned r st .change)) (refused 9)
 
 -- "The present second is the greatest among this call's and those of earlier calls served."
 abbrev pub present : Context → State → ℕ

@@ -22,7 +22,7 @@ use Rattle.message.specs.declared.Asked.{Asked}
 use Rattle.message.specs.Operation.{findCode}
 use Rattle.message.specs.Request.{valueLimit}
 use Rattle.message.specs.ReplyTable.{Body, bodyAt, isAllowed, allowed}
-use Rattle.message.specs.Payload.{textLimit, Payload, payload, counted, noEntry, noValue, noText, noStatistics, noEntries, noLists, bulkPayload, noBody, valueBody, versionedBody, textBody, statisticsBody, listedBody, fieldsOf, formOf}
+use Rattle.message.specs.Payload.{textLimit, Payload, payload, counted, noEntryVersion, noValue, noText, noStatistics, noEntries, noLists, bulkPayload, noBody, valueBody, versionedBody, textBody, statisticsBody, listedBody, fieldsOf, formOf}
 use Rattle.message.specs.Reply.{Fields, fields, toReply, fromReply, message, isAwaited, rowsOf, replyTo, reply}
 use Rattle.message.specs.Listing.{listing}
 use Rattle.message.proofs.RequestLaws.{is-empty, is-zero, text-laws}
@@ -37,20 +37,20 @@ same-payload : (p : Payload) {e : ℕ} {v t : List ℕ} → noLists p ≡ true �
 same-payload p n q r s = let x = both (noStatistics p) (noEntries p) n in same-all p q r s (is-empty (p .statistics) (x .0)) (nil-is (p .entries) (x .1))
 
 -- no number, no value and no text
-plain-is : (p : Payload) {ns : List ℕ} {es : List (List ℕ × List ℕ)} → (noEntry p && (noValue p && noText p)) ≡ true → ns ≡ p .statistics → es ≡ p .entries
+plain-is : (p : Payload) {ns : List ℕ} {es : List (List ℕ × List ℕ)} → (noEntryVersion p && (noValue p && noText p)) ≡ true → ns ≡ p .statistics → es ≡ p .entries
     → _≡_ {A = Payload} (record { entryVersion = 0; value = []; text = []; statistics = ns; entries = es }) p
 plain-is p t n m =
-    let x = both (noEntry p) (noValue p && noText p) t in
+    let x = both (noEntryVersion p) (noValue p && noText p) t in
     let y = both (noValue p) (noText p) (x .1) in
     same-all p (is-zero _ (x .0)) (is-empty _ (y .0)) (is-empty _ (y .1)) n m
 
 noBody-laws : Laws noBody
 unfolding noBody
 noBody-laws =
-    type-laws (λ p. noLists p && (noEntry p && (noValue p && noText p))) (λ u. payload 0 [] []) (λ p. tt) empty empty-laws
+    type-laws (λ p. noLists p && (noEntryVersion p && (noValue p && noText p))) (λ u. payload 0 [] []) (λ p. tt) empty empty-laws
     (λ p t.
-    let n = both (noLists p) (noEntry p && (noValue p && noText p)) t in
-    let x = both (noEntry p) (noValue p && noText p) (n .1) in
+    let n = both (noLists p) (noEntryVersion p && (noValue p && noText p)) t in
+    let x = both (noEntryVersion p) (noValue p && noText p) (n .1) in
     let y = both (noValue p) (noText p) (x .1) in
     same-payload p (n .0) (is-zero _ (x .0)) (is-empty _ (y .0)) (is-empty _ (y .1)))
     (λ u v. (refl, refl))
@@ -58,10 +58,10 @@ noBody-laws =
 valueBody-laws : (lim : ℕ) → Laws (valueBody lim)
 unfolding valueBody
 valueBody-laws lim =
-    type-laws (λ p. noLists p && (noEntry p && noText p)) (λ v. payload 0 v []) (λ p. p .value) (limited lim) (limited-laws lim)
+    type-laws (λ p. noLists p && (noEntryVersion p && noText p)) (λ v. payload 0 v []) (λ p. p .value) (limited lim) (limited-laws lim)
     (λ p t.
-    let n = both (noLists p) (noEntry p && noText p) t in
-    let x = both (noEntry p) (noText p) (n .1) in
+    let n = both (noLists p) (noEntryVersion p && noText p) t in
+    let x = both (noEntryVersion p) (noText p) (n .1) in
     same-payload p (n .0) (is-zero _ (x .0)) refl (is-empty _ (x .1)))
     (λ s v. (refl, refl))
 
@@ -74,25 +74,25 @@ versionedBody-laws =
 textBody-laws : Laws textBody
 unfolding textBody
 textBody-laws =
-    type-laws (λ p. noLists p && (noEntry p && noValue p)) (λ t. payload 0 [] t) (λ p. p .text) (limitedText textLimit) (text-laws textLimit)
+    type-laws (λ p. noLists p && (noEntryVersion p && noValue p)) (λ t. payload 0 [] t) (λ p. p .text) (limitedText textLimit) (text-laws textLimit)
     (λ p t.
-    let n = both (noLists p) (noEntry p && noValue p) t in
-    let x = both (noEntry p) (noValue p) (n .1) in
+    let n = both (noLists p) (noEntryVersion p && noValue p) t in
+    let x = both (noEntryVersion p) (noValue p) (n .1) in
     same-payload p (n .0) (is-zero _ (x .0)) (is-empty _ (x .1)) refl)
     (λ s v. (refl, refl))
 
 statisticsBody-laws : Laws statisticsBody
 unfolding statisticsBody
 statisticsBody-laws =
-    type-laws (λ p. noEntries p && (noEntry p && (noValue p && noText p))) counted (λ p. p .statistics) statistics statistics-laws
-    (λ p t. let n = both (noEntries p) (noEntry p && (noValue p && noText p)) t in plain-is p (n .1) refl (nil-is (p .entries) (n .0)))
+    type-laws (λ p. noEntries p && (noEntryVersion p && (noValue p && noText p))) counted (λ p. p .statistics) statistics statistics-laws
+    (λ p t. let n = both (noEntries p) (noEntryVersion p && (noValue p && noText p)) t in plain-is p (n .1) refl (nil-is (p .entries) (n .0)))
     (λ s v. (refl, refl))
 
 listedBody-laws : (values : Bool) → Laws (listedBody values)
 unfolding listedBody
 listedBody-laws values =
-    type-laws (λ p. noStatistics p && (noEntry p && (noValue p && noText p))) bulkPayload (λ p. p .entries) (listing values) (listing-laws values)
-    (λ p t. let n = both (noStatistics p) (noEntry p && (noValue p && noText p)) t in plain-is p (n .1) (is-empty (p .statistics) (n .0)) refl)
+    type-laws (λ p. noStatistics p && (noEntryVersion p && (noValue p && noText p))) bulkPayload (λ p. p .entries) (listing values) (listing-laws values)
+    (λ p t. let n = both (noStatistics p) (noEntryVersion p && (noValue p && noText p)) t in plain-is p (n .1) (is-empty (p .statistics) (n .0)) refl)
     (λ s v. (refl, refl))
 
 fieldsOf-laws : (f : Form) → Laws (fieldsOf f)

@@ -21,7 +21,7 @@ use Rattle.message.specs.declared.Operation.{Operation}
 use Rattle.message.specs.declared.Operation.the-variants.{Put, Get, PutIfAbsent, Replace, ReplaceIfUnmodified, Remove, RemoveIfUnmodified, ContainsKey, GetWithVersion, Clear, Stats, Ping, BulkGet, BulkGetKeys}
 use Rattle.message.specs.Operation.{codeOf, findCode, isKnown, known}
 use Rattle.message.specs.Edition.{Edition}
-use Rattle.message.specs.Request.{nameLimit, keyLimit, valueLimit, Shape, keyed, writes, writesIf, keyedIf, bare, bulk, shapeOf, Args, args, isEmpty, noTimes, noEntry, noBulk, noValue, argsOf, opFits, operation, transaction, Fields, isVersion, editionAt, fields, toRequest, fromRequest, request}
+use Rattle.message.specs.Request.{nameLimit, keyLimit, valueLimit, Shape, keyed, writes, writesIf, keyedIf, bare, bulk, shapeOf, Args, args, isEmpty, noTimes, noEntryVersion, noBulk, noValue, argsOf, opFits, operation, transaction, Fields, isVersion, editionAt, fields, toRequest, fromRequest, request}
 
 -- an operation and its code
 pub code-found : (o : Operation) → findCode (codeOf o) ≡ some o
@@ -93,10 +93,10 @@ module _ (a : Args) where
       let x = both (eqb (a .lifespan) 0) (eqb (a .maxIdle) 0) t in
       same-args p (is-zero _ (x .0)) (is-zero _ (x .1)) q n (is-empty _ e)
 
-  key-only : {k : List ℕ} → k ≡ a .key → (noTimes a && (noEntry a && (noBulk a && noValue a))) ≡ true → args k 0 0 0 0 [] ≡ a
+  key-only : {k : List ℕ} → k ≡ a .key → (noTimes a && (noEntryVersion a && (noBulk a && noValue a))) ≡ true → args k 0 0 0 0 [] ≡ a
   key-only p t =
-      let x = both (noTimes a) (noEntry a && (noBulk a && noValue a)) t in
-      let y = both (noEntry a) (noBulk a && noValue a) (x .1) in
+      let x = both (noTimes a) (noEntryVersion a && (noBulk a && noValue a)) t in
+      let y = both (noEntryVersion a) (noBulk a && noValue a) (x .1) in
       let z = both (noBulk a) (noValue a) (y .1) in
       timeless p (x .0) (is-zero _ (y .0)) (is-zero _ (z .0)) (z .1)
 
@@ -106,18 +106,18 @@ module _ (a : Args) where
       let y = both (noBulk a) (noValue a) (x .1) in
       timeless refl (x .0) refl (is-zero _ (y .0)) (y .1)
 
-  none : (isEmpty (a .key) && (noTimes a && (noEntry a && (noBulk a && noValue a)))) ≡ true → args [] 0 0 0 0 [] ≡ a
-  none t = let x = both (isEmpty (a .key)) (noTimes a && (noEntry a && (noBulk a && noValue a))) t in key-only (is-empty _ (x .0)) (x .1)
+  none : (isEmpty (a .key) && (noTimes a && (noEntryVersion a && (noBulk a && noValue a)))) ≡ true → args [] 0 0 0 0 [] ≡ a
+  none t = let x = both (isEmpty (a .key)) (noTimes a && (noEntryVersion a && (noBulk a && noValue a))) t in key-only (is-empty _ (x .0)) (x .1)
 
-  bulk-only : (isEmpty (a .key) && (noTimes a && (noEntry a && noValue a))) ≡ true → args [] 0 0 0 (a .bulk) [] ≡ a
+  bulk-only : (isEmpty (a .key) && (noTimes a && (noEntryVersion a && noValue a))) ≡ true → args [] 0 0 0 (a .bulk) [] ≡ a
   bulk-only t =
-      let x = both (isEmpty (a .key)) (noTimes a && (noEntry a && noValue a)) t in
-      let y = both (noTimes a) (noEntry a && noValue a) (x .1) in
-      let z = both (noEntry a) (noValue a) (y .1) in
+      let x = both (isEmpty (a .key)) (noTimes a && (noEntryVersion a && noValue a)) t in
+      let y = both (noTimes a) (noEntryVersion a && noValue a) (x .1) in
+      let z = both (noEntryVersion a) (noValue a) (y .1) in
       timeless (is-empty _ (x .0)) (y .0) (is-zero _ (z .0)) refl (z .1)
 
-  write-only : (noEntry a && noBulk a) ≡ true → args (a .key) (a .lifespan) (a .maxIdle) 0 0 (a .value) ≡ a
-  write-only t = let x = both (noEntry a) (noBulk a) t in same-args refl refl refl (is-zero _ (x .0)) (is-zero _ (x .1)) refl
+  write-only : (noEntryVersion a && noBulk a) ≡ true → args (a .key) (a .lifespan) (a .maxIdle) 0 0 (a .value) ≡ a
+  write-only t = let x = both (noEntryVersion a) (noBulk a) t in same-args refl refl refl (is-zero _ (x .0)) (is-zero _ (x .1)) refl
 
   pub keyed-is : Valid (argsOf keyed) a → args (a .key) 0 0 0 0 [] ≡ a
   unfolding argsOf
@@ -138,10 +138,10 @@ module _ (a : Args) where
 args-laws : (s : Shape) → Laws (argsOf s)
 unfolding argsOf
 args-laws keyed =
-    type-laws (λ a. noTimes a && (noEntry a && (noBulk a && noValue a))) (λ k. args k 0 0 0 0 []) (λ a. a .key) (limited keyLimit) (limited-laws keyLimit)
+    type-laws (λ a. noTimes a && (noEntryVersion a && (noBulk a && noValue a))) (λ k. args k 0 0 0 0 []) (λ a. a .key) (limited keyLimit) (limited-laws keyLimit)
     (λ a t. key-only a refl t) (λ k v. (refl, refl))
 args-laws writes =
-    type-laws (λ a. noEntry a && noBulk a) (λ p. args (p .0) (p .1 .0) (p .1 .1 .0) 0 0 (p .1 .1 .1)) (λ a. (a .key, (a .lifespan, (a .maxIdle, a .value))))
+    type-laws (λ a. noEntryVersion a && noBulk a) (λ p. args (p .0) (p .1 .0) (p .1 .1 .0) 0 0 (p .1 .1 .1)) (λ a. (a .key, (a .lifespan, (a .maxIdle, a .value))))
     (seq (limited keyLimit) λ _. seq vInt λ _. seq vInt λ _. limited valueLimit)
     (seq-laws _ _ (limited-laws keyLimit) λ _. seq-laws _ _ vInt-laws λ _. seq-laws _ _ vInt-laws λ _. limited-laws valueLimit)
     (λ a t. write-only a t) (λ p v. (refl, refl))
@@ -157,10 +157,10 @@ args-laws keyedIf =
     (seq-laws _ _ (limited-laws keyLimit) λ _. big-laws 8)
     (λ a t. key-entry a t) (λ p v. (refl, refl))
 args-laws bare =
-    type-laws (λ a. isEmpty (a .key) && (noTimes a && (noEntry a && (noBulk a && noValue a)))) (λ u. args [] 0 0 0 0 []) (λ a. tt) empty empty-laws
+    type-laws (λ a. isEmpty (a .key) && (noTimes a && (noEntryVersion a && (noBulk a && noValue a)))) (λ u. args [] 0 0 0 0 []) (λ a. tt) empty empty-laws
     (λ a t. none a t) (λ u v. (refl, refl))
 args-laws (bulk most) =
-    type-laws (λ a. isEmpty (a .key) && (noTimes a && (noEntry a && noValue a))) (λ n. args [] 0 0 0 n []) (λ a. a .bulk) (guard (λ n. leb n most) 8 vInt)
+    type-laws (λ a. isEmpty (a .key) && (noTimes a && (noEntryVersion a && noValue a))) (λ n. args [] 0 0 0 n []) (λ a. a .bulk) (guard (λ n. leb n most) 8 vInt)
     (guard-laws (λ n. leb n most) 8 vInt vInt-laws) (λ a t. bulk-only a t) (λ n v. (refl, refl))
 
 fields-laws : Laws fields

@@ -35,8 +35,8 @@ counted ns = record { entryVersion = 0; value = []; text = []; statistics = ns; 
 abbrev pub bulkPayload : List (List ℕ × List ℕ) → Payload
 bulkPayload es = record { entryVersion = 0; value = []; text = []; statistics = []; entries = es }
 
-abbrev pub noEntry : Payload → Bool
-noEntry p = eqb (p .entryVersion) 0
+abbrev pub noEntryVersion : Payload → Bool
+noEntryVersion p = eqb (p .entryVersion) 0
 
 abbrev pub noValue : Payload → Bool
 noValue p = isEmpty (p .value)
@@ -55,23 +55,23 @@ abbrev pub noLists : Payload → Bool
 noLists p = noStatistics p && noEntries p
 
 unfoldable pub noBody : Codec Payload
-noBody = as-type (λ p. noLists p && (noEntry p && (noValue p && noText p))) (λ u. payload 0 [] []) (λ p. tt) empty
+noBody = as-type (λ p. noLists p && (noEntryVersion p && (noValue p && noText p))) (λ u. payload 0 [] []) (λ p. tt) empty
 
 unfoldable pub valueBody : ℕ → Codec Payload
-valueBody lim = as-type (λ p. noLists p && (noEntry p && noText p)) (λ v. payload 0 v []) (λ p. p .value) (limited lim)
+valueBody lim = as-type (λ p. noLists p && (noEntryVersion p && noText p)) (λ v. payload 0 v []) (λ p. p .value) (limited lim)
 
 unfoldable pub versionedBody : Codec Payload
 versionedBody =
     as-type (λ p. noLists p && noText p) (λ p. payload (p .0) (p .1) []) (λ p. (p .entryVersion, p .value)) (seq entryVersion λ _. limited valueLimit)
 
 unfoldable pub textBody : Codec Payload
-textBody = as-type (λ p. noLists p && (noEntry p && noValue p)) (λ t. payload 0 [] t) (λ p. p .text) (limitedText textLimit)
+textBody = as-type (λ p. noLists p && (noEntryVersion p && noValue p)) (λ t. payload 0 [] t) (λ p. p .text) (limitedText textLimit)
 
 unfoldable pub statisticsBody : Codec Payload
-statisticsBody = as-type (λ p. noEntries p && (noEntry p && (noValue p && noText p))) counted (λ p. p .statistics) stats.statistics
+statisticsBody = as-type (λ p. noEntries p && (noEntryVersion p && (noValue p && noText p))) counted (λ p. p .statistics) stats.statistics
 
 unfoldable pub listedBody : Bool → Codec Payload
-listedBody values = as-type (λ p. noStatistics p && (noEntry p && (noValue p && noText p))) bulkPayload (λ p. p .entries) (listing values)
+listedBody values = as-type (λ p. noStatistics p && (noEntryVersion p && (noValue p && noText p))) bulkPayload (λ p. p .entries) (listing values)
 
 unfoldable pub fieldsOf : Form → Codec Payload
 fieldsOf form.Nothing = noBody

@@ -78,8 +78,8 @@ isEmpty s = eqb (length s) 0
 abbrev pub noTimes : Args → Bool
 noTimes a = eqb (a .lifespan) 0 && eqb (a .maxIdle) 0
 
-abbrev pub noEntry : Args → Bool
-noEntry a = eqb (a .entryVersion) 0
+abbrev pub noEntryVersion : Args → Bool
+noEntryVersion a = eqb (a .entryVersion) 0
 
 abbrev pub noBulk : Args → Bool
 noBulk a = eqb (a .bulk) 0
@@ -89,9 +89,9 @@ noValue a = isEmpty (a .value)
 
 -- "Then: ..", by shape
 unfoldable pub argsOf : Shape → Codec Args
-argsOf keyed = as-type (λ a. noTimes a && (noEntry a && (noBulk a && noValue a))) (λ k. args k 0 0 0 0 []) (λ a. a .key) (limited keyLimit)
+argsOf keyed = as-type (λ a. noTimes a && (noEntryVersion a && (noBulk a && noValue a))) (λ k. args k 0 0 0 0 []) (λ a. a .key) (limited keyLimit)
 argsOf writes =
-    as-type (λ a. noEntry a && noBulk a) (λ p. args (p .0) (p .1 .0) (p .1 .1 .0) 0 0 (p .1 .1 .1)) (λ a. (a .key, (a .lifespan, (a .maxIdle, a .value))))
+    as-type (λ a. noEntryVersion a && noBulk a) (λ p. args (p .0) (p .1 .0) (p .1 .1 .0) 0 0 (p .1 .1 .1)) (λ a. (a .key, (a .lifespan, (a .maxIdle, a .value))))
     (seq (limited keyLimit) λ _. seq vInt λ _. seq vInt λ _. limited valueLimit)
 argsOf writesIf =
     as-type noBulk (λ p. args (p .0) (p .1 .0) (p .1 .1 .0) (p .1 .1 .1 .0) 0 (p .1 .1 .1 .1))
@@ -100,10 +100,10 @@ argsOf writesIf =
 argsOf keyedIf =
     as-type (λ a. noTimes a && (noBulk a && noValue a)) (λ p. args (p .0) 0 0 (p .1) 0 []) (λ a. (a .key, a .entryVersion))
     (seq (limited keyLimit) λ _. entryVersion)
-argsOf bare = as-type (λ a. isEmpty (a .key) && (noTimes a && (noEntry a && (noBulk a && noValue a)))) (λ u. args [] 0 0 0 0 []) (λ a. tt) empty
+argsOf bare = as-type (λ a. isEmpty (a .key) && (noTimes a && (noEntryVersion a && (noBulk a && noValue a)))) (λ u. args [] 0 0 0 0 []) (λ a. tt) empty
 -- "8 for another scope"
 argsOf (bulk most) =
-    as-type (λ a. isEmpty (a .key) && (noTimes a && (noEntry a && noValue a))) (λ n. args [] 0 0 0 n []) (λ a. a .bulk) (guard (λ n. leb n most) 8 vInt)
+    as-type (λ a. isEmpty (a .key) && (noTimes a && (noEntryVersion a && noValue a))) (λ n. args [] 0 0 0 n []) (λ a. a .bulk) (guard (λ n. leb n most) 8 vInt)
 
 -- an operation's byte: another code, or one that the edition does not have, is 4
 abbrev pub opFits : Edition → ℕ → Bool

@@ -27,7 +27,7 @@ use Rattle.message.specs.Operation.{codeOf, findCode}
 use Rattle.message.specs.Request.{isEmpty, valueLimit}
 use Rattle.message.specs.Listing.{itemOf, listing}
 use Rattle.message.specs.ReplyTable.{Body, bodyAt, isAllowed, allowed}
-use Rattle.message.specs.Payload.{Payload, payload, counted, bulkPayload, noEntry, noValue, noText, noLists, textLimit, noBody, valueBody, versionedBody, textBody, statisticsBody, listedBody, fieldsOf, formOf}
+use Rattle.message.specs.Payload.{Payload, payload, counted, bulkPayload, noEntryVersion, noValue, noText, noLists, textLimit, noBody, valueBody, versionedBody, textBody, statisticsBody, listedBody, fieldsOf, formOf}
 use Rattle.message.specs.Reply.{asked, Reply, bulkOperation, bulkReply, toReply, fromReply, fields, message, isAwaited, rowsOf, reply}
 use Rattle.reply_writer.specs.Frame.{framed}
 
@@ -148,7 +148,7 @@ module _ (p : Payload) where
   module _ (lim : ℕ) where
     pub value-valid : Valid (valueBody lim) p → Valid (limited lim) (p .value)
     unfolding valueBody as-type
-    value-valid v = both (noLists p && (noEntry p && noText p)) (limited lim .ok (p .value)) v .1
+    value-valid v = both (noLists p && (noEntryVersion p && noText p)) (limited lim .ok (p .value)) v .1
 
     pub value-size : Valid (valueBody lim) p → length (valueBody lim .enc p) ≡ length (vLong .enc (length (p .value))) + length (p .value)
     unfolding valueBody as-type
@@ -184,7 +184,7 @@ module _ (p : Payload) where
 
   text-valid : Valid textBody p → Valid (limitedText textLimit) (p .text)
   unfolding textBody as-type
-  text-valid v = both (noLists p && (noEntry p && noValue p)) (limitedText textLimit .ok (p .text)) v .1
+  text-valid v = both (noLists p && (noEntryVersion p && noValue p)) (limitedText textLimit .ok (p .text)) v .1
 
   pub text-size : Valid textBody p → length (textBody .enc p) ≡ length (vLong .enc (length (p .text))) + length (p .text)
   unfolding textBody as-type limitedText guard

@@ -17,7 +17,7 @@ use Rattle.text.specs.Text.{isText}
 use Rattle.field.specs.FieldRead.{limitedText}
 use Rattle.message.specs.declared.Operation.{Operation}
 use Rattle.message.specs.Operation.{codeOf}
-use Rattle.message.specs.Request.{Shape, keyed, writes, writesIf, keyedIf, bare, bulk, shapeOf, Args, argsOf, isEmpty, noTimes, noEntry, noBulk, noValue, opFits, operation, isVersion, editionAt, Request, request, nameLimit, keyLimit, valueLimit}
+use Rattle.message.specs.Request.{Shape, keyed, writes, writesIf, keyedIf, bare, bulk, shapeOf, Args, argsOf, isEmpty, noTimes, noEntryVersion, noBulk, noValue, opFits, operation, isVersion, editionAt, Request, request, nameLimit, keyLimit, valueLimit}
 use Rattle.message.proofs.RequestLaws.{code-found}
 use Rattle.message.proofs.RequestParts.{parts, whole-request}
 use Rattle.message.proofs.Editions.{flags-small, version-small}
@@ -67,8 +67,8 @@ module _ (a : Args) where
   unfolding argsOf
   within keyed h v =
       let w = type-valid _ _ _ _ a v in
-      let b = both (noTimes a) (noEntry a && (noBulk a && noValue a)) (w .0) in
-      let d = both (noEntry a) (noBulk a && noValue a) (b .1) in
+      let b = both (noTimes a) (noEntryVersion a && (noBulk a && noValue a)) (w .0) in
+      let d = both (noEntryVersion a) (noBulk a && noValue a) (b .1) in
       let f = both (noBulk a) (noValue a) (d .1) in
       record {
         key = limited-valid keyLimit (a .key) (w .1) .0;
@@ -80,7 +80,7 @@ module _ (a : Args) where
       }
   within writes h v =
       let w = type-valid _ _ _ _ a v in
-      let b = both (noEntry a) (noBulk a) (w .0) in
+      let b = both (noEntryVersion a) (noBulk a) (w .0) in
       let k = seq-valid _ _ _ (w .1) in
       let l = seq-valid _ _ _ (k .1) in
       let m = seq-valid _ _ _ (l .1) in
@@ -121,9 +121,9 @@ module _ (a : Args) where
       }
   within bare h v =
       let w = type-valid _ _ _ _ a v in
-      let b = both (isEmpty (a .key)) (noTimes a && (noEntry a && (noBulk a && noValue a))) (w .0) in
-      let d = both (noTimes a) (noEntry a && (noBulk a && noValue a)) (b .1) in
-      let e = both (noEntry a) (noBulk a && noValue a) (d .1) in
+      let b = both (isEmpty (a .key)) (noTimes a && (noEntryVersion a && (noBulk a && noValue a))) (w .0) in
+      let d = both (noTimes a) (noEntryVersion a && (noBulk a && noValue a)) (b .1) in
+      let e = both (noEntryVersion a) (noBulk a && noValue a) (d .1) in
       let f = both (noBulk a) (noValue a) (e .1) in
       record {
         key = no-number (length (a .key)) (b .0);
@@ -135,9 +135,9 @@ module _ (a : Args) where
       }
   within (bulk most) h v =
       let w = type-valid _ _ _ _ a v in
-      let b = both (isEmpty (a .key)) (noTimes a && (noEntry a && noValue a)) (w .0) in
-      let d = both (noTimes a) (noEntry a && noValue a) (b .1) in
-      let e = both (noEntry a) (noValue a) (d .1) in
+      let b = both (isEmpty (a .key)) (noTimes a && (noEntryVersion a && noValue a)) (w .0) in
+      let d = both (noTimes a) (noEntryVersion a && noValue a) (b .1) in
+      let e = both (noEntryVersion a) (noValue a) (d .1) in
       record {
         key = no-number (length (a .key)) (b .0);
         lifespan = times (d .0) .0;

@@ -34,9 +34,9 @@ use Rattle.message.proofs.ReplySize.{error-most}
 use Rattle.map.specs.State.{Entry}
 use Rattle.map.specs.Plan.{plans, plan}
 use Rattle.map.specs.Shown.{noValue, value, shows, wanted, lowest, listedBy}
-use Rattle.map.specs.Step.{mostKeys, Context, wantsOld, held, planned, statistics, answer}
+use Rattle.map.specs.Step.{mostKeys, Context, wantsOld, held, planned, statistics, result}
 use Rattle.map.specs.Reply.{Piece, flat, pieces, payloadOf, pairOf, replyTo, askedBy}
-use Rattle.map.proofs.Format.{pieces-reply, reply-valid, bulk-reply, answer-most}
+use Rattle.map.proofs.Format.{pieces-reply, reply-valid, bulk-reply, result-most}
 use Rattle.map.specs.Table.{Sizes}
 use Rattle.map.proofs.ListedLaws.{each-take, listed-is}
 use Rattle.map.proofs.ListedFormat.{listing-good}
@@ -56,7 +56,7 @@ use Rattle.plan.specs.declared.Held.{Held}
 use Rattle.plan.specs.Plan.{heldAt}
 use Rattle.server.specs.declared.Answer.{Answer}
 use Rattle.server.specs.CallDone.{Says, Sends}
-use Rattle.server.specs.Act.{isPlain, valueShown, entryShown, sentTo, Planned}
+use Rattle.server.specs.Act.{isPlain, valueShown, versionShown, sentTo, Planned}
 use Rattle.server.specs.Bulk.{pairAt, listedOf, Listable, sentListed}
 
 -- a message that fits is written, and its bytes are the pieces sent
@@ -85,7 +85,7 @@ unfolding entryAt memory.entry
 past-rows t s = rw (List·getD-eq-default (stateOf t .entries) (memory.entry [] [] 0 0) (s .table .few))
 
 -- a form that is not `Versioned` shows no version
-pub no-version : (g : Form) → OneOf (0 ∷ 1 ∷ 3 ∷ 4 ∷ 5 ∷ []) (tagOf form-code.the-type g) → (o : Option Entry) → 0 ≡ entryShown g o
+pub no-version : (g : Form) → OneOf (0 ∷ 1 ∷ 3 ∷ 4 ∷ 5 ∷ []) (tagOf form-code.the-type g) → (o : Option Entry) → 0 ≡ versionShown g o
 no-version g k none = refl
 no-version f.Nothing k (some e) = refl
 no-version (f.Value lim) k (some e) = refl
@@ -104,7 +104,7 @@ plain f.Statistics = false
 plain (f.Listed values) = false
 
 -- what it shows is what the map shows
-shown-same : (g : Form) (ns : List ℕ) (es : List Entry) (o : Option Entry) → plain g ≡ true → payload (entryShown g o) (valueShown g o) [] ≡ payloadOf (shows g ns es o)
+shown-same : (g : Form) (ns : List ℕ) (es : List Entry) (o : Option Entry) → plain g ≡ true → payload (versionShown g o) (valueShown g o) [] ≡ payloadOf (shows g ns es o)
 unfolding shows
 shown-same f.Nothing ns es none p = refl
 shown-same f.Nothing ns es (some e) p = refl
@@ -155,9 +155,9 @@ module _ (c : Context) {t : List ℕ} {q : Request} {y : Held} {s : ℕ} (g : Pl
   made code e v = record { id = q .id; op = code + 1; status = s; payload = payload e v [] }
 
   pub held-sent : {code e : ℕ} {v : List ℕ} {x : wire.Sent} (old : List ℕ) {new : List ℕ} → isPlain (q .op) ≡ true → code ≡ codeOf (q .op)
-      → e ≡ entryShown (form q s) (heldAt t (q .args .key)) → v ≡ valueShown (form q s) (heldAt t (q .args .key))
+      → e ≡ versionShown (form q s) (heldAt t (q .args .key)) → v ≡ valueShown (form q s) (heldAt t (q .args .key))
       → (x, new) ≡ send (reply (asked code (wantsOld q))) (made code e v) old → (x, new) ≡ sentTo c q (stateOf t) old
-  unfolding answer held planned
+  unfolding result held planned
   held-sent old n o e w z =
       let f = shown-same (formOf (wantsOld q) (allowed (bodyAt (planned q (stateOf t) .status) (table (q .op))))) (statistics c (stateOf t)) (listedBy q (stateOf t)) (heldAt t (q .args .key)) (every-body (λ b. plain (formOf (wantsOld q) b)) (planned q (stateOf t) .status) (table (q .op)) refl (plain-rows (q .op) (wantsOld q) n)) in
       z ∙ rw (o, e, w, rows-are (q .op), ← (g .status), f)
@@ -165,7 +165,7 @@ module _ (c : Context) {t : List ℕ} {q : Request} {y : Held} {s : ℕ} (g : Pl
   -- the reply to stats
   pub stats-sent : {x : wire.Sent} {ns : List ℕ} (old : List ℕ) {new : List ℕ} → q .op ≡ Stats → ns ≡ statistics c (stateOf t)
       → ((flag : Bool) → (x, new) ≡ send (reply (asked 0x15 flag)) (statisticsReply (q .id) ns) old) → (x, new) ≡ sentTo c q (stateOf t) old
-  unfolding answer planned plan plans bodyAt shows
+  unfolding result planned plan plans bodyAt shows
   stats-sent old o e z = rw (o, ← e) (z (wantsOld q))
 
   -- the reply to bulkGet and to bulkGetKeys: a table's entries ascend
@@ -178,11 +178,11 @@ module _ (c : Context) {t : List ℕ} {q : Request} {y : Held} {s : ℕ} (g : Pl
 
   -- the map's reply to a request is sent
   pub reply-sent : {x : wire.Sent} (old : List ℕ) {new : List ℕ} {n : ℕ} {d : stream.Verdict} {r : Answer} → c .second < 0x1_0000_0000 → roomOf (q .op) ≤ length old
-      → (x, new) ≡ sentTo c q (stateOf t) old → ((m : ℕ) → x ≡ written m → Says n m d r) → Sends (pieces q (answer c q (stateOf t))) n d old new r
+      → (x, new) ≡ sentTo c q (stateOf t) old → ((m : ℕ) → x ≡ written m → Says n m d r) → Sends (pieces q (result c q (stateOf t))) n d old new r
   reply-sent old k l z h =
       let p = pieces-reply c q (stateOf t) (g .sound .table .few) in
-      let b = answer-most c q (stateOf t) (g .valid) (g .sound .table) k in
-      sent (reply (askedBy q)) (replyTo q (answer c q (stateOf t))) z (reply-valid c q (stateOf t) (g .valid) (g .sound .table) k)
+      let b = result-most c q (stateOf t) (g .valid) (g .sound .table) k in
+      sent (reply (askedBy q)) (replyTo q (result c q (stateOf t))) z (reply-valid c q (stateOf t) (g .valid) (g .sound .table) k)
       (omega (arith, ap length p, b, reply-room (q .op), l)) p h
 
 longest-most : (values : Bool) → longest values ≤ 323

@@ -16,7 +16,7 @@ use Rattle.map.specs.State.{Entry, State, find, without, hasKey}
 use Rattle.map.specs.Deadline.{deadline, standing}
 use Rattle.map.specs.Step as map
 use Rattle.map.specs.Plan.{Change, keep, store, drop, empty}
-use Rattle.map.specs.Step.{Context, Outcome, answered, lastVersion, entry, stored, isNone, held, versionOf, full, planned, answer, act, core, present, swept, noted, arrive, step}
+use Rattle.map.specs.Step.{Context, Outcome, answered, lastVersion, entry, stored, isNone, held, versionOf, full, planned, result, act, core, present, swept, noted, arrive, step}
 use Rattle.map.specs.Table.{Each, IsTable}
 use Rattle.map.specs.Expiry.{Stands}
 use Rattle.map.proofs.Standing.{standing-stand}
@@ -83,7 +83,7 @@ module _ {t k v : List ℕ} {held : Held} {t′ : List ℕ} (s : Storable t k v 
       rw w (added-changed (s .sound) k v d (s .key) (s .value) h (rw w at (s .room)) (s .version) l)
 
 -- a request that is answered: the table is the one behind its change
-pub does-answered : (q : Request) {o : Outcome} {b : map.Answer} {st : State} {n : ℕ} {old new t u t′ : List ℕ} {a : Answer} → o ≡ answered b st → IsTable st
+pub does-answered : (q : Request) {o : Outcome} {b : map.Result} {st : State} {n : ℕ} {old new t u t′ : List ℕ} {a : Answer} → o ≡ answered b st → IsTable st
     → Sends (pieces q b) n served old new a → Changed u t′ st → Does (onStep q n o) t old (doneOf a new t′)
 unfolding onStep
 does-answered q e i w d = rw e (does w (d .state, record { form = d .form; table = rw (d .state) i }))
@@ -104,7 +104,7 @@ module _ (c : Context) (q : Request) (st : State) where
     unfolding isFull full
     full-same = rw (n, none-version)
 
-    act-refused : (d : Change) (k : ℕ) → refusalOf st o d ≡ some k → (act q st (answer c q st) d ≡ map.refused k) × ((1 ≤ k) × (k ≤ 11))
+    act-refused : (d : Change) (k : ℕ) → refusalOf st o d ≡ some k → (act q st (result c q st) d ≡ map.refused k) × ((1 ≤ k) × (k ≤ 11))
     unfolding refusalOf act
     act-refused keep k h = never (cc)
     act-refused drop k h = never (cc)
@@ -112,12 +112,12 @@ module _ (c : Context) (q : Request) (st : State) where
     act-refused store k h = go (full q st) (ltb (st .last) lastVersion) (rw full-same at h)
       where
         go : (x y : Bool) → number x y ≡ some k
-            → (cond x (map.refused 10) (cond y (answered (answer c q st) (stored q st)) (map.refused 11)) ≡ map.refused k) × ((1 ≤ k) × (k ≤ 11))
+            → (cond x (map.refused 10) (cond y (answered (result c q st) (stored q st)) (map.refused 11)) ≡ map.refused k) × ((1 ≤ k) × (k ≤ 11))
         go true y h = let e : _≡_ {A = ℕ} 10 k = cc in rw (← e) (refl, (omega arith, omega arith))
         go false true h = never (cc)
         go false false h = let e : _≡_ {A = ℕ} 11 k = cc in rw (← e) (refl, (omega arith, omega arith))
 
-    act-made : (d : Change) → refusalOf st o d ≡ none → act q st (answer c q st) d ≡ answered (answer c q st) (after q st d)
+    act-made : (d : Change) → refusalOf st o d ≡ none → act q st (result c q st) d ≡ answered (result c q st) (after q st d)
     unfolding refusalOf act
     act-made keep e = refl
     act-made drop e = refl
@@ -125,7 +125,7 @@ module _ (c : Context) (q : Request) (st : State) where
     act-made store e = go (full q st) (ltb (st .last) lastVersion) (rw full-same at e)
       where
         go : (x y : Bool) → number x y ≡ none
-            → cond x (map.refused 10) (cond y (answered (answer c q st) (stored q st)) (map.refused 11)) ≡ answered (answer c q st) (stored q st)
+            → cond x (map.refused 10) (cond y (answered (result c q st) (stored q st)) (map.refused 11)) ≡ answered (result c q st) (stored q st)
         go true y e = never (cc)
         go false true e = refl
         go false false e = never (cc)
@@ -182,14 +182,14 @@ module _ (c : Context) (q : Request) (st : State) where
   come = arrive c q st
 
   module _ (o : Option ℕ) (n : o ≡ versionOf (held q come)) (d : Change) (e : isEmpty (q .name) ≡ true) (p : planned q come .change ≡ d) where
-    step-acts : step c q st ≡ act q come (answer c q come) d
+    step-acts : step c q st ≡ act q come (result c q come) d
     unfolding step core
     step-acts = rw (e, p)
 
     pub step-refused : (k : ℕ) → refusalOf come o d ≡ some k → (step c q st ≡ map.refused k) × ((1 ≤ k) × (k ≤ 11))
     step-refused k h = let z = act-refused c q come o n d k h in (step-acts ∙ z .0, z .1)
 
-    pub step-made : refusalOf come o d ≡ none → step c q st ≡ answered (answer c q come) (after q come d)
+    pub step-made : refusalOf come o d ≡ none → step c q st ≡ answered (result c q come) (after q come d)
     step-made h = step-acts ∙ act-made c q come o n d h
 
 -- a store that is not refused has a version left

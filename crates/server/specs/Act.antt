@@ -44,14 +44,14 @@ valueShown f.Text (some e) = []
 valueShown f.Statistics (some e) = []
 valueShown (f.Listed values) (some e) = []
 
-abbrev pub entryShown : Form → Option Entry → ℕ
-entryShown g none = 0
-entryShown f.Nothing (some e) = 0
-entryShown (f.Value lim) (some e) = 0
-entryShown f.Versioned (some e) = e .version
-entryShown f.Text (some e) = 0
-entryShown f.Statistics (some e) = 0
-entryShown (f.Listed values) (some e) = 0
+abbrev pub versionShown : Form → Option Entry → ℕ
+versionShown g none = 0
+versionShown f.Nothing (some e) = 0
+versionShown (f.Value lim) (some e) = 0
+versionShown f.Versioned (some e) = e .version
+versionShown f.Text (some e) = 0
+versionShown f.Statistics (some e) = 0
+versionShown (f.Listed values) (some e) = 0
 
 -- replies to the operation show the entry held, or nothing: the statistics and the entries listed are shown to the others
 unfoldable pub isPlain : Operation → Bool
@@ -59,7 +59,7 @@ isPlain o = not (is Stats o || (is BulkGet o || is BulkGetKeys o))
 
 -- the map's reply to the request, as a writer sends it into a buffer
 abbrev pub sentTo : Context → Request → State → List ℕ → Sent × List ℕ
-sentTo c q st old = send (reply (askedBy q)) (replyTo q (step.answer c q st)) old
+sentTo c q st old = send (reply (askedBy q)) (replyTo q (step.result c q st)) old
 
 -- the state without the entry that has the key
 abbrev pub less : List ℕ → State → State
@@ -113,7 +113,7 @@ pub record Arrives (t : List ℕ) (q : Request) (second : ℕ) (u : List ℕ) (h
 
 -- the map's reply to the request is sent
 abbrev pub Replies : List ℕ → Request → ℕ → ℕ → List ℕ → List ℕ → Answer → Type 0
-Replies t q second n old new a = Sends (pieces q (step.answer (at second) q (stateOf t))) n served old new a
+Replies t q second n old new a = Sends (pieces q (step.result (at second) q (stateOf t))) n served old new a
 
 -- the request is performed, of which n bytes are taken
 abbrev pub Performs : List ℕ → Request → ℕ → ℕ → List ℕ → Done → Type 0

@@ -36,7 +36,7 @@ ghost use Rattle.service.specs.Serve as stream;
 ghost use Rattle.service.specs.Stream.{Becomes, Serves};
 ghost use Rattle.plan.specs.Plan.{asChange, Holds, HoldsAt, heldAt, heldVersion};
 ghost use Rattle.server.specs.CallDone.{asVerdict, callOf, doneOf, Says, Sends};
-ghost use Rattle.server.specs.Act.{at, isPlain, valueShown, entryShown, sentTo, less, replaced, Storable, after, Planned, Agreed, Given, Arrives, Replies, Performs, PerformsWithin};
+ghost use Rattle.server.specs.Act.{at, isPlain, valueShown, versionShown, sentTo, less, replaced, Storable, after, Planned, Agreed, Given, Arrives, Replies, Performs, PerformsWithin};
 
 // Nothing sent.
 pub(crate) fn unsent(taken: usize, v: Verdict) -> Answer
@@ -95,7 +95,7 @@ fn shown_row(f: Form, held: Held) -> usize
 
 // The version that a reply of the form shows, or 0.
 fn shown_version(f: Form, held: Held) -> EntryVersion
-    ensures { λ r. ⌜ ((t k : List ℕ) → Holds t k held → r .0 ≡ entryShown f (heldAt t k)) ⌝ }
+    ensures { λ r. ⌜ ((t k : List ℕ) → Holds t k held → r .0 ≡ versionShown f (heldAt t k)) ⌝ }
 {
     let Held::Row(_, v) = held else {
         return EntryVersion(0);

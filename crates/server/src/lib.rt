@@ -135,7 +135,7 @@ pub enum Lined {
     Refused(u8),
 }
 
-// What serving the lines of a piece of a file gives: the bytes taken, the bytes of the output, and whether the rest of a line is still to be passed over.
+// What serving the lines of a chunk of a file gives: the bytes taken, the bytes of the output, and whether the rest of a line is still to be passed over.
 pub struct Fed {
     pub taken: usize,
     pub size: usize,
@@ -149,7 +149,7 @@ impl Fed {
     pub const LONGEST: usize = 1024;
 }
 
-// What serving the lines of a piece of a file answers: what it gave, or the refusal for which nothing was done.
+// What serving the lines of a chunk of a file answers: what it gave, or the refusal for which nothing was done.
 pub enum Served {
     Fed(Fed),
     Refused(u8),
@@ -168,8 +168,8 @@ pub fn serve_line(line: &[u8], table: &mut [u8], out: &mut [u8]) -> Lined
     Lined::Written(lines::line_sound(line, table, out, 0))
 }
 
-// Serves the lines of a piece of a file, as long as there is room for a line. passing: the rest of the first line is passed over;
-// last: nothing comes behind the piece.
+// Serves the lines of a chunk of a file, as long as there is room for a line. passing: the rest of the first line is passed over;
+// last: nothing comes behind the chunk.
 pub fn serve_lines(
     input: &[u8],
     table: &mut [u8],

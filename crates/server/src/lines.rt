@@ -167,7 +167,7 @@ fn is_due(end: usize, len: usize, last: bool) -> bool
     false
 }
 
-// One turn on what is left of a piece.
+// One turn on what is left of a chunk.
 fn turn(s: &[u8], t: &mut [u8], out: &mut [u8], at: usize, passing: bool, last: bool) -> Turned
     requires { ⌜ Sound (now t) ⌝ }
     requires { ⌜ at + lineRoom ≤ length (now out) ⌝ }

@@ -27,11 +27,11 @@ use Rattle.map.specs.State.{State}
 use Rattle.map.specs.Table.{IsTable}
 use Rattle.map.specs.Step as map-step
 use Rattle.map.specs.Plan.{Change, keep, store, drop, empty}
-use Rattle.map.specs.Step.{Context, Outcome, answered, lastVersion, full, planned, answer, act, core, arrive, step}
+use Rattle.map.specs.Step.{Context, Outcome, answered, lastVersion, full, planned, result, act, core, arrive, step}
 use Rattle.map.specs.Reply.{flat, pieces}
 use Rattle.map.proofs.Answered.{did}
 use Rattle.map.proofs.Counting.{arrive-table}
-use Rattle.map.proofs.Format.{answer-most}
+use Rattle.map.proofs.Format.{result-most}
 use Rattle.table.proofs.Lists.{lt-or-ge}
 use Rattle.table.specs.Memory.{stateOf, Sound}
 use Rattle.service.specs.Serve.{Effect, refused, errorPieces, still, onStep, onRead, serve, room, bulkRoom, roomOf, within}
@@ -49,7 +49,7 @@ late-cond : (t : Bool) (x y : Outcome) → Late x → Late y → Late (cond t x 
 late-cond true x y h g = h
 late-cond false x y h g = g
 
-late-act : (r : Request) (st : State) (a : map-step.Answer) (d : Change) → Late (act r st a d)
+late-act : (r : Request) (st : State) (a : map-step.Result) (d : Change) → Late (act r st a d)
 unfolding act
 late-act r st a keep = tt
 late-act r st a drop = tt
@@ -60,7 +60,7 @@ pub late : (c : Context) (r : Request) (st : State) → Late (step c r st)
 unfolding step core
 late c r st =
     let x = arrive c r st in
-    late-cond (isEmpty (r .name)) _ _ (late-act r x (answer c r x) (planned r x .change)) (omega arith)
+    late-cond (isEmpty (r .name)) _ _ (late-act r x (result c r x) (planned r x .change)) (omega arith)
 
 -- the longest reply to an operation fits the room that its requests ask for
 pub reply-room : (o : Operation) → longestReply o ≤ roomOf o
@@ -68,13 +68,13 @@ unfolding roomOf
 reply-room o = leb-true (longestReply o) (roomOf o) (every (λ o. leb (longestReply o) (roomOf o)) refl o)
 
 -- so every reply fits the room of its request
-pub answer-fits : (c : Context) (r : Request) (st : State) (a : map-step.Answer) (t : State) → Valid request r → IsTable st → c .second < 0x1_0000_0000
+pub answer-fits : (c : Context) (r : Request) (st : State) (a : map-step.Result) (t : State) → Valid request r → IsTable st → c .second < 0x1_0000_0000
     → step c r st ≡ answered a t → length (flat (pieces r a)) ≤ roomOf (r .op)
 answer-fits c r st a t v s h e =
-    rw (did c r st a t e .same) (omega (arith, answer-most c r (arrive c r st) v (arrive-table c r st h s) h, reply-room (r .op)))
+    rw (did c r st a t e .same) (omega (arith, result-most c r (arrive c r st) v (arrive-table c r st h s) h, reply-room (r .op)))
 
 -- and the room that a line has for it
-pub answer-longest : (c : Context) (r : Request) (st : State) (a : map-step.Answer) (t : State) → Valid request r → IsTable st → c .second < 0x1_0000_0000
+pub answer-longest : (c : Context) (r : Request) (st : State) (a : map-step.Result) (t : State) → Valid request r → IsTable st → c .second < 0x1_0000_0000
     → step c r st ≡ answered a t → length (flat (pieces r a)) ≤ bulkRoom
 answer-longest c r st a t v s h e = omega (arith, answer-fits c r st a t v s h e, room-most (r .op))
 

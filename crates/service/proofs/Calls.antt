@@ -69,7 +69,7 @@ within-has Q space (wire.refused k) e s q = q
 -- What holds of every call: it is quiet, sends an error reply, or sends the answer of a step.
 module _ (E : Effect → Type 0) (c : Context) (st : State) (quiet : (n : ℕ) (v : Verdict) → E (effect n v [] none))
     (error : (n k id : ℕ) → E (effect n (refused k) (errorPieces k id) none))
-    (answer : (r : Request) (n : ℕ) (a : map-step.Answer) (t : State) → step c r st ≡ answered a t → E (effect n served (pieces r a) (some t))) where
+    (answer : (r : Request) (n : ℕ) (a : map-step.Result) (t : State) → step c r st ≡ answered a t → E (effect n served (pieces r a) (some t))) where
   every-step : (r : Request) (n : ℕ) (o : Outcome) → step c r st ≡ o → E (onStep r n o)
   unfolding onStep
   every-step r n (map-step.refused k) e = error n k (r .id)

@@ -52,7 +52,7 @@ unfolding historyOf
 sound-first t s = rw (history-is t (s .form .long), first-number (numberOf t firstIndex)) (s .form .first)
 
 -- the first second is one that a table held, or that of a call
-pub keeps-first : (c : Context) (r : Request) (st : State) (a : map-step.Answer) (t : State) → step c r st ≡ answered a t → c .second < 0x1_0000_0000
+pub keeps-first : (c : Context) (r : Request) (st : State) (a : map-step.Result) (t : State) → step c r st ≡ answered a t → c .second < 0x1_0000_0000
     → FirstHeld st → FirstHeld t
 keeps-first c r st a t e h f = rw (first-step c r st a t e) (go (st .history .first) f)
   where

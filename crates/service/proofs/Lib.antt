@@ -12,5 +12,5 @@ pub mod Exist
 pub mod Bounds
 pub mod Once
 pub mod Expiry
-pub mod Pieces
+pub mod Chunks
 pub mod Edges

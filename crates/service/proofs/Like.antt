@@ -19,10 +19,10 @@ use Rattle.service.specs.Demand3.{Progress, ahead, wrote, gone, stateBut
 use Rattle.service.proofs.Decides.{isSound}
 use Rattle.service.proofs.Sounds.{both-sound}
 
-pub answered-answer : {a b : map-step.Answer} {s t : State} → answered a s ≡ answered b t → a ≡ b
+pub answered-answer : {a b : map-step.Result} {s t : State} → answered a s ≡ answered b t → a ≡ b
 answered-answer e = cc
 
-pub answered-state : {a b : map-step.Answer} {s t : State} → answered a s ≡ answered b t → s ≡ t
+pub answered-state : {a b : map-step.Result} {s t : State} → answered a s ≡ answered b t → s ≡ t
 answered-state e = cc
 
 module _ (u w : List ℕ) (len : length w ≡ length u) where

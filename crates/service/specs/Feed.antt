@@ -1,4 +1,4 @@
--- A file that comes piece by piece. A piece is what stands in a buffer: what the last call left of it, and what was read behind that.
+-- A file that comes chunk by chunk. A chunk is what stands in a buffer: what the last call left of it, and what was read behind that.
 use mathlib.Core.Path.{_≡_}
 use mathlib.Core.List.{List, [], _∷_, _++_}
 use mathlib.Core.Bool.{Bool, true, false, cond, _&&_, not}
@@ -14,7 +14,7 @@ use Rattle.service.specs.Line.{longest, Given, given, stateLeft, later, 
 abbrev pub lineEnd : List ℕ → ℕ
 lineEnd s = indexOf 0x0a s
 
--- What one turn makes of a piece: the bytes taken, the line given if there is one, whether the rest of the line is still to be passed over, and the
+-- What one turn makes of a chunk: the bytes taken, the line given if there is one, whether the rest of the line is still to be passed over, and the
 -- state that it leaves, or none where nothing changes. With nothing taken, more of the file is needed.
 pub record Turn : Type 0 where
   pub taken : ℕ
@@ -29,7 +29,7 @@ turn n t p o = record { taken = n; text = t; passing = p; next = o }
 abbrev pub ended : Given → List ℕ
 ended g = g .text ++ (0x0a ∷ [])
 
--- passing: the line was given already, and its rest is passed over; last: nothing comes behind the piece.
+-- passing: the line was given already, and its rest is passed over; last: nothing comes behind the chunk.
 -- "The last may lack its line end." A line that is longer than a line may be is given as soon as that is seen.
 unfoldable pub turnOf : Bool → Bool → List ℕ → State → Turn
 turnOf true last s st =
@@ -54,7 +54,7 @@ unfoldable pub joined : List (List ℕ) → List ℕ
 joined [] = []
 joined (p ∷ ps) = p ++ joined ps
 
--- A file in pieces: turns on what stands in the buffer, and a piece more where a turn takes nothing; g is all that is given, and the state that is left.
+-- A file in chunks: turns on what stands in the buffer, and a chunk more where a turn takes nothing; g is all that is given, and the state that is left.
 pub data Feeds : Bool → List ℕ → List (List ℕ) → State → Given → Type 0 where
   took : {passing last : Bool} {s : List ℕ} {ps : List (List ℕ)} {st : State} {g : Given} → (last ≡ true → ps ≡ [])
       → Feeds (turnOf passing last s st .passing) (drop (turnOf passing last s st .taken) s) ps (stateLeft st (turnOf passing last s st .next)) g

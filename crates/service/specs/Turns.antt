@@ -1,4 +1,4 @@
--- Turns one after the other on one piece of a file, as long as there is room for a line.
+-- Turns one after the other on one chunk of a file, as long as there is room for a line.
 use mathlib.Core.Path.{_≡_}
 use mathlib.Core.List.{List, [], _++_}
 use mathlib.Core.Bool.{Bool}
@@ -17,7 +17,7 @@ lineRoom = 83_201
 abbrev pub both : Turn → Turn → Turn
 both a b = turn (a .taken + b .taken) (a .text ++ b .text) (b .passing) (later (a .next) (b .next))
 
--- Turns on a piece with so much room for output: they end where there is no room for a line, or where a turn takes nothing.
+-- Turns on a chunk with so much room for output: they end where there is no room for a line, or where a turn takes nothing.
 pub data Turns (last : Bool) : Bool → List ℕ → State → ℕ → Turn → Type 0 where
   full : {passing : Bool} {s : List ℕ} {st : State} {room : ℕ} → room < lineRoom → Turns last passing s st room (turn 0 [] passing none)
   done : {passing : Bool} {s : List ℕ} {st : State} {room : ℕ} → turnOf passing last s st .taken ≡ 0 → Turns last passing s st room (turn 0 [] passing none)

@@ -1,4 +1,4 @@
--- Whole lines loaded one after the other: how they are cut off a piece, that the cuts do not matter, that a file of them stores the table that
+-- Whole lines loaded one after the other: how they are cut off a chunk, that the cuts do not matter, that a file of them stores the table that
 -- they leave, and that of a file that stores a table all lines are loaded. Assumes nothing.
 use mathlib.Core.Path.{_≡_, refl, sym, ap, _∙_, subst}
 use mathlib.Core.List.{List, [], _∷_, _++_, append-assoc, append-nil}
@@ -120,12 +120,12 @@ module _ (s : List ℕ) (at r : ℕ) (found : r ≡ at + indexOf 0x0a (slice at 
 ends-on : (f : Form) (b : Bool) (s t y : List ℕ) → Ends f b s t false → Ends f b (s ++ y) t false
 ends-on f b s t y e = (e .0, e .1 ++ y, rw (e .2, append-assoc), e .3, e .4)
 
--- A file in pieces: what is left of a piece stands before the next one. Together they are loaded as one piece, and a line that is not good
+-- A file in chunks: what is left of a chunk stands before the next one. Together they are loaded as one chunk, and a line that is not good
 -- is not good whatever comes behind it.
 module _ {f : Form} {b : Bool} {p t u : List ℕ} {r : Loading} (q : List ℕ) (g : LoadsLines f b p t r u) where
-  pub pieces : {v : List ℕ} {r′ : Loading} → LoadsLines f (r .begun) (drop (r .taken) p ++ q) u r′ v
+  pub chunks : {v : List ℕ} {r′ : Loading} → LoadsLines f (r .begun) (drop (r .taken) p ++ q) u r′ v
       → LoadsLines f b (p ++ q) t (record { taken = r .taken + r′ .taken; begun = r′ .begun; good = r′ .good }) v
-  pieces {r′ = r′} h =
+  chunks {r′ = r′} h =
       let w = g .within in
       record {
         within = omega (arith, h .within, length-append p q, length-append (drop (r .taken) p) q, length-drop (r .taken) p);
@@ -133,8 +133,8 @@ module _ {f : Form} {b : Bool} {p t u : List ℕ} {r : Loading} (q : List ℕ) (
         ends = rw (← drop-drop, drop-append-le (r .taken) p q w) (h .ends);
       }
 
-  pub bad-piece : r .good ≡ false → LoadsLines f b (p ++ q) t r u
-  bad-piece e =
+  pub bad-chunk : r .good ≡ false → LoadsLines f b (p ++ q) t r u
+  bad-chunk e =
       let w = g .within in
       record {
         within = omega (arith, length-append p q);

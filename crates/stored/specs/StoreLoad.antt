@@ -64,11 +64,11 @@ abbrev pub Ends : Form → Bool → List ℕ → List ℕ → Bool → Type 0
 Ends f b s t true = NoEnd s
 Ends f b s t false = (l y : List ℕ) × (s ≡ l ++ (0x0a ∷ y)) × NoEnd l × (loaded f b l t ≡ none)
 
--- the whole lines of a piece are loaded, up to the first that is not good
-pub record LoadsLines (f : Form) (begun : Bool) (piece t : List ℕ) (r : Loading) (t′ : List ℕ) : Type 0 where
-  pub within : r .taken ≤ length piece
-  pub loads : Loads f begun (take (r .taken) piece) t (r .begun) t′
-  pub ends : Ends f (r .begun) (drop (r .taken) piece) t′ (r .good)
+-- the whole lines of a chunk are loaded, up to the first that is not good
+pub record LoadsLines (f : Form) (begun : Bool) (chunk t : List ℕ) (r : Loading) (t′ : List ℕ) : Type 0 where
+  pub within : r .taken ≤ length chunk
+  pub loads : Loads f begun (take (r .taken) chunk) t (r .begun) t′
+  pub ends : Ends f (r .begun) (drop (r .taken) chunk) t′ (r .good)
 
 -- "loading only 17": done, the file stores the table that t holds then; refused, it stores none, or t has another length. "Else 17 and the old
 -- table stays."

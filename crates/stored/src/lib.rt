@@ -32,7 +32,7 @@ impl Line {
     pub const HEAD: usize = 19;
 }
 
-// What loading the lines of a piece of a stored file answers: the bytes taken, whether the first line has been loaded, and whether each whole
+// What loading the lines of a chunk of a stored file answers: the bytes taken, whether the first line has been loaded, and whether each whole
 // line was good.
 pub struct Loading {
     pub taken: usize,
@@ -140,23 +140,23 @@ pub fn load_line(line: &[u8], t: &mut [u8]) -> Outcome
     table::done_or(load_next(line, t, true), 17)
 }
 
-// Loads the whole lines of a piece of a stored file into the table in t, up to the first that is not good. begun: the first line of the file
+// Loads the whole lines of a chunk of a stored file into the table in t, up to the first that is not good. begun: the first line of the file
 // has been loaded.
-pub fn load_lines(piece: &[u8], t: &mut [u8], begun: bool) -> Loading
-    ensures { λ r. ⌜ LoadsLines form1 begun (now (piece .entry)) (now (t .entry)) r (now (t .exit)) ⌝ }
+pub fn load_lines(chunk: &[u8], t: &mut [u8], begun: bool) -> Loading
+    ensures { λ r. ⌜ LoadsLines form1 begun (now (chunk .entry)) (now (t .entry)) r (now (t .exit)) ⌝ }
 {
     let mut at = 0;
     let mut headed = begun;
     loop {
-        let next = bytes::scan::find(piece, at, piece.len(), Line::END);
-        if next == piece.len() {
+        let next = bytes::scan::find(chunk, at, chunk.len(), Line::END);
+        if next == chunk.len() {
             return Loading {
                 taken: at,
                 begun: headed,
                 good: true,
             };
         }
-        if !load_next(&piece[at..next], t, headed) {
+        if !load_next(&chunk[at..next], t, headed) {
             return Loading {
                 taken: at,
                 begun: headed,

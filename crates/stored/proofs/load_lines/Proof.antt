@@ -12,10 +12,10 @@ use Rattle.stored.proofs.load_lines.Statement.{statement}
 use Rattle.stored.proofs.load_lines.Tie as tie
 
 abbrev Inv-loop : tie.InvT-loop
-Inv-loop piece t₀ begun at₀ headed₀ t at headed = (at ≤ length piece) × Loads form1 begun (take at piece) t₀ headed t
+Inv-loop chunk t₀ begun at₀ headed₀ t at headed = (at ≤ length chunk) × Loads form1 begun (take at chunk) t₀ headed t
 
 abbrev μ-loop : tie.MeasureT-loop
-μ-loop piece t₀ begun at₀ headed₀ t at headed = length piece - at
+μ-loop chunk t₀ begun at₀ headed₀ t at headed = length chunk - at
 
 loop-holds : tie.Need-loop-holds Inv-loop μ-loop
 loop-holds c = (omega arith, no-line)

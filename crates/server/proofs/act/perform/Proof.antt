@@ -106,7 +106,7 @@ module _ (c : tie.After-refusal-of) where
     free : refusalOf come (heldVersion (found .held-in .result)) change ≡ none
     free = sym judged-come ∙ ap asJudged f
 
-    made : map.step context (asked start) (state start) ≡ map.answered (map.answer context (asked start) come) (after (asked start) come change)
+    made : map.step context (asked start) (state start) ≡ map.answered (map.result context (asked start) come) (after (asked start) come change)
     made = step-made context _ _ _ same change unnamed (rw planned) free
 
     fits : IsTable (after (asked start) come change)

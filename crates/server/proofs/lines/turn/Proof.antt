@@ -5,7 +5,7 @@ use native.Mathlib.Omega.{arith}
 use lib.ListN.{length}
 use lib.Seq.{length-take-le}
 use borrow.Author.Tests.{not-true, not-false}
-use Rattle.service.proofs.Pieces.{end-within}
+use Rattle.service.proofs.Chunks.{end-within}
 use Rattle.server.specs.Lines.{isDue}
 use Rattle.server.proofs.TurnLaws.{turn-passed, turn-passing, turn-line, turn-rest, turn-more, quiet, spoke}
 use borrow.Author.Needs.{needs}

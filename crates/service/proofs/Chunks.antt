@@ -1,4 +1,4 @@
--- However a file is cut into pieces, the turns give what its lines give one by one. Assumes nothing.
+-- However a file is cut into chunks, the turns give what its lines give one by one. Assumes nothing.
 use mathlib.Core.Path.{_≡_, refl, sym, ap, _∙_}
 use mathlib.Core.List.{List, [], _∷_, _++_, append-assoc, append-nil}
 use mathlib.Core.Bool.{Bool, true, false, cond, _&&_}
@@ -204,16 +204,16 @@ some-taken false b s st = go (ltb (lineEnd (b ∷ s)) (suc (length s))) (ltb lon
     go false true = omega arith
     go false false = rw (lt-ltb 0 (suc (length s)) (omega arith)) (omega arith)
 
--- a turn on the last piece that takes nothing: there was nothing left
+-- a turn on the last chunk that takes nothing: there was nothing left
 nothing-left : (passing : Bool) (s : List ℕ) (st : State) → turnOf passing true s st .taken ≡ 0 → given [] none ≡ restStep passing (s ++ joined []) st
 unfolding joined restStep linesOf linesStep indexOf indexAfter
 nothing-left true [] st z = refl
 nothing-left false [] st z = refl
 nothing-left passing (b ∷ s) st z = absurd (omega (arith, some-taken passing b s st))
 
-pub pieces : {passing : Bool} {s : List ℕ} {ps : List (List ℕ)} {st : State} {g : Given} → Feeds passing s ps st g → g ≡ restStep passing (s ++ joined ps) st
-pieces {passing = passing} {s = s} {ps = ps} {st = st} (took {last = last} {g = g} f x) =
-    let i = pieces x in
+pub chunks : {passing : Bool} {s : List ℕ} {ps : List (List ℕ)} {st : State} {g : Given} → Feeds passing s ps st g → g ≡ restStep passing (s ++ joined ps) st
+chunks {passing = passing} {s = s} {ps = ps} {st = st} (took {last = last} {g = g} f x) =
+    let i = chunks x in
     sym (keeps-turn st passing last s (joined ps) (λ e. no-more ps (f e)) ∙ rw (← i))
-pieces {passing = passing} {s = s} {st = st} (read {p = p} {ps = ps} {g = g} x) = pieces x ∙ rw (joined-more p ps, append-assoc s p (joined ps))
-pieces {passing = passing} {s = s} {st = st} (end z) = nothing-left passing s st z
+chunks {passing = passing} {s = s} {st = st} (read {p = p} {ps = ps} {g = g} x) = chunks x ∙ rw (joined-more p ps, append-assoc s p (joined ps))
+chunks {passing = passing} {s = s} {st = st} (end z) = nothing-left passing s st z

@@ -180,7 +180,7 @@ fn note_call(t: &mut [u8], h: Head, held: Held, second: Second)
     table::arrive(t, op, false, second);
 }
 
-// The row that has the key of an entry held, which may have moved since. Its version is the same.
+// Where the key is held once entries have gone: at another place, of the same version.
 fn moved(t: &[u8], key: &[u8], held: Held) -> Held
     ensures { λ r. ⌜ (heldVersion held ≡ map.versionOf (heldAt (now (t .entry)) (now (key .entry))) → Holds (now (t .entry)) (now (key .entry)) r) ⌝ }
 {

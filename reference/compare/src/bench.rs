@@ -2,6 +2,7 @@
 //! reference and a memory copy of the same bytes are measured one after the
 //! other, so that all meet the same conditions.
 
+use std::cell::RefCell;
 use std::hint::black_box;
 use std::time::{Duration, Instant};
 
@@ -53,7 +54,7 @@ key and value, that of the library does not. serve_stream of the library checks
 the table once a stream, that of the reference at each request; serve of both
 checks it at each call. `copy` is a memory copy of the same bytes: those read
 and those written; where 128 entries are sent at once, it is one of the reply
-alone.";
+alone, to where the library wrote it: in a stream of 16 one behind the other.";
 
 /// One line of the results, in nanoseconds for one unit.
 pub struct Row {
@@ -84,28 +85,44 @@ fn timed(body: impl FnOnce()) -> Duration {
     start.elapsed()
 }
 
-fn copy_time(task: &Task, room: &mut [u8]) -> Duration {
+/// So many copies, one behind the other as long as there is room, and then
+/// from the front again. The room is cleared first.
+fn copy_time(copied: &[u8], copies: usize, room: &mut [u8]) -> Duration {
+    let places = room.len() / copied.len();
+    room.fill(0);
     timed(|| {
-        for _ in 0..task.units / task.copies {
-            room.copy_from_slice(black_box(task.copied));
+        for at in 0..copies {
+            let start = at % places * copied.len();
+            room[start..start + copied.len()].copy_from_slice(black_box(copied));
             black_box(&mut *room);
         }
     })
 }
 
-/// Measures all three in turn. Each of the two bodies clears first and gives
-/// the time of its round without that.
+/// Measures the two and a copy to a room of its own.
 fn measured(
     task: Task,
+    subject: impl FnMut() -> Duration,
+    reference: impl FnMut() -> Duration,
+) -> Row {
+    let mut room = vec![0; task.copied.len()];
+    let copy = || copy_time(task.copied, task.units / task.copies, &mut room);
+    in_turn(&task, subject, reference, copy)
+}
+
+/// Measures all three in turn. Each body clears first and gives the time of
+/// its round without that.
+fn in_turn(
+    task: &Task,
     mut subject: impl FnMut() -> Duration,
     mut reference: impl FnMut() -> Duration,
+    mut copy: impl FnMut() -> Duration,
 ) -> Row {
     let mut times = [Vec::new(), Vec::new(), Vec::new()];
-    let mut room = vec![0; task.copied.len()];
     for _ in 0..ROUNDS {
         times[0].push(subject());
         times[1].push(reference());
-        times[2].push(copy_time(&task, &mut room));
+        times[2].push(copy());
     }
     let [subject, reference, copy] = times.map(|times| median(times, task.units));
     Row {
@@ -517,7 +534,7 @@ fn bulk_messages(setup: &Setup, operation: u8) -> (Vec<u8>, Vec<u8>) {
 fn bulk<S: Subject>(subject: &mut S, setup: &Setup, name: &'static str, operation: u8) -> Row {
     let (input, copied) = bulk_messages(setup, operation);
     let mut memory = setup.memory.clone();
-    let mut reply = vec![0; BULK_ROOM];
+    let reply = RefCell::new(vec![0; BULK_ROOM]);
     let mut other = vec![0; BULK_ROOM];
     let task = Task {
         name,
@@ -526,19 +543,21 @@ fn bulk<S: Subject>(subject: &mut S, setup: &Setup, name: &'static str, operatio
         copies: 1,
     };
     let library = || {
+        let reply = &mut reply.borrow_mut()[..];
         memory.copy_from_slice(&setup.memory);
         reply.fill(0);
         let mut answer = [0; SERVE_WORDS];
         let mut codes = 0;
         let time = timed(|| {
             for _ in 0..CALLED {
-                codes += subject.serve(&input, &mut memory, SECOND, &mut reply, &mut answer);
+                codes += subject.serve(&input, &mut memory, SECOND, reply, &mut answer);
             }
         });
         assert_eq!(codes, GOOD * CALLED as u64, "a request is not served");
         assert_eq!(reply[..copied.len()], copied, "the reply is another one");
         time
     };
+    let copy = || copy_time(&copied, CALLED, &mut reply.borrow_mut()[..copied.len()]);
     let reference = || {
         let mut table = setup.table.clone();
         other.fill(0);
@@ -548,33 +567,35 @@ fn bulk<S: Subject>(subject: &mut S, setup: &Setup, name: &'static str, operatio
             }
         })
     };
-    measured(task, library, reference)
+    in_turn(&task, library, reference, copy)
 }
 
 /// All entries of the table, time and again in one stream.
 fn bulk_stream<S: Subject>(subject: &mut S, setup: &Setup) -> Row {
     let (request, reply) = bulk_messages(setup, BULK_GET);
     let row = request.repeat(BULKS);
-    let copied = reply.repeat(BULKS);
+    let wanted = reply.repeat(BULKS);
     let mut memory = setup.memory.clone();
-    let mut replies = vec![0; copied.len() + BULK_ROOM];
-    let mut others = replies.clone();
+    let mut others = vec![0; wanted.len() + BULK_ROOM];
+    let replies = RefCell::new(others.clone());
     let task = Task {
         name: "serve_stream, bulkGet of 128 entries",
         units: BULKS,
-        copied: &copied,
-        copies: BULKS,
+        copied: &reply,
+        copies: 1,
     };
     let library = || {
+        let replies = &mut replies.borrow_mut()[..];
         memory.copy_from_slice(&setup.memory);
         replies.fill(0);
         let mut answer = [0; STREAM_WORDS];
         let time = timed(|| {
-            subject.serve_stream(&row, &mut memory, SECOND, &mut replies, &mut answer);
+            subject.serve_stream(&row, &mut memory, SECOND, replies, &mut answer);
         });
-        assert_eq!(replies[..copied.len()], copied, "the replies are others");
+        assert_eq!(replies[..wanted.len()], wanted, "the replies are others");
         time
     };
+    let copy = || copy_time(&reply, BULKS, &mut replies.borrow_mut()[..wanted.len()]);
     let reference = || {
         let mut table = setup.table.clone();
         others.fill(0);
@@ -582,7 +603,7 @@ fn bulk_stream<S: Subject>(subject: &mut S, setup: &Setup) -> Row {
             black_box(reference::serve_stream(&row, &mut table, SECOND, &mut others).taken);
         })
     };
-    measured(task, library, reference)
+    in_turn(&task, library, reference, copy)
 }
 
 fn read_bulk<S: Subject>(subject: &mut S, setup: &Setup) -> Row {
@@ -644,7 +665,7 @@ fn write_bulk<S: Subject>(subject: &mut S, setup: &Setup) -> Row {
         entries: draft.entries(),
         ..Reply::default()
     };
-    let mut out = vec![0; BULK_ROOM];
+    let out = RefCell::new(vec![0; BULK_ROOM]);
     let mut other = vec![0; BULK_ROOM];
     let task = Task {
         name: "write_entries, 128 entries",
@@ -653,15 +674,17 @@ fn write_bulk<S: Subject>(subject: &mut S, setup: &Setup) -> Row {
         copies: 1,
     };
     let library = || {
+        let out = &mut out.borrow_mut()[..];
         out.fill(0);
         let time = timed(|| {
             for _ in 0..CALLED {
-                black_box(subject.write_entries(black_box(&mut out), draft.id, parts));
+                black_box(subject.write_entries(black_box(out), draft.id, parts));
             }
         });
         assert_eq!(out[..bytes.len()], bytes, "the reply is another one");
         time
     };
+    let copy = || copy_time(&bytes, CALLED, &mut out.borrow_mut()[..bytes.len()]);
     let reference = || {
         other.fill(0);
         timed(|| {
@@ -671,7 +694,7 @@ fn write_bulk<S: Subject>(subject: &mut S, setup: &Setup) -> Row {
             }
         })
     };
-    measured(task, library, reference)
+    in_turn(&task, library, reference, copy)
 }
 
 fn check<S: Subject>(subject: &mut S, setup: &Setup) -> Row {

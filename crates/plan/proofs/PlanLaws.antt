@@ -1,29 +1,35 @@
 -- What is held says what the map finds. Assumes nothing.
 use mathlib.Core.Path.{_≡_, refl, sym, ap, _∙_}
 use mathlib.Core.List.{List, [], _∷_}
+use mathlib.Core.Bool.{Bool, true, false, cond}
 use mathlib.Core.Option.{Option, none, some}
 use mathlib.Core.Logic.{inl, inr}
-use Prim.Native.Nat.{ℕ}
+use Prim.Native.Nat.{ℕ, _≤_}
+use native.Mathlib.Omega.{arith}
+use lib.ListN.{length}
 use types.Run.{OneOf, miss}
 use denote.Enum.Declared.{tagOf}
 use Rattle.field.specs.declared.EntryVersion.{EntryVersion}
 use Rattle.wire.proofs.Laws.{never}
 use Rattle.map.specs.State.{State, find, hasKey}
-use Rattle.map.specs.Deadline.{still}
+use Rattle.map.specs.Deadline.{still, expired, standing}
 use Rattle.map.specs.Expiry.{Stands}
 use Rattle.map.specs.Table.{Each, Pairs, OtherKey}
+use Rattle.map.proofs.Each.{fewer}
 use Rattle.map.proofs.Standing.{stands-back, find-still}
 use Rattle.map.specs.Step.{versionOf}
-use Rattle.table.specs.Memory.{entry, stateOf}
+use Rattle.table.specs.Memory.{boundIndex, numberOf, entry, stateOf, Sound}
+use Rattle.table.specs.Sweep.{isDue}
 use Rattle.table.specs.Found.{entryAt, FoundIs}
 use Rattle.table.specs.declared.Found.the-variants as f
 use Rattle.table.proofs.Keys.{found-held, found-none}
 use Rattle.table.proofs.Order.{each-at}
+use Rattle.table.proofs.Sweeps.{below-bound, not-due}
 use Rattle.plan.specs.declared.Held.{Held}
 use Rattle.plan.specs.declared.Held.the-variants as h
 use Rattle.plan.specs.declared.Change as code
 use Rattle.plan.specs.declared.Change.the-variants as c
-use Rattle.plan.specs.Plan.{Holds, HoldsAt, asChange, heldVersion, heldAt, standingAt, refusalOf}
+use Rattle.plan.specs.Plan.{Holds, HoldsAt, asChange, heldVersion, heldAt, standingAt, judgedBy, refusalOf}
 use Rattle.plan.proofs.Change as change-code
 
 module _ (t k : List ℕ) {x : Held} where
@@ -62,6 +68,23 @@ all-stand now t k h.Absent s (inr g) =
 pub version-stands : (now : ℕ) (t k : List ℕ) (x : Held) → Pairs OtherKey (stateOf t .entries) → HoldsAt now t k x
     → heldVersion x ≡ versionOf (find (hasKey k) (standingAt now (stateOf t) .entries))
 version-stands now t k x p g = still-held now t k x g ∙ ap versionOf (sym (find-still k now (stateOf t .entries) p))
+
+-- no more entries are judged by than are held; and they are those that stand, since no deadline is below the bound
+pub judged-fewer : (now : ℕ) (t : List ℕ) → length (judgedBy now t) ≤ length (stateOf t .entries)
+unfolding judgedBy
+judged-fewer now t = go (isDue now t)
+  where
+    go : (b : Bool) → length (cond b (standing now (stateOf t .entries)) (stateOf t .entries)) ≤ length (stateOf t .entries)
+    go true = fewer (expired now) (stateOf t .entries)
+    go false = omega arith
+
+pub judged-stands : (now : ℕ) (t : List ℕ) → Sound t → judgedBy now t ≡ standing now (stateOf t .entries)
+unfolding judgedBy
+judged-stands now t s = go (isDue now t) refl
+  where
+    go : (b : Bool) → isDue now t ≡ b → cond b (standing now (stateOf t .entries)) (stateOf t .entries) ≡ standing now (stateOf t .entries)
+    go true e = refl
+    go false e = sym (below-bound now (numberOf t boundIndex) (stateOf t .entries) (not-due now t (s .form .long) e) (s .form .bound))
 
 -- what is held goes by the entries alone
 pub holds-same : (t u k : List ℕ) → stateOf u .entries ≡ stateOf t .entries → (x : Held) → Holds t k x → Holds u k x

@@ -12,6 +12,7 @@ use Rattle.map.specs.Deadline.{expired, standing}
 use Rattle.map.specs.Plan as map
 use Rattle.map.specs.Step.{mostKeys, lastVersion, isNone}
 use Rattle.table.specs.Memory.{stateOf}
+use Rattle.table.specs.Sweep.{isDue}
 use Rattle.table.specs.Found.{entryAt, FoundIs}
 use Rattle.table.specs.declared.Found.the-variants as f
 use Rattle.plan.specs.declared.Held.{Held}
@@ -53,6 +54,14 @@ heldAt t k = find (hasKey k) (stateOf t .entries)
 -- the state with the entries that stand at a second
 abbrev pub standingAt : ℕ → State → State
 standingAt now st = withEntries (standing now (st .entries)) st
+
+-- The entries by which a change is judged at a second: those that stand. Where the bound is above the second, these are all that are held (`judged-stands`),
+-- and no deadline is looked at.
+unfoldable pub judgedBy : ℕ → List ℕ → List Entry
+judgedBy now t = cond (isDue now t) (standing now (stateOf t .entries)) (stateOf t .entries)
+
+abbrev pub judgedAt : ℕ → List ℕ → State
+judgedAt now t = withEntries (judgedBy now t) (stateOf t)
 
 -- "10: the write would add a key and 128 are held"; "11: the write would take effect and no version is left"
 unfoldable pub isFull : State → Option ℕ → Bool

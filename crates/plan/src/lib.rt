@@ -6,8 +6,7 @@ use table::Found;
 use table::Table;
 ghost use mathlib.Core.Path.{_≡_};
 ghost use Rattle.map.specs.Plan as map;
-ghost use Rattle.table.specs.Memory.{stateOf};
-ghost use Rattle.plan.specs.Plan.{asPlan, asChange, asJudged, HoldsAt, heldVersion, standingAt, isFull, refusalOf};
+ghost use Rattle.plan.specs.Plan.{asPlan, asChange, asJudged, HoldsAt, heldVersion, judgedAt, isFull, refusalOf};
 
 // The row that has the key, with the version of its entry, or that none has it.
 pub enum Held {
@@ -108,9 +107,9 @@ pub fn plan_of(op: Operation, asked: EntryVersion, held: Held) -> Plan
     }
 }
 
-// Whether a key would be added and 128 entries stand at a second. They are counted only where so many are held.
+// Whether a key would be added and 128 entries stand at a second. Deadlines are looked at only where so many are held and one may have come.
 fn is_full(t: &[u8], held: Held, second: Second) -> bool
-    ensures { λ r. ⌜ r ≡ isFull (standingAt (second .0) (stateOf (now (t .entry)))) (heldVersion held) ⌝ }
+    ensures { λ r. ⌜ r ≡ isFull (judgedAt (second .0) (now (t .entry))) (heldVersion held) ⌝ }
 {
     let Held::Absent = held else {
         return false;
@@ -118,12 +117,15 @@ fn is_full(t: &[u8], held: Held, second: Second) -> bool
     if table::count(t) < Table::KEYS {
         return false;
     }
+    if !table::is_due(t, second) {
+        return true;
+    }
     Table::KEYS <= table::standing(t, second)
 }
 
 // The refusal of a change at a second: 10 where it adds a key to a table of which 128 entries stand, 11 where no version is left for it.
 pub fn refusal_of(t: &[u8], change: Change, held: Held, second: Second) -> Judged
-    ensures { λ r. ⌜ asJudged r ≡ refusalOf (standingAt (second .0) (stateOf (now (t .entry)))) (heldVersion held) (asChange change) ⌝ }
+    ensures { λ r. ⌜ asJudged r ≡ refusalOf (judgedAt (second .0) (now (t .entry))) (heldVersion held) (asChange change) ⌝ }
 {
     let Change::Store = change else {
         return Judged::Free;

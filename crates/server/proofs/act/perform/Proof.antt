@@ -20,7 +20,7 @@ use Rattle.service.proofs.Calls.{room-least}
 use Rattle.plan.specs.declared.Held.{Held}
 use Rattle.plan.specs.Plan.{asPlan, asChange, asJudged, heldVersion, HoldsAt, refusalOf}
 use Rattle.plan.specs.declared.Judged.the-variants as judged
-use Rattle.plan.proofs.PlanLaws.{version-held}
+use Rattle.plan.proofs.PlanLaws.{version-held, judged-stands}
 use Rattle.server.specs.Act.{at, after, Planned, Agreed, Arrives}
 use Rattle.server.proofs.StepLaws.{does-refused, does-answered, held-come, refusal-come, step-named, step-refused, step-made}
 use borrow.Author.Needs.{needs}
@@ -90,7 +90,9 @@ module _ (c : tie.After-refusal-of) where
   planned = sym (c .before .before .plan-of .ensures ∙ rw same)
 
   judged-come : asJudged (c .refusal-of .result) ≡ refusalOf come (heldVersion (found .held-in .result)) change
-  judged-come = (rw (clock .present .ensures) at (c .refusal-of .ensures)) ∙ sym (refusal-come context (asked start) (state start) (heldVersion (found .held-in .result)) change)
+  judged-come =
+      (rw (clock .present .ensures, judged-stands _ _ (start .pre .0 .sound)) at (c .refusal-of .ensures))
+      ∙ sym (refusal-come context (asked start) (state start) (heldVersion (found .held-in .result)) change)
 
   unnamed : isEmpty (asked start .name) ≡ true
   unnamed =

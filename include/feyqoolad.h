@@ -67,9 +67,10 @@ enum fq_refusal {
     FQ_BAD_NUMBER = 5,          /* a vInt is too large or not shortest */
     FQ_TOO_LONG = 6,            /* a length is above its limit; a bulk reply has more than FQ_TABLE_KEYS entries */
     FQ_BAD_TEXT = 7,            /* a text is not UTF-8 */
-    FQ_BAD_FIELD = 8,           /* flags, intelligence, transaction type, scope, status, marker or more byte are not allowed */
+    FQ_BAD_FIELD = 8,           /* flags, intelligence, transaction type, scope, status, marker or more byte are not allowed; in a stats reply, the
+                                   number of statistics, a name or a value */
     FQ_NO_SUCH_CACHE = 9,       /* the cache name is not empty */
-    FQ_FULL = 10,               /* the write would add a key, and FQ_TABLE_KEYS are held */
+    FQ_FULL = 10,               /* the write would add a key, and FQ_TABLE_KEYS entries stand */
     FQ_NO_VERSIONS_LEFT = 11,   /* the write would take effect, and no version is left */
     FQ_NO_ROOM = 12,            /* the room lent is too small */
     FQ_NO_TABLE = 13,           /* the memory given is not a table */
@@ -122,8 +123,9 @@ uint64_t fq_same_key(const uint8_t *a, size_t a_len, const uint8_t *b, size_t b_
 
 /* The table: FQ_TABLE_SIZE bytes of the caller's, which only these functions write.
 
-   An entry whose deadline is not above the present second counts as absent. The present second is the greatest of the call's second and of those of the
-   calls that were served since fq_make or fq_load; deadlines are reckoned from it. A call that is refused leaves it, and the entries, as they were. */
+   An entry whose deadline is not 0 and not above the present second counts as absent. The present second is the greatest of the call's second and of those of the
+   calls that were served since fq_make or fq_load; deadlines are reckoned from it. A call that is refused leaves it, and the entries, as they were, and
+   counts in no statistic; the counts begin anew with fq_make and fq_load. */
 
 /* Whether the memory is a table. */
 bool fq_is_table(const uint8_t *table, size_t table_len);
@@ -132,16 +134,19 @@ bool fq_is_table(const uint8_t *table, size_t table_len);
 uint64_t fq_make(uint8_t *table, size_t table_len);
 
 /* Serves the request at the front of the input, at this second (UNIX time), and writes the reply at the front of `reply`, which has FQ_REPLY_ROOM bytes
-   or more. FQ_DONE is served. Told: bytes taken of the input, and bytes of the reply. Nothing is taken where more is needed and at 1 to 8, 12 and 13; a
-   stream from a client ends after 1 to 8. At 9 to 11 the request is taken. At 1 to 11 the reply is the error reply. A bulkGet or bulkGetKeys that is read
-   and has less than FQ_BULK_ROOM bytes is 12 too, and then it is taken, nothing is sent, and the stream goes on. */
+   or more. FQ_DONE is served. Told: bytes taken of the input, and bytes of the reply. Nothing is taken where more is needed, at 1 to 8, at 13, and at 12
+   for a reply of less than FQ_REPLY_ROOM bytes; a stream from a client ends after 1 to 8. At 9 to 11 the request is taken. At 1 to 11 the reply is the
+   error reply. A bulkGet or bulkGetKeys that is read and has less than FQ_BULK_ROOM bytes is 12 too, and then it is taken, nothing is sent, and the
+   stream goes on. */
 uint64_t fq_serve(const uint8_t *input, size_t input_len, uint8_t *table, size_t table_len, uint32_t second, uint8_t *reply, size_t reply_len,
                   uint64_t *answer, size_t answer_len);
 
 /* Serves the requests of the input one after the other, and answers as the last call does: 0 where what is left is no whole request, or nothing, 1 to 8
    where the stream ends, 12 where `reply` has less than FQ_REPLY_ROOM bytes, or 13. FQ_REPLY_FULL where less than that are left behind the replies, or
-   less than FQ_BULK_ROOM before a bulkGet or bulkGetKeys: no further call was made; take the replies out and call again with the input behind the bytes
-   taken. The table is checked once. Told: bytes taken, bytes of the replies, and how many calls there were. */
+   less than FQ_BULK_ROOM behind replies and before a bulkGet or bulkGetKeys: no further call was made; take the replies out and call again with the input
+   behind the bytes taken. Lend FQ_BULK_ROOM bytes at least: in less, a bulkGet or bulkGetKeys that no reply stands before is refused 12 as fq_serve refuses
+   it, taken without a reply, and the stream goes on without a word. The table is checked once. Told: bytes taken, bytes of the replies, and how many
+   calls there were. */
 uint64_t fq_serve_stream(const uint8_t *input, size_t input_len, uint8_t *table, size_t table_len, uint32_t second, uint8_t *reply, size_t reply_len,
                          uint64_t *answer, size_t answer_len);
 

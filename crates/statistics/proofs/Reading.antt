@@ -23,15 +23,15 @@ use Rattle.field.specs.declared.NumberRead.{NumberRead}
 use Rattle.field.proofs.NumberRead as number-read
 use Rattle.field.proofs.Parts.{number-stops}
 use Rattle.statistics.specs.declared.StatisticsRead.{StatisticsRead}
-use Rattle.statistics.specs.Statistics.{names, nameLimit, named, statistic, values, statistics, asStatistics}
+use Rattle.statistics.specs.Statistics.{titles, titleLimit, named, statistic, values, statistics, asStatistics}
 
 module _ (s : List ℕ) (at : ℕ) where
   pub at-statistic : (n : List ℕ) → readAt (statistic n) s at
-      ≡ after (readAt (limited nameLimit) s at) (λ m j. cond (sameList n m) (readAt decimal s j) (refused 8))
+      ≡ after (readAt (limited titleLimit) s at) (λ m j. cond (sameList n m) (readAt decimal s j) (refused 8))
   unfolding statistic named
   at-statistic n = simp (at-type, at-seq, at-guard, after-after, at-cond, after-only)
 
-  pub at-statistics : readAt statistics s at ≡ after (readAt vInt s at) (λ n j. cond (eqb n 9) (readAt (values names) s j) (refused 8))
+  pub at-statistics : readAt statistics s at ≡ after (readAt vInt s at) (λ n j. cond (eqb n 9) (readAt (values titles) s j) (refused 8))
   unfolding statistics
   at-statistics = simp (at-type, at-seq, at-guard, after-after, at-cond, after-only)
 
@@ -54,29 +54,29 @@ nine ns h = rest ns 0 9 (omega arith)
 
 -- the first i statistics are read, up to `here`, and stand at the front of ns
 pub record Told (s : List ℕ) (at i here : ℕ) (ns : List ℕ) : Type 0 where
-  pub rest : readAt (values names) s at ≡ after (readAt (values (drop i names)) s here) (λ vs j. whole (take i ns ++ vs) j)
+  pub rest : readAt (values titles) s at ≡ after (readAt (values (drop i titles)) s here) (λ vs j. whole (take i ns ++ vs) j)
   pub long : length ns ≡ 9
 
 module _ (s : List ℕ) (at : ℕ) where
   pub told-none : (ns : List ℕ) → length ns ≡ 9 → Told s at 0 at ns
-  told-none ns h = record { rest = sym (after-only (readAt (values names) s at)); long = h }
+  told-none ns h = record { rest = sym (after-only (readAt (values titles) s at)); long = h }
 
   module _ (i here : ℕ) (ns : List ℕ) (g : Told s at i here ns) (l : i < 9) where
     -- the next one decides
-    next : readAt (values names) s at
-        ≡ after (readAt (statistic (getD names i [])) s here) (λ v k. after (readAt (values (drop (suc i) names)) s k) (λ vs j. whole (take i ns ++ (v ∷ vs)) j))
-    unfolding names
-    next = g .rest ∙ rw (drop-cons names i [] l, at-values s here (getD names i []) (drop (suc i) names)) (simp after-after)
+    next : readAt (values titles) s at
+        ≡ after (readAt (statistic (getD titles i [])) s here) (λ v k. after (readAt (values (drop (suc i) titles)) s k) (λ vs j. whole (take i ns ++ (v ∷ vs)) j))
+    unfolding titles
+    next = g .rest ∙ rw (drop-cons titles i [] l, at-values s here (getD titles i []) (drop (suc i) titles)) (simp after-after)
 
-    pub stops : (r : NumberRead) (x : StatisticsRead) → asNumber r ≡ readAt (statistic (getD names i [])) s here → OneOf (1 ∷ 2 ∷ []) (tagOf number-read.the-type r)
-        → asStatistics x ≡ stopped (asNumber r) → asStatistics x ≡ readAt (values names) s at
+    pub stops : (r : NumberRead) (x : StatisticsRead) → asNumber r ≡ readAt (statistic (getD titles i [])) s here → OneOf (1 ∷ 2 ∷ []) (tagOf number-read.the-type r)
+        → asStatistics x ≡ stopped (asNumber r) → asStatistics x ≡ readAt (values titles) s at
     stops r x e k h = h ∙ sym (next ∙ rw (← e) (number-stops r k _))
 
-    pub told-more : (v k : ℕ) → readAt (statistic (getD names i [])) s here ≡ whole v k → Told s at (i + 1) k (set ns i v)
+    pub told-more : (v k : ℕ) → readAt (statistic (getD titles i [])) s here ≡ whole v k → Told s at (i + 1) k (set ns i v)
     told-more v k e =
         let q : take (suc i) (set ns i v) ≡ take i ns ++ (v ∷ []) = take-suc-set ns i v (omega (arith, g .long)) in
         record {
-          rest = next ∙ rw (e, add-one, q) (after-same (readAt (values (drop (suc i) names)) s k) (λ vs j. rw (append-assoc (take i ns) (v ∷ []) vs)));
+          rest = next ∙ rw (e, add-one, q) (after-same (readAt (values (drop (suc i) titles)) s k) (λ vs j. rw (append-assoc (take i ns) (v ∷ []) vs)));
           long = simp length-set (g .long);
         }
 
@@ -84,6 +84,6 @@ module _ (s : List ℕ) (at : ℕ) where
   unfolding values readAt as-type empty
   at-none here = rw add-zero
 
-  pub told-all : (here : ℕ) (ns : List ℕ) → Told s at 9 here ns → readAt (values names) s at ≡ whole ns here
-  unfolding names
+  pub told-all : (here : ℕ) (ns : List ℕ) → Told s at 9 here ns → readAt (values titles) s at ≡ whole ns here
+  unfolding titles
   told-all here ns g = g .rest ∙ rw (at-none here, append-nil, take-all 9 ns (omega (arith, g .long)))

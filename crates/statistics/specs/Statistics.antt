@@ -12,9 +12,9 @@ use Rattle.statistics.specs.declared.Statistics.{Statistics}
 use Rattle.statistics.specs.declared.StatisticsRead.{StatisticsRead}
 use Rattle.statistics.specs.declared.StatisticsRead.the-variants as r
 
--- "in the order of document 000's list, all nine"
-unfoldable pub names : List (List ℕ)
-names =
+-- the names: "in the order of document 000's list, all nine"
+unfoldable pub titles : List (List ℕ)
+titles =
     -- timeSinceStart
     (0x74 ∷ 0x69 ∷ 0x6d ∷ 0x65 ∷ 0x53 ∷ 0x69 ∷ 0x6e ∷ 0x63 ∷ 0x65 ∷ 0x53 ∷ 0x74 ∷ 0x61 ∷ 0x72 ∷ 0x74 ∷ [])
     -- currentNumberOfEntries
@@ -36,12 +36,12 @@ names =
     ∷ []
 
 -- "6 for a name above 22 bytes"
-abbrev pub nameLimit : ℕ
-nameLimit = 22
+abbrev pub titleLimit : ℕ
+titleLimit = 22
 
 -- a name: "8, never 7, for another .. name"
 unfoldable pub named : List ℕ → Codec (List ℕ)
-named n = guard (sameList n) 8 (limited nameLimit)
+named n = guard (sameList n) 8 (limited titleLimit)
 
 -- "each name and decimal value as strings"
 unfoldable pub statistic : List ℕ → Codec ℕ
@@ -54,7 +54,7 @@ values (n ∷ ns) = as-type (λ vs. ltb 0 (length vs)) (λ p. p .0 ∷ p .1) (λ
 
 -- "number of statistics as a vInt, then each"; "8 .. for another number of statistics"
 unfoldable pub statistics : Codec (List ℕ)
-statistics = as-type all (λ p. p .1) (λ vs. (9, vs)) (seq (guard (λ n. eqb n 9) 8 vInt) λ _. values names)
+statistics = as-type all (λ p. p .1) (λ vs. (9, vs)) (seq (guard (λ n. eqb n 9) 8 vInt) λ _. values titles)
 
 -- the nine, in this order
 abbrev pub listOf : Statistics → List ℕ

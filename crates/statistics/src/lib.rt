@@ -6,13 +6,13 @@ use field::Kind;
 use field::NumberRead;
 use field::SpanRead;
 ghost use mathlib.Core.Path.{_≡_};
-ghost use Prim.Native.Nat.{_<_};
-ghost use lib.ListN.{length, getD};
+ghost use Prim.Native.Nat.{_≤_, _<_};
+ghost use lib.ListN.{length, take, getD};
 ghost use mathlib.Core.List.{[]};
 ghost use Rattle.wire.specs.Codec.{readAt};
 ghost use Rattle.wire.specs.Same.{sameList};
 ghost use Rattle.field.specs.FieldRead.{asNumber, stopped};
-ghost use Rattle.statistics.specs.Statistics.{names, statistic, statistics, listOf, asStatistics};
+ghost use Rattle.statistics.specs.Statistics.{titles, statistic, statistics, listOf, asStatistics};
 
 // The statistics, in the order of their fields.
 pub struct Statistics {
@@ -83,22 +83,48 @@ fn read_named(s: &[u8], c: Cursor, name: &[u8]) -> NumberRead
     decimal::read_decimal(s, next)
 }
 
+// A name: its bytes at the front of an array, and how many they are.
+pub(crate) struct Title {
+    bytes: [u8; 22],
+    len: usize,
+}
+
+fn titled(bytes: &[u8; 22], len: usize) -> Title
+    ensures { λ r. ⌜ (r .bytes ≡ now (bytes .entry)) × (r .len ≡ len) ⌝ }
+{
+    Title {
+        bytes: *bytes,
+        len: len,
+    }
+}
+
+// The name at a place among them.
+pub(crate) fn title_at(i: usize) -> Title
+    requires { ⌜ i < 9 ⌝ }
+    ensures { λ r. ⌜ (take (r .len) (r .bytes) ≡ getD titles i []) × (r .len ≤ length (r .bytes)) ⌝ }
+{
+    match i {
+        0 => titled(b"timeSinceStart        ", 14),
+        1 => titled(b"currentNumberOfEntries", 22),
+        2 => titled(b"totalNumberOfEntries  ", 20),
+        3 => titled(b"stores                ", 6),
+        4 => titled(b"retrievals            ", 10),
+        5 => titled(b"hits                  ", 4),
+        6 => titled(b"misses                ", 6),
+        7 => titled(b"removeHits            ", 10),
+        _ => titled(b"removeMisses          ", 12),
+    }
+}
+
 // The statistic of a place among them.
 fn read_one(s: &[u8], c: Cursor, i: usize) -> NumberRead
     requires { ⌜ i < 9 ⌝ }
-    ensures { λ r. ⌜ asNumber r ≡ readAt (statistic (getD names i [])) (now (s .entry)) (c .at) ⌝ }
+    ensures { λ r. ⌜ asNumber r ≡ readAt (statistic (getD titles i [])) (now (s .entry)) (c .at) ⌝ }
 {
-    match i {
-        0 => read_named(s, c, b"timeSinceStart"),
-        1 => read_named(s, c, b"currentNumberOfEntries"),
-        2 => read_named(s, c, b"totalNumberOfEntries"),
-        3 => read_named(s, c, b"stores"),
-        4 => read_named(s, c, b"retrievals"),
-        5 => read_named(s, c, b"hits"),
-        6 => read_named(s, c, b"misses"),
-        7 => read_named(s, c, b"removeHits"),
-        _ => read_named(s, c, b"removeMisses"),
-    }
+    let name = title_at(i);
+    let bytes = name.bytes;
+    let len = name.len;
+    read_named(s, c, &bytes[..len])
 }
 
 // The nine numbers in their order.

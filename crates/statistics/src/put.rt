@@ -1,5 +1,6 @@
 // The writer of statistics: it judges, then measures, and then writes.
 use crate::Statistics;
+use crate::title_at;
 use field::put;
 ghost use mathlib.Core.Path.{_≡_};
 ghost use mathlib.Core.List.{[]};
@@ -7,7 +8,7 @@ ghost use Prim.Native.Nat.{_+_, _≤_, _<_};
 ghost use lib.ListN.{length, getD};
 ghost use Rattle.wire.specs.Codec.{Valid};
 ghost use Rattle.wire.specs.Write.{Room, Wrote, putAt};
-ghost use Rattle.statistics.specs.Statistics.{names, statistic, values, statistics, listOf};
+ghost use Rattle.statistics.specs.Statistics.{titles, statistic, values, statistics, listOf};
 
 // The nine numbers in their order.
 fn list_of(x: Statistics) -> [u64; 9]
@@ -29,7 +30,7 @@ fn list_of(x: Statistics) -> [u64; 9]
 // Whether each has a written form.
 fn keeps_rules(ns: [u64; 9]) -> bool
     requires { ⌜ length ns ≡ 9 ⌝ }
-    ensures { λ r. ⌜ r ≡ values names .ok ns ⌝ }
+    ensures { λ r. ⌜ r ≡ values titles .ok ns ⌝ }
 {
     let mut i = 0;
     while i < Statistics::COUNT {
@@ -77,29 +78,22 @@ fn put_named(out: &mut [u8], at: usize, name: &[u8], v: u64) -> usize
 // The statistic of a place among them.
 fn put_one(out: &mut [u8], at: usize, i: usize, v: u64) -> usize
     requires { ⌜ i < 9 ⌝ }
-    requires { ⌜ Valid (statistic (getD names i [])) v ⌝ }
-    requires { ⌜ Room (statistic (getD names i [])) v at (now out) ⌝ }
-    ensures { λ r. ⌜ Wrote (statistic (getD names i [])) v (now (out .entry)) (now (out .exit)) at r ⌝ }
+    requires { ⌜ Valid (statistic (getD titles i [])) v ⌝ }
+    requires { ⌜ Room (statistic (getD titles i [])) v at (now out) ⌝ }
+    ensures { λ r. ⌜ Wrote (statistic (getD titles i [])) v (now (out .entry)) (now (out .exit)) at r ⌝ }
 {
-    match i {
-        0 => put_named(out, at, b"timeSinceStart", v),
-        1 => put_named(out, at, b"currentNumberOfEntries", v),
-        2 => put_named(out, at, b"totalNumberOfEntries", v),
-        3 => put_named(out, at, b"stores", v),
-        4 => put_named(out, at, b"retrievals", v),
-        5 => put_named(out, at, b"hits", v),
-        6 => put_named(out, at, b"misses", v),
-        7 => put_named(out, at, b"removeHits", v),
-        _ => put_named(out, at, b"removeMisses", v),
-    }
+    let name = title_at(i);
+    let bytes = name.bytes;
+    let len = name.len;
+    put_named(out, at, &bytes[..len], v)
 }
 
 // The nine, one after the other.
 fn put_values(out: &mut [u8], at: usize, ns: [u64; 9]) -> usize
     requires { ⌜ length ns ≡ 9 ⌝ }
-    requires { ⌜ Valid (values names) ns ⌝ }
-    requires { ⌜ Room (values names) ns at (now out) ⌝ }
-    ensures { λ r. ⌜ Wrote (values names) ns (now (out .entry)) (now (out .exit)) at r ⌝ }
+    requires { ⌜ Valid (values titles) ns ⌝ }
+    requires { ⌜ Room (values titles) ns at (now out) ⌝ }
+    ensures { λ r. ⌜ Wrote (values titles) ns (now (out .entry)) (now (out .exit)) at r ⌝ }
 {
     let mut here = at;
     let mut i = 0;

@@ -7,7 +7,7 @@ use borrow.Author.Tests.{eq-eqb, ne-eqb}
 use Rattle.wire.specs.Codec.{readAt, whole}
 use Rattle.wire.specs.Number.{vInt}
 use Rattle.field.proofs.Parts.{number-stops}
-use Rattle.statistics.specs.Statistics.{names, values, statistics}
+use Rattle.statistics.specs.Statistics.{titles, values, statistics}
 use Rattle.statistics.proofs.Reading.{at-statistics, Told, told-none, told-more, told-all, stops}
 use borrow.Author.Needs.{needs}
 use Rattle.statistics.proofs.read_statistics.Statement.{statement}
@@ -35,7 +35,7 @@ returns-2 c = rw (at-statistics, begun (c .before), ne-eqb _ 9 (c .if1 .taken))
 
 -- there are nine: what is read from there on decides
 decided : (c : tie.Else1 Inv-loop μ-loop) → let r = c .before .before in let a = r .before .before .before .before .args in
-    readAt statistics (a .s .now) (a .c .at) ≡ readAt (values names) (a .s .now) (r .r .given .0 .1 .0 .at)
+    readAt statistics (a .s .now) (a .c .at) ≡ readAt (values titles) (a .s .now) (r .r .given .0 .1 .0 .at)
 decided c = rw (at-statistics, begun (c .before), eq-eqb _ 9 (c .if1 .left))
 
 loop-holds : tie.Need-loop-holds Inv-loop μ-loop

@@ -6,14 +6,14 @@ use native.Mathlib.Numerals.{add-one}
 use lib.ListN.{drop}
 use lib.Dec.{lit≤}
 use Rattle.decimal.proofs.DecimalLaws.{decimal-good, decimal-bad}
-use Rattle.statistics.specs.Statistics.{names, values}
+use Rattle.statistics.specs.Statistics.{titles, values}
 use Rattle.statistics.proofs.Writing.{ok-on, ok-none}
 use borrow.Author.Needs.{needs}
 use Rattle.statistics.proofs.put.keeps_rules.Statement.{statement}
 use Rattle.statistics.proofs.put.keeps_rules.Tie as tie
 
 abbrev Inv-loop : tie.InvT-loop
-Inv-loop ns i₀ i = (values names .ok ns ≡ values (drop i names) .ok (drop i ns)) × (i ≤ 9)
+Inv-loop ns i₀ i = (values titles .ok ns ≡ values (drop i titles) .ok (drop i ns)) × (i ≤ 9)
 
 abbrev μ-loop : tie.MeasureT-loop
 μ-loop ns i₀ i = 9 - i

@@ -26,7 +26,7 @@ use Rattle.field.specs.declared.SpanRead.{SpanRead}
 use Rattle.field.specs.declared.SpanRead.the-variants as p
 use Rattle.field.proofs.SpanRead as span-read
 use Rattle.field.proofs.Parts.{limited-in, part-read, no-part, span-stops, span-none}
-use Rattle.message.specs.Request.{keyLimit, valueLimit}
+use Rattle.message.specs.Arguments.{keyLimit, valueLimit}
 use Rattle.message.specs.Listing.{itemOf, listing}
 use Rattle.listing.specs.EntryRead.{asEntry, pairAt, itemAt, itemIn, countOf}
 use Rattle.listing.specs.declared.EntryRead.{EntryRead}

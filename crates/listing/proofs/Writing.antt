@@ -21,10 +21,10 @@ use Rattle.wire.proofs.UptoLaws.{length-upto, getD-upto}
 use Rattle.wire.proofs.WriteLaws.{put-wrote, wrote-seq, wrote-type}
 use Rattle.field.specs.FieldRead.{partOf}
 use Rattle.field.specs.declared.Span.{Span}
-use Rattle.message.specs.Request.{keyLimit, valueLimit, isEmpty}
+use Rattle.message.specs.Arguments.{keyLimit, valueLimit, isEmpty}
 use Rattle.message.specs.Listing.{itemOf, listing}
 use Rattle.message.proofs.ListingLaws.{longest, itemOf-most, listing-most}
-use Rattle.listing.specs.EntryWrite.{spanAt, entryAt, listedIn, Short, lengthOf}
+use Rattle.listing.specs.EntryWrite.{spanAt, entryNamed, listedIn, Short, lengthOf}
 
 -- how many bytes a value takes
 module _ {A : Type 0} (c : Codec A) (a : A) where
@@ -116,13 +116,13 @@ module _ (bytes numbers : List ℕ) where
   unfolding listedIn
   listed-length = length-upto _ _
 
-  listed-at : (i : ℕ) → i < length numbers / 4 → getD (listedIn bytes numbers) i ([], []) ≡ entryAt bytes numbers i
+  listed-at : (i : ℕ) → i < length numbers / 4 → getD (listedIn bytes numbers) i ([], []) ≡ entryNamed bytes numbers i
   unfolding listedIn
-  listed-at i h = getD-upto (λ i. entryAt bytes numbers i) (length numbers / 4) i ([], []) h
+  listed-at i h = getD-upto (λ i. entryNamed bytes numbers i) (length numbers / 4) i ([], []) h
 
   pub named : (i : ℕ) → i < length numbers / 4 → {k v : List ℕ} {p q : Span} → k ≡ partOf bytes p → p ≡ spanAt numbers (i * 4) → v ≡ partOf bytes q → q ≡ spanAt numbers (i * 4 + 2)
       → (k, v) ≡ getD (listedIn bytes numbers) i ([], [])
-  unfolding entryAt
+  unfolding entryNamed
   named i h e p f q = rw (e, p, f, q) (sym (listed-at i h))
 
   module _ (values : Bool) (few : length numbers / 4 ≤ 128) (i : ℕ) (l : i < length numbers / 4) {k v : List ℕ} (e : (k, v) ≡ getD (listedIn bytes numbers) i ([], []))

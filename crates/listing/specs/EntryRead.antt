@@ -7,7 +7,7 @@ use Rattle.wire.specs.Codec.{Read, whole, more, refused}
 use Rattle.wire.specs.Field.{limited}
 use Rattle.field.specs.FieldRead.{partOf, spanTo}
 use Rattle.field.specs.declared.Span.{Span}
-use Rattle.message.specs.Request.{keyLimit}
+use Rattle.message.specs.Arguments.{keyLimit}
 use Rattle.listing.specs.declared.EntryRead.{EntryRead}
 use Rattle.listing.specs.declared.EntryRead.the-variants as e
 

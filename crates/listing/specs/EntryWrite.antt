@@ -17,12 +17,12 @@ abbrev pub spanAt : List ℕ → ℕ → Span
 spanAt numbers i = record { start = getD numbers i 0; len = getD numbers (i + 1) 0 }
 
 -- four numbers name an entry: its key, and then its value
-unfoldable pub entryAt : List ℕ → List ℕ → ℕ → List ℕ × List ℕ
-entryAt bytes numbers i = (partOf bytes (spanAt numbers (i * 4)), partOf bytes (spanAt numbers (i * 4 + 2)))
+unfoldable pub entryNamed : List ℕ → List ℕ → ℕ → List ℕ × List ℕ
+entryNamed bytes numbers i = (partOf bytes (spanAt numbers (i * 4)), partOf bytes (spanAt numbers (i * 4 + 2)))
 
 -- the entries that numbers name; less than four at the end name none
 unfoldable pub listedIn : List ℕ → List ℕ → List (List ℕ × List ℕ)
-listedIn bytes numbers = upto (λ i. entryAt bytes numbers i) (length numbers / 4)
+listedIn bytes numbers = upto (λ i. entryNamed bytes numbers i) (length numbers / 4)
 
 -- numbers that alone tell that the entries have a written form, with values, whatever the bytes are
 abbrev pub Short : List ℕ → Type 0

@@ -5,7 +5,8 @@ use Prim.Native.Nat.{ℕ, _<_}
 use lib.Dec.{ltb}
 use borrow.Author.Tests.{ltb-true}
 use Rattle.wire.proofs.Laws.{never}
-use Rattle.message.specs.Request.{Request, isEmpty}
+use Rattle.message.specs.Arguments.{isEmpty}
+use Rattle.message.specs.Request.{Request}
 use Rattle.map.specs.State.{State}
 use Rattle.map.specs.Plan.{Change, keep, store, drop, empty}
 use Rattle.map.specs.Step.{Context, Result, Outcome, refused, answered, lastVersion, stored, dropped, emptied, full, planned, result, act, core, arrive, step}

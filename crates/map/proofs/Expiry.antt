@@ -13,7 +13,8 @@ use Rattle.wire.proofs.Laws.{never}
 use Rattle.wire.proofs.Basics.{pick}
 use Rattle.message.specs.declared.Form.{Form}
 use Rattle.message.specs.declared.Form.the-variants as form
-use Rattle.message.specs.Request.{Request, isEmpty}
+use Rattle.message.specs.Arguments.{isEmpty}
+use Rattle.message.specs.Request.{Request}
 use Rattle.message.specs.ReplyTable.{bodyAt, allowed, table}
 use Rattle.message.specs.Payload.{formOf}
 use Rattle.map.specs.State.{Entry, State}

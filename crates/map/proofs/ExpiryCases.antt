@@ -5,7 +5,8 @@ use Prim.Native.Nat.{ℕ}
 use Rattle.wire.specs.Same.{sameList}
 use Rattle.message.specs.declared.Operation.{Operation}
 use Rattle.message.specs.declared.Operation.the-variants.{Put, Get, Remove}
-use Rattle.message.specs.Request.{Request, args}
+use Rattle.message.specs.Arguments.{args}
+use Rattle.message.specs.Request.{Request}
 use Rattle.message.specs.ReplyTable.{bodyAt}
 use Rattle.map.specs.History.{noHistory}
 use Rattle.map.specs.State.{Entry, State, find, without}

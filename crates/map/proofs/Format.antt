@@ -16,17 +16,18 @@ use Rattle.wire.proofs.Basics.{pick}
 use Rattle.message.specs.declared.Operation.{Operation}
 use Rattle.message.specs.declared.Operation.the-variants.{Put, Get, PutIfAbsent, Replace, ReplaceIfUnmodified, Remove, RemoveIfUnmodified, ContainsKey, GetWithVersion, Clear, Stats, Ping, BulkGet, BulkGetKeys}
 use Rattle.message.specs.Operation.{codeOf}
-use Rattle.message.specs.Request.{valueLimit, Request, request}
+use Rattle.message.specs.Arguments.{valueLimit}
+use Rattle.message.specs.Request.{Request, request}
 use Rattle.message.specs.ReplyTable as m
 use Rattle.message.specs.ReplyTable.{Body, table, bodyAt, isAllowed, allowed}
 use Rattle.message.specs.Payload.{Payload, noBody, valueBody, versionedBody, statisticsBody, listedBody, fieldsOf, formOf}
-use Rattle.message.specs.Reply.{Reply, fields, message, isAwaited, rowsOf, bulkOperation, bulkReply, reply}
+use Rattle.message.specs.Reply.{Reply, fields, message, isAwaited, statusesOf, bulkOperation, bulkReply, reply, longestReply}
 use Rattle.message.specs.Listing.{mostListed}
 use Rattle.message.proofs.RequestLaws.{code-found}
 use Rattle.message.proofs.RequestParts as asked
-use Rattle.message.proofs.Every.{every, rows-are}
+use Rattle.message.proofs.Every.{every, statuses-are}
 use Rattle.message.proofs.ReplyParts.{whole-reply}
-use Rattle.message.proofs.ReplySize.{longestReply, reply-most}
+use Rattle.message.proofs.ReplySize.{reply-most}
 use Rattle.statistics.specs.Statistics as stats
 use Rattle.statistics.proofs.Writing.{statistics-good}
 use Rattle.map.specs.History.{startOf}
@@ -86,11 +87,11 @@ told BulkGetKeys x f = (refl, tt)
 
 -- the code of an operation's reply is awaited, and its rows are the operation's
 abbrev Coded : Operation → Type 0
-Coded o = Valid (guard (isAwaited o) 4 byte) (codeOf o + 1) × (rowsOf o (codeOf o + 1) ≡ table o)
+Coded o = Valid (guard (isAwaited o) 4 byte) (codeOf o + 1) × (statusesOf o (codeOf o + 1) ≡ table o)
 
 coded : (o : Operation) → Coded o
 unfolding guard byte
-coded o = (every (λ o. guard (isAwaited o) 4 byte .ok (codeOf o + 1)) refl o, rows-are o)
+coded o = (every (λ o. guard (isAwaited o) 4 byte .ok (codeOf o + 1)) refl o, statuses-are o)
 
 -- the bytes of what is shown
 abbrev carried : Shown → Payload
@@ -189,7 +190,7 @@ unfolding flat pieces
 pieces-enc r a = ap (λ (s : List ℕ). 0xa1 ∷ s) (append-assoc (vLong .enc (r .id)) ((codeOf (r .op) + 1) ∷ a .status ∷ 0 ∷ []) (flat (shownPieces (a .shown))))
 
 module _ (c : Context) (r : Request) (st : State) where
-  reply-is : reply (askedBy r) ≡ message (isAwaited (r .op)) (rowsOf (r .op)) (wantsOld r)
+  reply-is : reply (askedBy r) ≡ message (isAwaited (r .op)) (statusesOf (r .op)) (wantsOld r)
   unfolding reply
   reply-is = rw (code-found (r .op))
 
@@ -211,7 +212,7 @@ module _ (c : Context) (r : Request) (st : State) where
       pieces-enc r (result c r st)
       ∙ rw (
         reply-is,
-        message-enc (isAwaited (r .op)) (rowsOf (r .op)) (wantsOld r) (replyTo r (result c r st)),
+        message-enc (isAwaited (r .op)) (statusesOf (r .op)) (wantsOld r) (replyTo r (result c r st)),
         coded (r .op) .1,
         shown-enc (wantsOld r) row (statistics c st) (listedBy r st) (held r st) (few l) (planned-told .1),
       )
@@ -237,7 +238,7 @@ module _ (c : Context) (r : Request) (st : State) where
     unfolding result
     reply-valid =
         rw reply-is
-        (whole-reply (isAwaited (r .op)) (rowsOf (r .op)) (wantsOld r) (replyTo r (result c r st))
+        (whole-reply (isAwaited (r .op)) (statusesOf (r .op)) (wantsOld r) (replyTo r (result c r st))
         (record {
           id = asked.parts r v .id;
           op = coded (r .op) .0;

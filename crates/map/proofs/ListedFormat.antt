@@ -11,7 +11,7 @@ use Rattle.wire.specs.Listed.{listed}
 use Rattle.wire.proofs.Laws.{seq-good, type-good, bytes-are}
 use Rattle.wire.proofs.FieldLaws.{limited-good}
 use Rattle.wire.proofs.ListedEnc.{item-enc, nil-enc, cons-enc, Valids, listed-good}
-use Rattle.message.specs.Request.{keyLimit, valueLimit}
+use Rattle.message.specs.Arguments.{keyLimit, valueLimit}
 use Rattle.message.specs.Listing.{mostListed, itemOf, listing}
 use Rattle.map.specs.State.{Entry}
 use Rattle.map.specs.Table.{Each, Sizes}

@@ -5,7 +5,8 @@ use mathlib.Core.Bool.{Bool, true, false, cond}
 use mathlib.Core.Option.{Option, some}
 use Prim.Native.Nat.{ℕ}
 use lib.Dec.{ltb}
-use Rattle.message.specs.Request.{Request, isEmpty}
+use Rattle.message.specs.Arguments.{isEmpty}
+use Rattle.message.specs.Request.{Request}
 use Rattle.map.specs.State.{Entry, State, find, without, hasKey}
 use Rattle.map.specs.Deadline.{expired}
 use Rattle.map.specs.Plan.{Change, keep, store, drop, empty}

@@ -7,7 +7,8 @@ use Rattle.wire.specs.Number.{vInt, vLong}
 use Rattle.wire.specs.Field.{entryVersion, limited}
 use Rattle.statistics.specs.Statistics as stats
 use Rattle.message.specs.Operation.{codeOf}
-use Rattle.message.specs.Request.{Request, keyLimit}
+use Rattle.message.specs.Arguments.{keyLimit}
+use Rattle.message.specs.Request.{Request}
 use Rattle.message.specs.Payload.{Payload}
 use Rattle.message.specs.Reply as message
 use Rattle.message.specs.declared.Asked.{Asked}

@@ -5,7 +5,8 @@ use mathlib.Core.Option.{Option, none, some}
 use Prim.Native.Nat.{ℕ, suc, _-_, _%_, max}
 use lib.ListN.{length}
 use lib.Dec.{eqb, leb, ltb}
-use Rattle.message.specs.Request.{Request, isEmpty}
+use Rattle.message.specs.Arguments.{isEmpty}
+use Rattle.message.specs.Request.{Request}
 use Rattle.message.specs.ReplyTable.{bodyAt, allowed, table}
 use Rattle.message.specs.Payload.{formOf}
 use Rattle.map.specs.History.{tally, startOf}

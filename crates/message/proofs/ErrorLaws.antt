@@ -21,8 +21,8 @@ use Rattle.message.specs.declared.Asked.{Asked}
 use Rattle.message.specs.Operation.{codeOf, findCode}
 use Rattle.message.specs.ReplyTable.{text, errors, errorCode, bodyAt, isAllowed, allowed}
 use Rattle.message.specs.Payload.{textLimit, payload, textBody, fieldsOf, formOf}
-use Rattle.message.specs.Reply.{Reply, fields, message, isAwaited, rowsOf, reply, errorReply}
-use Rattle.message.specs.Refusal.{Row, rows, rowOf, refusal}
+use Rattle.message.specs.Reply.{Reply, fields, message, isAwaited, statusesOf, reply, errorReply}
+use Rattle.message.specs.Refusal.{WireError, errorTable, errorIn, refusal}
 use Rattle.message.proofs.ReplyParts.{Parts, parts, whole-reply}
 use Rattle.message.proofs.ReplySize.{error-text}
 
@@ -34,24 +34,24 @@ module _ (o : Operation) (flag : Bool) (r : Reply) (e : eqb (r .op) errorCode �
   awaited : isAwaited o (r .op) ≡ true
   awaited = rw e (or-true (eqb (r .op) (codeOf o + 1)))
 
-  error-rows : rowsOf o (r .op) ≡ errors
-  error-rows = rw e
+  error-statuses : statusesOf o (r .op) ≡ errors
+  error-statuses = rw e
 
   -- what an error carries does not go by the flag
-  error-body : fieldsOf (formOf flag (allowed (bodyAt (r .status) (rowsOf o (r .op))))) ≡ fieldsOf (formOf false (allowed (bodyAt (r .status) errors)))
+  error-body : fieldsOf (formOf flag (allowed (bodyAt (r .status) (statusesOf o (r .op))))) ≡ fieldsOf (formOf false (allowed (bodyAt (r .status) errors)))
   unfolding fieldsOf
-  error-body = rw (error-rows, error-text (r .status) t)
+  error-body = rw (error-statuses, error-text (r .status) t)
 
-  error-parts : Parts (λ op. eqb op errorCode) (λ op. errors) false r → Parts (isAwaited o) (rowsOf o) flag r
+  error-parts : Parts (λ op. eqb op errorCode) (λ op. errors) false r → Parts (isAwaited o) (statusesOf o) flag r
   error-parts p =
       record {
         id = p .id;
         op = guard-good (isAwaited o) 4 byte awaited (guard-valid _ 4 byte (r .op) (p .op) .1);
-        status = rw error-rows (p .status);
+        status = rw error-statuses (p .status);
         body = rw error-body (p .body);
       }
 
-  error-same : message (isAwaited o) (rowsOf o) flag .enc r ≡ errorReply .enc r
+  error-same : message (isAwaited o) (statusesOf o) flag .enc r ≡ errorReply .enc r
   unfolding message errorReply fields seq guard as-type
   error-same = rw error-body
 
@@ -62,7 +62,7 @@ error-reply a o f r v =
     let p = parts (λ op. eqb op errorCode) (λ op. errors) false r v in
     let e = guard-valid _ 4 byte (r .op) (p .op) .0 in
     let t = guard-valid _ 8 byte (r .status) (p .status) .0 in
-    rw f (whole-reply (isAwaited o) (rowsOf o) (a .flag) r (error-parts o (a .flag) r e t p), error-same o (a .flag) r e t)
+    rw f (whole-reply (isAwaited o) (statusesOf o) (a .flag) r (error-parts o (a .flag) r e t p), error-same o (a .flag) r e t)
 
 -- an error reply of any id, status and text
 error-good : (id s : ℕ) (t : List ℕ) → id < 0x8000_0000_0000_0000 → Valid (guard (λ s. isAllowed (bodyAt s errors)) 8 byte) s → Valid (limitedText textLimit) t
@@ -77,44 +77,44 @@ error-good id s t h v w =
       body = rw (error-text s (guard-valid (λ s. isAllowed (bodyAt s errors)) 8 byte s v .0)) (type-good _ _ _ _ refl w);
     })
 
--- rows numbered from n on, each with a status and a text that an error reply can carry
-record Fit (w : Row) : Type 0 where
+-- errors numbered from n on, each with a status and a text that an error reply can carry
+record Fit (w : WireError) : Type 0 where
   status : Valid (guard (λ s. isAllowed (bodyAt s errors)) 8 byte) (w .status)
   text : Valid (limitedText textLimit) (w .text)
 
-unfoldable fit : Row → Bool
+unfoldable fit : WireError → Bool
 fit w = guard (λ s. isAllowed (bodyAt s errors)) 8 byte .ok (w .status) && limitedText textLimit .ok (w .text)
 
-unfoldable numbered : ℕ → List Row → Bool
+unfoldable numbered : ℕ → List WireError → Bool
 numbered n [] = true
 numbered n (w ∷ ws) = eqb (w .number) n && (fit w && numbered (suc n) ws)
 
-fit-true : (w : Row) → fit w ≡ true → Fit w
+fit-true : (w : WireError) → fit w ≡ true → Fit w
 unfolding fit
 fit-true w e = let x = both _ _ e in record { status = x .0; text = x .1 }
 
-row-fit : (k n : ℕ) (ws : List Row) → numbered n ws ≡ true → n ≤ k → k < n + length ws → Fit (rowOf k ws)
-unfolding rowOf numbered
-row-fit k n [] t l u = absurd (omega arith)
-row-fit k n (w ∷ ws) t l u =
+error-fit : (k n : ℕ) (ws : List WireError) → numbered n ws ≡ true → n ≤ k → k < n + length ws → Fit (errorIn k ws)
+unfolding errorIn numbered
+error-fit k n [] t l u = absurd (omega arith)
+error-fit k n (w ∷ ws) t l u =
     let x = both (eqb (w .number) n) (fit w && numbered (suc n) ws) t in
     let y = both (fit w) (numbered (suc n) ws) (x .1) in
-    go (eqb k (w .number)) refl (eqb-true (w .number) n (x .0)) (fit-true w (y .0)) (row-fit k (suc n) ws (y .1))
+    go (eqb k (w .number)) refl (eqb-true (w .number) n (x .0)) (fit-true w (y .0)) (error-fit k (suc n) ws (y .1))
   where
-    go : (b : Bool) → eqb k (w .number) ≡ b → w .number ≡ n → Fit w → (suc n ≤ k → k < suc n + length ws → Fit (rowOf k ws)) → Fit (cond b w (rowOf k ws))
+    go : (b : Bool) → eqb k (w .number) ≡ b → w .number ≡ n → Fit w → (suc n ≤ k → k < suc n + length ws → Fit (errorIn k ws)) → Fit (cond b w (errorIn k ws))
     go true e q f ih = f
     go false e q f ih = ih (omega (arith, eqb-false k (w .number) e)) (omega arith)
 
-rows-numbered : numbered 1 rows ≡ true
-unfolding numbered fit rows bodyAt guard byte limitedText limited as-type seq raw vInt number isBytes isText textAfter stepOf leadOf t.rowOf t.table
-rows-numbered = refl
+errors-numbered : numbered 1 errorTable ≡ true
+unfolding numbered fit errorTable bodyAt guard byte limitedText limited as-type seq raw vInt number isBytes isText textAfter stepOf leadOf t.rangeOf t.table
+errors-numbered = refl
 
-rows-count : length rows ≡ 11
-unfolding rows
-rows-count = refl
+errors-count : length errorTable ≡ 11
+unfolding errorTable
+errors-count = refl
 
 pub refusal-good : (k id : ℕ) → 1 ≤ k → k ≤ 11 → id < 0x8000_0000_0000_0000 → Valid errorReply (refusal k id)
 unfolding refusal
 refusal-good k id l u h =
-    let f = row-fit k 1 rows rows-numbered l (omega (arith, rows-count)) in
-    error-good id (rowOf k rows .status) (rowOf k rows .text) h (f .status) (f .text)
+    let f = error-fit k 1 errorTable errors-numbered l (omega (arith, errors-count)) in
+    error-good id (errorIn k errorTable .status) (errorIn k errorTable .text) h (f .status) (f .text)

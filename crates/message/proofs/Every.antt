@@ -17,7 +17,7 @@ use Rattle.message.specs.declared.Operation.{Operation}
 use Rattle.message.specs.declared.Operation.the-variants.{Put, Get, PutIfAbsent, Replace, ReplaceIfUnmodified, Remove, RemoveIfUnmodified, ContainsKey, GetWithVersion, Clear, Stats, Ping, BulkGet, BulkGetKeys}
 use Rattle.message.specs.Operation.{codeOf}
 use Rattle.message.specs.ReplyTable.{Body, nothing, table, bodyAt, allowed}
-use Rattle.message.specs.Reply.{rowsOf}
+use Rattle.message.specs.Reply.{statusesOf}
 use Rattle.message.proofs.Operation as code
 
 abbrev pub operations : List Operation
@@ -66,7 +66,7 @@ every-of tags test h o k = go (test o) (hasKey tags (tagOf code.the-type o)) ref
     go false true e q = never (cc)
     go false false e q = absurd (miss tags (tagOf code.the-type o) (rw e tt) k)
 
--- each body of rows passes a test: so does that of any status
+-- each body of a list passes a test: so does that of any status
 abbrev pub bodies : (Body → Bool) → List (ℕ × Body) → Bool
 bodies test [] = true
 bodies test (r ∷ rs) = test (r .1) && bodies test rs
@@ -81,6 +81,6 @@ every-body test s (r ∷ rs) n h =
 pub code-small : (o : Operation) → codeOf o < 0x1e
 code-small o = ltb-true (codeOf o) 0x1e (every (λ o. ltb (codeOf o) 0x1e) refl o)
 
--- the rows of a reply to an operation are the operation's
-pub rows-are : (o : Operation) → rowsOf o (codeOf o + 1) ≡ table o
-rows-are o = rw (ne-eqb (codeOf o + 1) 0x50 (λ e. omega (arith, code-small o)))
+-- the statuses of a reply to an operation are the operation's
+pub statuses-are : (o : Operation) → statusesOf o (codeOf o + 1) ≡ table o
+statuses-are o = rw (ne-eqb (codeOf o + 1) 0x50 (λ e. omega (arith, code-small o)))

@@ -15,7 +15,7 @@ use Rattle.wire.specs.Listed.{moreByte, behind, item, others, listed}
 use Rattle.wire.proofs.Laws.{Laws, seq-laws, type-laws}
 use Rattle.wire.proofs.FieldLaws.{limited-laws}
 use Rattle.wire.proofs.ListedLaws.{listed-laws}
-use Rattle.message.specs.Request.{keyLimit, valueLimit, isEmpty}
+use Rattle.message.specs.Arguments.{keyLimit, valueLimit, isEmpty}
 use Rattle.message.specs.Listing.{mostListed, itemOf, listing}
 use Rattle.message.proofs.Most.{Most, most-less, seq-most, guard-most, type-most, empty-most, byte-most, limited-most}
 

@@ -12,7 +12,8 @@ use Rattle.wire.proofs.Basics.{pick}
 use Rattle.field.specs.FieldRead.{limitedText}
 use Rattle.text.specs.Text.{isText}
 use Rattle.message.specs.Edition.{Edition}
-use Rattle.message.specs.Request.{Shape, keyed, writes, writesIf, keyedIf, bare, bulk, argsOf, operation, transaction, opFits, fields, request}
+use Rattle.message.specs.Arguments.{Shape, keyed, writes, writesIf, keyedIf, bare, bulk, argsOf}
+use Rattle.message.specs.Request.{operation, transaction, opFits, fields, request}
 
 -- a reading that is refused only for a reason from 1 to 8
 abbrev Fair : {A : Type 0} → Read A → Type 0

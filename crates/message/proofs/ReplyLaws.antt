@@ -20,10 +20,10 @@ use Rattle.message.specs.declared.Form.{Form}
 use Rattle.message.specs.declared.Form.the-variants as form
 use Rattle.message.specs.declared.Asked.{Asked}
 use Rattle.message.specs.Operation.{findCode}
-use Rattle.message.specs.Request.{valueLimit}
+use Rattle.message.specs.Arguments.{valueLimit}
 use Rattle.message.specs.ReplyTable.{Body, bodyAt, isAllowed, allowed}
 use Rattle.message.specs.Payload.{textLimit, Payload, payload, counted, noEntryVersion, noValue, noText, noStatistics, noEntries, noLists, bulkPayload, noBody, valueBody, versionedBody, textBody, statisticsBody, listedBody, fieldsOf, formOf}
-use Rattle.message.specs.Reply.{Fields, fields, toReply, fromReply, message, isAwaited, rowsOf, replyTo, reply}
+use Rattle.message.specs.Reply.{Fields, fields, toReply, fromReply, message, isAwaited, statusesOf, replyTo, reply}
 use Rattle.message.specs.Listing.{listing}
 use Rattle.message.proofs.RequestLaws.{is-empty, is-zero, text-laws}
 use Rattle.message.proofs.ListingLaws.{listing-laws}
@@ -104,19 +104,19 @@ fieldsOf-laws form.Text = textBody-laws
 fieldsOf-laws form.Statistics = statisticsBody-laws
 fieldsOf-laws (form.Listed values) = listedBody-laws values
 
--- a message, whatever operations may come and whatever their rows are
-module _ (comes : ℕ → Bool) (rows : ℕ → List (ℕ × Body)) (flag : Bool) where
-  fields-laws : Laws (fields comes rows flag)
+-- a message, whatever operations may come and whatever their statuses are
+module _ (comes : ℕ → Bool) (statuses : ℕ → List (ℕ × Body)) (flag : Bool) where
+  fields-laws : Laws (fields comes statuses flag)
   unfolding fields
   fields-laws =
       seq-laws _ _ (guard-laws (λ m. eqb m 0xa1) 1 byte byte-laws) λ _.
       seq-laws _ _ vLong-laws λ _.
       seq-laws _ _ (guard-laws comes 4 byte byte-laws) λ op.
-      seq-laws _ _ (guard-laws (λ s. isAllowed (bodyAt s (rows op))) 8 byte byte-laws) λ status.
-      seq-laws _ _ (guard-laws (λ m. eqb m 0) 8 byte byte-laws) λ _. fieldsOf-laws (formOf flag (allowed (bodyAt status (rows op))))
+      seq-laws _ _ (guard-laws (λ s. isAllowed (bodyAt s (statuses op))) 8 byte byte-laws) λ status.
+      seq-laws _ _ (guard-laws (λ m. eqb m 0) 8 byte byte-laws) λ _. fieldsOf-laws (formOf flag (allowed (bodyAt status (statuses op))))
 
   -- the magic and the marker of what is read
-  fields-back : (p : ℕ × Fields) → Valid (fields comes rows flag) p → fromReply (toReply p) ≡ p
+  fields-back : (p : ℕ × Fields) → Valid (fields comes statuses flag) p → fromReply (toReply p) ≡ p
   unfolding fields
   fields-back p v =
       let a = seq-valid _ _ p v in
@@ -125,13 +125,13 @@ module _ (comes : ℕ → Bool) (rows : ℕ → List (ℕ × Body)) (flag : Bool
       let k = eqb-true (p .1 .1 .1 .1 .0) 0 (guard-valid (λ m. eqb m 0) 8 byte (p .1 .1 .1 .1 .0) (b .0) .0) in
       ap₂ {C = ℕ × Fields} (λ (m k : ℕ). (m, (p .1 .0, (p .1 .1 .0, (p .1 .1 .1 .0, (k, p .1 .1 .1 .1 .1)))))) (sym m) (sym k)
 
-  message-laws : Laws (message comes rows flag)
+  message-laws : Laws (message comes statuses flag)
   unfolding message
-  message-laws = type-laws all toReply fromReply (fields comes rows flag) fields-laws (λ r e. refl) (λ p v. (fields-back p v, refl))
+  message-laws = type-laws all toReply fromReply (fields comes statuses flag) fields-laws (λ r e. refl) (λ p v. (fields-back p v, refl))
 
 reply-to-laws : (o : Option Operation) (flag : Bool) → Laws (replyTo o flag)
 reply-to-laws none flag = refuse-laws 4
-reply-to-laws (some o) flag = message-laws (isAwaited o) (rowsOf o) flag
+reply-to-laws (some o) flag = message-laws (isAwaited o) (statusesOf o) flag
 
 pub reply-laws : (a : Asked) → Laws (reply a)
 unfolding reply

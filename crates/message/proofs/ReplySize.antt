@@ -1,33 +1,32 @@
 -- The greatest length of a reply. Assumes nothing.
-use mathlib.Core.Path.{_≡_, refl}
+use mathlib.Core.Path.{_≡_, refl, subst}
 use mathlib.Core.List.{List}
 use mathlib.Core.Option.{Option, some}
 use mathlib.Core.Bool.{Bool, true, false, cond}
-use Prim.Native.Nat.{ℕ, _+_, _*_, _≤_, zero-le}
+use Prim.Native.Nat.{ℕ, _+_, _-_, _*_, _≤_, zero-le}
 use native.Mathlib.Omega.{arith}
 use lib.ListN.{length}
 use lib.Dec.{eqb, leb, lit≤}
-use borrow.Author.Tests.{leb-true, le-leb}
+use borrow.Author.Tests.{leb-true, le-leb, eqb-true}
 use Rattle.wire.specs.Codec.{Valid}
 use Rattle.wire.proofs.Laws.{never, guard-valid}
 use Rattle.wire.proofs.Basics.{pick}
 use Rattle.statistics.proofs.Writing.{statistics-most}
 use Rattle.message.specs.declared.Operation.{Operation}
-use Rattle.message.specs.declared.Operation.the-variants.{Put, Get, PutIfAbsent, Replace, ReplaceIfUnmodified, Remove, RemoveIfUnmodified, ContainsKey, GetWithVersion, Clear, Stats, Ping, BulkGet, BulkGetKeys}
 use Rattle.message.specs.Operation.{codeOf}
-use Rattle.message.specs.Request.{valueLimit}
+use Rattle.message.specs.Arguments.{valueLimit}
 use Rattle.message.specs.ReplyTable.{table, Body, nothing, old, oldNone, value, versioned, text, statistics, entries, keys, errors, errorCode, bodyAt, isAllowed, allowed}
 use Rattle.message.specs.Payload.{textLimit, noBody, valueBody, versionedBody, textBody, statisticsBody, listedBody, fieldsOf, formOf}
-use Rattle.message.specs.Reply.{asked, Reply, fields, message, isAwaited, rowsOf, reply, errorReply}
+use Rattle.message.specs.Reply.{asked, Reply, fields, message, isAwaited, statusesOf, reply, errorReply, longestReply}
 use Rattle.message.proofs.Every.{every, bodies, every-body}
 use Rattle.message.proofs.RequestLaws.{code-found}
 use Rattle.message.proofs.ListingLaws.{longest, listing-most}
 use Rattle.message.proofs.Most.{Most, most-less, seq-most, guard-most, type-most, empty-most, byte-most, big-most, vLong-most, limited-most, text-most}
 
 -- header and body
-module _ (comes : ℕ → Bool) (rows : ℕ → List (ℕ × Body)) (flag : Bool) (n : ℕ)
-    (body : (op status : ℕ) → isAllowed (bodyAt status (rows op)) ≡ true → Most (fieldsOf (formOf flag (allowed (bodyAt status (rows op))))) n) where
-  fields-most : Most (fields comes rows flag) (1 + (9 + (1 + (1 + (1 + n)))))
+module _ (comes : ℕ → Bool) (statuses : ℕ → List (ℕ × Body)) (flag : Bool) (n : ℕ)
+    (body : (op status : ℕ) → isAllowed (bodyAt status (statuses op)) ≡ true → Most (fieldsOf (formOf flag (allowed (bodyAt status (statuses op))))) n) where
+  fields-most : Most (fields comes statuses flag) (1 + (9 + (1 + (1 + (1 + n)))))
   unfolding fields
   fields-most =
       seq-most (guard-most _ _ byte-most) λ _ _.
@@ -36,7 +35,7 @@ module _ (comes : ℕ → Bool) (rows : ℕ → List (ℕ × Body)) (flag : Bool
       seq-most (guard-most _ _ byte-most) λ status v.
       seq-most (guard-most _ _ byte-most) λ _ _. body op status (guard-valid _ _ _ status v .0)
 
-  pub message-most : Most (message comes rows flag) (13 + n)
+  pub message-most : Most (message comes statuses flag) (13 + n)
   unfolding message
   message-most = most-less (omega arith) (type-most _ _ _ fields-most)
 
@@ -86,44 +85,29 @@ body-most flag statistics = statisticsBody-most
 body-most flag entries = listedBody-most true
 body-most flag keys = listedBody-most false
 
--- none of the rows carries more than n bytes
+-- none of the statuses carries more than n bytes
 abbrev short : ℕ → Body → Bool
 short n b = leb (bodyLongest b) n
 
--- the greatest length of what a reply to an operation carries
+-- the greatest length of what a reply to an operation carries, behind 13 bytes
 abbrev mostCarried : Operation → ℕ
-mostCarried Put = 266
-mostCarried Get = 266
-mostCarried PutIfAbsent = 266
-mostCarried Replace = 266
-mostCarried ReplaceIfUnmodified = 266
-mostCarried Remove = 266
-mostCarried RemoveIfUnmodified = 266
-mostCarried ContainsKey = 266
-mostCarried GetWithVersion = 266
-mostCarried Clear = 266
-mostCarried Stats = 294
-mostCarried Ping = 266
-mostCarried BulkGet = 41_473
-mostCarried BulkGetKeys = 8_449
+mostCarried o = longestReply o - 13
 
-under-rows : (o : Operation) (op s : ℕ) → bodyLongest (allowed (bodyAt s (rowsOf o op))) ≤ mostCarried o
-under-rows o op s =
-    leb-true (bodyLongest (allowed (bodyAt s (rowsOf o op)))) (mostCarried o)
-    (every-body (short (mostCarried o)) s (rowsOf o op) (le-leb 0 (mostCarried o) zero-le)
+carried-is : (o : Operation) → 13 + mostCarried o ≡ longestReply o
+carried-is o = eqb-true (13 + mostCarried o) (longestReply o) (every (λ o. eqb (13 + mostCarried o) (longestReply o)) refl o)
+
+under-statuses : (o : Operation) (op s : ℕ) → bodyLongest (allowed (bodyAt s (statusesOf o op))) ≤ mostCarried o
+under-statuses o op s =
+    leb-true (bodyLongest (allowed (bodyAt s (statusesOf o op)))) (mostCarried o)
+    (every-body (short (mostCarried o)) s (statusesOf o op) (le-leb 0 (mostCarried o) zero-le)
     (pick (λ rs. bodies (short (mostCarried o)) rs ≡ true) (eqb op errorCode) (λ e. every (λ o. bodies (short (mostCarried o)) errors) refl o)
     (every (λ o. bodies (short (mostCarried o)) (table o)) refl o)))
-
--- "No reply is longer than 279 bytes" but "a stats reply may pass 279 bytes and stays under 512", and "such a reply may pass 279 bytes": that of bulkGet
--- has at most 41,486, and that of bulkGetKeys 8,462
-abbrev pub longestReply : Operation → ℕ
-longestReply o = 13 + mostCarried o
 
 pub reply-most : (o : Operation) (flag : Bool) (r : Reply) → Valid (reply (asked (codeOf o) flag)) r → length (reply (asked (codeOf o) flag) .enc r) ≤ longestReply o
 unfolding reply
 reply-most o flag r v =
-    let m = message-most (isAwaited o) (rowsOf o) flag (mostCarried o) (λ op s e. most-less (under-rows o op s) (body-most flag (allowed (bodyAt s (rowsOf o op))))) in
-    rw (code-found o) (m .most r (rw (code-found o) at v))
+    let m = message-most (isAwaited o) (statusesOf o) flag (mostCarried o) (λ op s e. most-less (under-statuses o op s) (body-most flag (allowed (bodyAt s (statusesOf o op))))) in
+    subst (λ n. length (reply (asked (codeOf o) flag) .enc r) ≤ n) (carried-is o) (rw (code-found o) (m .most r (rw (code-found o) at v)))
 
 -- each error carries a text
 record Told (x : Option Body) : Type 0 where

@@ -21,7 +21,8 @@ use Rattle.message.specs.declared.Operation.{Operation}
 use Rattle.message.specs.declared.Operation.the-variants.{Put, Get, PutIfAbsent, Replace, ReplaceIfUnmodified, Remove, RemoveIfUnmodified, ContainsKey, GetWithVersion, Clear, Stats, Ping, BulkGet, BulkGetKeys}
 use Rattle.message.specs.Operation.{codeOf, findCode, isKnown, known}
 use Rattle.message.specs.Edition.{Edition}
-use Rattle.message.specs.Request.{nameLimit, keyLimit, valueLimit, Shape, keyed, writes, writesIf, keyedIf, bare, bulk, shapeOf, Args, args, isEmpty, noTimes, noEntryVersion, noBulk, noValue, argsOf, opFits, operation, transaction, Fields, isVersion, editionAt, fields, toRequest, fromRequest, request}
+use Rattle.message.specs.Arguments.{nameLimit, keyLimit, valueLimit, Shape, keyed, writes, writesIf, keyedIf, bare, bulk, shapeOf, Args, args, isEmpty, noTimes, noEntryVersion, noBulk, noValue, argsOf}
+use Rattle.message.specs.Request.{opFits, operation, transaction, Fields, isVersion, editionAt, fields, toRequest, fromRequest, request}
 
 -- an operation and its code
 pub code-found : (o : Operation) → findCode (codeOf o) ≡ some o

@@ -6,7 +6,8 @@ use Rattle.wire.specs.Codec.{Valid, empty, byte, guard, as-type, all}
 use Rattle.wire.specs.Number.{vInt, vLong}
 use Rattle.wire.proofs.Laws.{seq-valid, seq-good, type-valid, type-good}
 use Rattle.field.specs.FieldRead.{limitedText}
-use Rattle.message.specs.Request.{nameLimit, shapeOf, argsOf, operation, transaction, isVersion, editionAt, fields, toRequest, fromRequest, Request, request}
+use Rattle.message.specs.Arguments.{nameLimit, shapeOf, argsOf}
+use Rattle.message.specs.Request.{operation, transaction, isVersion, editionAt, fields, toRequest, fromRequest, Request, request}
 
 pub record Parts (r : Request) : Type 0 where
   pub id : Valid vLong (r .id)

@@ -15,7 +15,8 @@ use Rattle.wire.proofs.NumberLaws.{valid}
 use Rattle.wire.proofs.FieldLaws.{limited-valid}
 use Rattle.text.specs.Text.{isText}
 use Rattle.field.specs.FieldRead.{limitedText}
-use Rattle.message.specs.Request.{nameLimit, keyLimit, valueLimit, Shape, keyed, writes, writesIf, keyedIf, bare, bulk, shapeOf, Args, args, argsOf, editionAt, Request, request}
+use Rattle.message.specs.Arguments.{nameLimit, keyLimit, valueLimit, Shape, keyed, writes, writesIf, keyedIf, bare, bulk, shapeOf, Args, args, argsOf}
+use Rattle.message.specs.Request.{editionAt, Request, request}
 use Rattle.message.proofs.RequestLaws.{keyed-is, keyedIf-is, bare-is, bulk-is}
 use Rattle.message.proofs.RequestParts.{parts}
 use Rattle.message.proofs.Editions.{flags-small}

@@ -9,7 +9,8 @@ use Rattle.wire.specs.Number.{vInt}
 use Rattle.wire.specs.Field.{limited}
 use Rattle.wire.proofs.Laws.{seq-valid, seq-good, type-valid, type-good}
 use Rattle.wire.proofs.FieldLaws.{limited-valid, limited-good}
-use Rattle.message.specs.Request.{valueLimit, Shape, keyed, writes, writesIf, keyedIf, bare, bulk, shapeOf, Args, args, argsOf, fields, Request, request}
+use Rattle.message.specs.Arguments.{valueLimit, Shape, keyed, writes, writesIf, keyedIf, bare, bulk, shapeOf, Args, args, argsOf}
+use Rattle.message.specs.Request.{fields, Request, request}
 use Rattle.message.specs.Value.{valued, withValue}
 use Rattle.message.proofs.RequestLaws.{keyed-is, keyedIf-is, bare-is, bulk-is}
 use Rattle.message.proofs.RequestParts.{parts, whole-request}

@@ -5,6 +5,7 @@ use mathlib.Core.Bool.{Bool, true, false, cond, not}
 use Prim.Native.Nat.{ℕ}
 use lib.Dec.{eqb}
 use Rattle.message.specs.declared.Operation.{Operation}
+use Rattle.message.specs.declared.Operation.the-variants.{BulkGetKeys}
 use Rattle.message.specs.Operation.{codeOf}
 
 pub record Edition : Type 0 where
@@ -20,7 +21,7 @@ edition n s = record { flags = n; transaction = true; serves = s }
 
 -- "bulkGetKeys (0x1D) from 12 on": every other operation is in all served versions
 abbrev pub early : Operation → Bool
-early o = not (eqb (codeOf o) 0x1d)
+early o = not (eqb (codeOf o) (codeOf BulkGetKeys))
 
 -- "Served versions: 10, 11, 12"; "flags: 0 or 1 in versions 10 and 11, 0 to 7 in 12"
 unfoldable pub editionOf : ℕ → Option Edition

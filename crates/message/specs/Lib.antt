@@ -1,5 +1,6 @@
 pub mod Operation
 pub mod Edition
+pub mod Arguments
 pub mod Request
 pub mod Start
 pub mod Listing

@@ -5,7 +5,7 @@ use Prim.Native.Nat.{ℕ}
 use Rattle.wire.specs.Codec.{Codec, seq, as-type}
 use Rattle.wire.specs.Field.{limited}
 use Rattle.wire.specs.Listed.{listed}
-use Rattle.message.specs.Request.{keyLimit, valueLimit, isEmpty}
+use Rattle.message.specs.Arguments.{keyLimit, valueLimit, isEmpty}
 
 -- "6 for a 129th entry in a reply"
 abbrev pub mostListed : ℕ

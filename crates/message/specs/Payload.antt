@@ -10,7 +10,7 @@ use Rattle.field.specs.FieldRead.{limitedText}
 use Rattle.statistics.specs.Statistics as stats
 use Rattle.message.specs.declared.Form.{Form}
 use Rattle.message.specs.declared.Form.the-variants as form
-use Rattle.message.specs.Request.{valueLimit, isEmpty}
+use Rattle.message.specs.Arguments.{valueLimit, isEmpty}
 use Rattle.message.specs.Listing.{listing}
 use Rattle.message.specs.ReplyTable.{Body, nothing, old, oldNone, value, versioned, text, statistics, entries, keys}
 

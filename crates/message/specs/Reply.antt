@@ -30,14 +30,14 @@ pub record Reply : Type 0 where
 abbrev pub Fields : Type 0
 Fields = ℕ × (ℕ × (ℕ × (ℕ × Payload)))
 
--- the fields in the order of the bytes: the operations that may come, and the rows of each
+-- the fields in the order of the bytes: the operations that may come, and the statuses of each
 unfoldable pub fields : (ℕ → Bool) → (ℕ → List (ℕ × Body)) → Bool → Codec (ℕ × Fields)
-fields comes rows flag =
+fields comes statuses flag =
     seq (guard (λ m. eqb m 0xa1) 1 byte) λ _.
     seq vLong λ _.
     seq (guard comes 4 byte) λ op.
-    seq (guard (λ s. isAllowed (bodyAt s (rows op))) 8 byte) λ status.
-    seq (guard (λ m. eqb m 0) 8 byte) λ _. fieldsOf (formOf flag (allowed (bodyAt status (rows op))))
+    seq (guard (λ s. isAllowed (bodyAt s (statuses op))) 8 byte) λ status.
+    seq (guard (λ m. eqb m 0) 8 byte) λ _. fieldsOf (formOf flag (allowed (bodyAt status (statuses op))))
 
 abbrev pub toReply : ℕ × Fields → Reply
 toReply p = let f = p .1 in record { id = f .0; op = f .1 .0; status = f .1 .1 .0; payload = f .1 .1 .1 .1 }
@@ -46,18 +46,18 @@ abbrev pub fromReply : Reply → ℕ × Fields
 fromReply r = (0xa1, (r .id, (r .op, (r .status, (0, r .payload)))))
 
 unfoldable pub message : (ℕ → Bool) → (ℕ → List (ℕ × Body)) → Bool → Codec Reply
-message comes rows flag = as-type all toReply fromReply (fields comes rows flag)
+message comes statuses flag = as-type all toReply fromReply (fields comes statuses flag)
 
 -- "The reply's code is the request's plus 1; 0x50 is the error reply." Another is 4.
 abbrev pub isAwaited : Operation → ℕ → Bool
 isAwaited o op = eqb op (codeOf o + 1) || eqb op errorCode
 
-abbrev pub rowsOf : Operation → ℕ → List (ℕ × Body)
-rowsOf o op = cond (eqb op errorCode) errors (table o)
+abbrev pub statusesOf : Operation → ℕ → List (ℕ × Body)
+statusesOf o op = cond (eqb op errorCode) errors (table o)
 
 abbrev pub replyTo : Option Operation → Bool → Codec Reply
 replyTo none flag = refuse 4
-replyTo (some o) flag = message (isAwaited o) (rowsOf o) flag
+replyTo (some o) flag = message (isAwaited o) (statusesOf o) flag
 
 -- "An operation not served gives the reader 4 before any byte is looked at."
 unfoldable pub reply : Asked → Codec Reply
@@ -93,3 +93,10 @@ bulkOperation false = BulkGetKeys
 -- the reply of an id and the entries to one of them
 abbrev pub bulkReply : Bool → ℕ → List (List ℕ × List ℕ) → Reply
 bulkReply values id es = record { id = id; op = codeOf (bulkOperation values) + 1; status = 0x00; payload = bulkPayload es }
+
+-- The greatest length of a reply to an operation: "No reply is longer than 279 bytes", but "a stats reply may pass 279 bytes and stays under 512", and the
+-- replies to bulkGet and bulkGetKeys "may pass 279 bytes".
+abbrev pub longestReply : Operation → ℕ
+longestReply o =
+    cond (eqb (codeOf o) (codeOf Stats)) 307
+    (cond (eqb (codeOf o) (codeOf BulkGet)) 41_486 (cond (eqb (codeOf o) (codeOf BulkGetKeys)) 8_462 279))

@@ -1,7 +1,8 @@
 -- A request with another value.
 use mathlib.Core.List.{List}
 use Prim.Native.Nat.{ℕ}
-use Rattle.message.specs.Request.{Args, args, Request}
+use Rattle.message.specs.Arguments.{Args, args}
+use Rattle.message.specs.Request.{Request}
 
 abbrev pub valued : List ℕ → Args → Args
 valued w a = args (a .key) (a .lifespan) (a .maxIdle) (a .entryVersion) (a .bulk) w

@@ -4,7 +4,7 @@ use field::Span;
 ghost use mathlib.Core.Path.{_≡_};
 ghost use Rattle.field.specs.FieldRead.{partOf};
 ghost use Rattle.message.specs.Operation.{codeOf, asFound, findCode};
-ghost use Rattle.message.specs.Request.{nameLimit, keyLimit, valueLimit};
+ghost use Rattle.message.specs.Arguments.{nameLimit, keyLimit, valueLimit};
 ghost use Rattle.message.specs.Payload.{textLimit};
 
 pub enum Operation {

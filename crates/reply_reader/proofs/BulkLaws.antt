@@ -15,10 +15,10 @@ use Rattle.field.specs.FieldRead.{spanTo}
 use Rattle.message.specs.declared.Operation.{Operation}
 use Rattle.message.specs.declared.Operation.the-variants.{Put, Get, PutIfAbsent, Replace, ReplaceIfUnmodified, Remove, RemoveIfUnmodified, ContainsKey, GetWithVersion, Clear, Stats, Ping, BulkGet, BulkGetKeys}
 use Rattle.message.specs.Operation.{codeOf}
-use Rattle.message.specs.Request.{valueLimit}
+use Rattle.message.specs.Arguments.{valueLimit}
 use Rattle.message.specs.ReplyTable.{Body, table, errors, errorCode, bodyAt, isAllowed, allowed}
 use Rattle.message.specs.Payload.{formOf, oldForm}
-use Rattle.message.specs.Reply.{isAwaited, rowsOf}
+use Rattle.message.specs.Reply.{isAwaited, statusesOf}
 use Rattle.message.specs.Listing.{listing}
 use Rattle.message.proofs.ListingLaws.{listing-laws, listing-starts}
 use Rattle.reply_reader.specs.ReplyRead.{bulkOf, listedOf}
@@ -78,8 +78,8 @@ module _ (flag : Bool) where
   unfolding bulkOf
   told-error = (refl, (refl, (refl, (refl, (refl, (refl, tt))))))
 
-  pub bulk-form : (o : Operation) (op s : ℕ) → isAwaited o op ≡ true → isAllowed (bodyAt s (rowsOf o op)) ≡ true
-      → bulkOf op ≡ listedOf (formOf flag (allowed (bodyAt s (rowsOf o op))))
+  pub bulk-form : (o : Operation) (op s : ℕ) → isAwaited o op ≡ true → isAllowed (bodyAt s (statusesOf o op)) ≡ true
+      → bulkOf op ≡ listedOf (formOf flag (allowed (bodyAt s (statusesOf o op))))
   bulk-form o op s w a = sym (go (eqb op errorCode) refl w a)
     where
       go : (t : Bool) → eqb op errorCode ≡ t → (eqb op (codeOf o + 1) || t) ≡ true → isAllowed (bodyAt s (cond t errors (table o))) ≡ true

@@ -14,11 +14,11 @@ use Rattle.wire.proofs.At.{at-seq, at-guard, at-type, at-cond}
 use Rattle.field.specs.FieldRead.{limitedText, between, nowhere, spanTo}
 use Rattle.field.proofs.Parts.{at-between, only, span-none}
 use Rattle.statistics.specs.Statistics.{statistics}
-use Rattle.message.specs.Request.{valueLimit}
+use Rattle.message.specs.Arguments.{valueLimit}
 use Rattle.message.specs.Listing.{listing}
 use Rattle.message.specs.ReplyTable.{bodyAt, isAllowed, allowed}
 use Rattle.message.specs.Payload.{Payload, textLimit, noBody, valueBody, versionedBody, textBody, statisticsBody, listedBody, fieldsOf, formOf}
-use Rattle.message.specs.Reply.{isAwaited, rowsOf, fields, message}
+use Rattle.message.specs.Reply.{isAwaited, statusesOf, fields, message}
 use Rattle.message.specs.declared.Operation.{Operation}
 use Rattle.message.specs.declared.ReplyHead.{ReplyHead}
 use Rattle.reply_reader.specs.ReplyRead.{Answer, replyAt, replyWith, headWith, withParts, withStatistics, withEntries, entriesTo, bulkOf}
@@ -66,12 +66,12 @@ module _ (s : List ℕ) (at : ℕ) (a : ReplyHead) where
 module _ (o : Operation) (flag : Bool) (s : List ℕ) where
   unfoldable pub rest5 : (id op status : ℕ) → ℕ → Read Answer
   rest5 i o' t j =
-      mapped replyAt (after (readAt (fieldsOf (formOf flag (allowed (bodyAt t (rowsOf o o'))))) s j)
+      mapped replyAt (after (readAt (fieldsOf (formOf flag (allowed (bodyAt t (statusesOf o o'))))) s j)
       (λ p l. whole (record { id = i; op = o'; status = t; payload = p }) l))
 
   unfoldable pub rest4 : (id op status : ℕ) → ℕ → Read Answer
   rest4 i o' t j =
-      cond (isAllowed (bodyAt t (rowsOf o o'))) (after (readAt (between 0 0 8) s j) (λ m l. rest5 i o' t l)) (refused 8)
+      cond (isAllowed (bodyAt t (statusesOf o o'))) (after (readAt (between 0 0 8) s j) (λ m l. rest5 i o' t l)) (refused 8)
 
   unfoldable pub rest3 : (id op : ℕ) → ℕ → Read Answer
   rest3 i o' j = cond (isAwaited o o') (after (readAt byte s j) (λ t l. rest4 i o' t l)) (refused 4)
@@ -82,6 +82,6 @@ module _ (o : Operation) (flag : Bool) (s : List ℕ) where
   unfoldable pub rest1 : ℕ → Read Answer
   rest1 j = after (readAt vLong s j) (λ i l. rest2 i l)
 
-  pub at-message : (at : ℕ) → mapped replyAt (readAt (message (isAwaited o) (rowsOf o) flag) s at) ≡ after (readAt (between 0xa1 0xa1 1) s at) (λ m j. rest1 j)
+  pub at-message : (at : ℕ) → mapped replyAt (readAt (message (isAwaited o) (statusesOf o) flag) s at) ≡ after (readAt (between 0xa1 0xa1 1) s at) (λ m j. rest1 j)
   unfolding message fields rest1 rest2 rest3 rest4 rest5 mapped
   at-message at = simp (at-type, at-seq, at-guard, at-between, after-after, at-cond, only)

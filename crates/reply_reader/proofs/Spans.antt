@@ -16,11 +16,11 @@ use Rattle.message.specs.declared.Asked.{Asked}
 use Rattle.message.specs.declared.Form.{Form}
 use Rattle.message.specs.declared.Form.the-variants as form
 use Rattle.message.specs.Operation.{findCode}
-use Rattle.message.specs.Request.{valueLimit}
+use Rattle.message.specs.Arguments.{valueLimit}
 use Rattle.message.specs.Listing.{mostListed, itemOf, listing}
 use Rattle.message.specs.ReplyTable.{bodyAt, isAllowed}
 use Rattle.message.specs.Payload.{textLimit, Payload, noBody, valueBody, versionedBody, textBody, statisticsBody, listedBody, fieldsOf}
-use Rattle.message.specs.Reply.{Reply, fields, message, isAwaited, rowsOf, replyTo, reply}
+use Rattle.message.specs.Reply.{Reply, fields, message, isAwaited, statusesOf, replyTo, reply}
 use Rattle.message.proofs.ListingLaws.{listing-laws}
 use Rattle.reply_reader.specs.ReplyRead.{asReply, replyAt, bulkOf, listedOf, entriesAt, entriesIn, answered}
 use Rattle.reply_reader.specs.declared.ReplyRead.{ReplyRead}
@@ -110,7 +110,7 @@ module _ (s : List ℕ) (b : Bytes s) where
     same : answered s (replyAt m n) ≡ m
     steps : Stepped (bulkOf (m .op)) (m .payload .entries) n
 
-  message-shown : (o : Operation) (flag : Bool) (m : Reply) (n : ℕ) → readAt (message (isAwaited o) (rowsOf o) flag) s 0 ≡ whole m n → Shown m n
+  message-shown : (o : Operation) (flag : Bool) (m : Reply) (n : ℕ) → readAt (message (isAwaited o) (statusesOf o) flag) s 0 ≡ whole m n → Shown m n
   unfolding message fields replyAt
   message-shown o flag m n e =
       let x = typed _ _ _ _ s 0 m n e in
@@ -122,7 +122,7 @@ module _ (s : List ℕ) (b : Bytes s) where
       let d = body-stands (k .mid) _ n _ (k .second) in
       let w = x .val .1 .1 .0 in
       let u = x .val .1 .1 .1 .0 in
-      let g = bulk-form flag o w u (passed-at (isAwaited o) 4 byte s _ w _ (c .first)) (passed-at (λ y. isAllowed (bodyAt y (rowsOf o w))) 8 byte s _ u _ (t .first)) in
+      let g = bulk-form flag o w u (passed-at (isAwaited o) 4 byte s _ w _ (c .first)) (passed-at (λ y. isAllowed (bodyAt y (statusesOf o w))) 8 byte s _ u _ (t .first)) in
       subst (λ (q : Reply). Shown q n) (x .same) (record { same = rw (d .value, d .text, g, d .entries); steps = rw g (d .steps) })
 
   shown : (o : Option Operation) (flag : Bool) (m : Reply) (n : ℕ) → replyTo o flag .dec s ≡ whole m n → Shown m n

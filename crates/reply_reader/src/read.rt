@@ -20,10 +20,10 @@ ghost use Rattle.wire.specs.Codec.{readAt, after, mapped, whole};
 ghost use Rattle.wire.specs.Field.{entryVersion, limited};
 ghost use Rattle.field.specs.FieldRead.{asNumber, nowhere, spanTo, stopped, limitedText};
 ghost use Rattle.statistics.specs.Statistics.{statistics};
-ghost use Rattle.message.specs.Request.{valueLimit};
+ghost use Rattle.message.specs.Arguments.{valueLimit};
 ghost use Rattle.message.specs.Listing.{listing};
 ghost use Rattle.message.specs.Payload.{textLimit, fieldsOf};
-ghost use Rattle.message.specs.Reply.{message, isAwaited, rowsOf};
+ghost use Rattle.message.specs.Reply.{message, isAwaited, statusesOf};
 ghost use Rattle.reply_reader.specs.ReplyRead.{asReply, replyAt, replyWith, headWith, withParts, withStatistics, withEntries, entriesTo, bulkOf, listedOf};
 
 // What a field that is not whole makes of the reply.
@@ -149,7 +149,7 @@ fn read_body(s: &[u8], c: Cursor, a: ReplyHead, f: Form) -> ReplyRead
 
 // The reply to an operation that is served.
 pub(crate) fn read_message(s: &[u8], o: Operation, flag: bool) -> ReplyRead
-    ensures { λ r. ⌜ asReply r ≡ mapped replyAt (readAt (message (isAwaited o) (rowsOf o) flag) (now (s .entry)) 0) ⌝ }
+    ensures { λ r. ⌜ asReply r ≡ mapped replyAt (readAt (message (isAwaited o) (statusesOf o) flag) (now (s .entry)) 0) ⌝ }
 {
     let r1 = field::read_between(s, Cursor { at: 0 }, 0xa1, 0xa1, 1);
     let NumberRead::Whole(_, c1) = r1 else {

@@ -24,11 +24,11 @@ use Rattle.statistics.specs.Statistics.{statistics}
 use Rattle.statistics.proofs.Writing.{none-bad}
 use Rattle.message.specs.declared.Operation.the-variants.{BulkGet, BulkGetKeys}
 use Rattle.message.specs.Operation.{codeOf, findCode}
-use Rattle.message.specs.Request.{isEmpty, valueLimit}
+use Rattle.message.specs.Arguments.{isEmpty, valueLimit}
 use Rattle.message.specs.Listing.{itemOf, listing}
 use Rattle.message.specs.ReplyTable.{Body, bodyAt, isAllowed, allowed}
 use Rattle.message.specs.Payload.{Payload, payload, counted, bulkPayload, noEntryVersion, noValue, noText, noLists, textLimit, noBody, valueBody, versionedBody, textBody, statisticsBody, listedBody, fieldsOf, formOf}
-use Rattle.message.specs.Reply.{asked, Reply, bulkOperation, bulkReply, toReply, fromReply, fields, message, isAwaited, rowsOf, reply}
+use Rattle.message.specs.Reply.{asked, Reply, bulkOperation, bulkReply, toReply, fromReply, fields, message, isAwaited, statusesOf, reply}
 use Rattle.reply_writer.specs.Frame.{framed}
 
 -- a body that carries nothing
@@ -68,18 +68,18 @@ limited-ok lim s b = go (leb (length s) lim) (leb (length s) 0xffff_ffff) refl r
     go false u e f = sym (limited-long lim s (leb-false (length s) lim e))
 
 -- which reply is sent, by its operation and status
-module _ (comes : ℕ → Bool) (rows : ℕ → List (ℕ × Body)) (flag : Bool) (r : Reply) (old : List ℕ) where
-  pub send-other : comes (r .op) ≡ false → (kept 16, old) ≡ send (message comes rows flag) r old
+module _ (comes : ℕ → Bool) (statuses : ℕ → List (ℕ × Body)) (flag : Bool) (r : Reply) (old : List ℕ) where
+  pub send-other : comes (r .op) ≡ false → (kept 16, old) ≡ send (message comes statuses flag) r old
   unfolding message fields as-type seq guard byte
-  send-other e = send-broken (message comes rows flag) r old (rw (e, and-false (vLong .ok (r .id))))
+  send-other e = send-broken (message comes statuses flag) r old (rw (e, and-false (vLong .ok (r .id))))
 
-  pub send-unlisted : isAllowed (bodyAt (r .status) (rows (r .op))) ≡ false → (kept 16, old) ≡ send (message comes rows flag) r old
+  pub send-unlisted : isAllowed (bodyAt (r .status) (statuses (r .op))) ≡ false → (kept 16, old) ≡ send (message comes statuses flag) r old
   unfolding message fields as-type seq guard byte
   send-unlisted e =
-      send-broken (message comes rows flag) r old (rw (e, and-false (comes (r .op) && ltb (r .op) 256), and-false (vLong .ok (r .id))))
+      send-broken (message comes statuses flag) r old (rw (e, and-false (comes (r .op) && ltb (r .op) 256), and-false (vLong .ok (r .id))))
 
-  pub send-framed : comes (r .op) ≡ true → isAllowed (bodyAt (r .status) (rows (r .op))) ≡ true
-      → send (framed (fieldsOf (formOf flag (allowed (bodyAt (r .status) (rows (r .op))))))) r old ≡ send (message comes rows flag) r old
+  pub send-framed : comes (r .op) ≡ true → isAllowed (bodyAt (r .status) (statuses (r .op))) ≡ true
+      → send (framed (fieldsOf (formOf flag (allowed (bodyAt (r .status) (statuses (r .op))))))) r old ≡ send (message comes statuses flag) r old
   unfolding message fields framed as-type seq guard send
   send-framed p q = rw (p, q)
 
@@ -316,5 +316,5 @@ bulk-behind values id es old v g h e f =
 pub send-bulk : (values flag : Bool) (id : ℕ) (es : List (List ℕ × List ℕ)) (old : List ℕ)
     → send (framed (listedBody values)) (bulkReply values id es) old ≡ send (reply (asked (codeOf (bulkOperation values)) flag)) (bulkReply values id es) old
 unfolding reply findCode bodyAt fieldsOf
-send-bulk true flag id es old = send-framed (isAwaited BulkGet) (rowsOf BulkGet) flag (bulkReply true id es) old refl refl
-send-bulk false flag id es old = send-framed (isAwaited BulkGetKeys) (rowsOf BulkGetKeys) flag (bulkReply false id es) old refl refl
+send-bulk true flag id es old = send-framed (isAwaited BulkGet) (statusesOf BulkGet) flag (bulkReply true id es) old refl refl
+send-bulk false flag id es old = send-framed (isAwaited BulkGetKeys) (statusesOf BulkGetKeys) flag (bulkReply false id es) old refl refl

@@ -15,7 +15,7 @@ ghost use Rattle.wire.specs.Field.{limited};
 ghost use Rattle.wire.specs.Write.{Room, Wrote, send};
 ghost use Rattle.field.specs.FieldRead.{limitedText};
 ghost use Rattle.message.specs.Sent.{asSent};
-ghost use Rattle.message.specs.Request.{isEmpty};
+ghost use Rattle.message.specs.Arguments.{isEmpty};
 ghost use Rattle.message.specs.Reply.{replyOf};
 ghost use Rattle.message.specs.Payload.{fieldsOf};
 ghost use Rattle.reply_writer.specs.Frame.{framed, payloadOf};

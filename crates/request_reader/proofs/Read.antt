@@ -22,7 +22,8 @@ use Rattle.field.specs.declared.NumberRead.the-variants as n
 use Rattle.field.proofs.NumberRead as number-read
 use Rattle.field.proofs.Parts.{only, at-between, not-whole, not-refused}
 use Rattle.message.specs.Operation.{findCode, known}
-use Rattle.message.specs.Request.{Shape, keyed, writes, writesIf, keyedIf, bare, bulk, shapeOf, argsOf, opFits, operation, transaction, isVersion, editionAt, fields, toRequest, request, nameLimit, keyLimit, valueLimit}
+use Rattle.message.specs.Arguments.{Shape, keyed, writes, writesIf, keyedIf, bare, bulk, shapeOf, argsOf, nameLimit, keyLimit, valueLimit}
+use Rattle.message.specs.Request.{opFits, operation, transaction, isVersion, editionAt, fields, toRequest, request}
 use Rattle.message.proofs.RequestLaws.{text-laws, operation-laws, transaction-laws}
 use Rattle.message.specs.Start.{start, idFound}
 use Rattle.request_reader.specs.RequestRead.{requestAt, front, options}

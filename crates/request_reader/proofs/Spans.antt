@@ -11,7 +11,8 @@ use Rattle.wire.proofs.At.{at-front, at-exact, typed, halves}
 use Rattle.wire.proofs.FieldLaws.{limited-laws}
 use Rattle.field.specs.FieldRead.{limitedText, partOf, spanTo}
 use Rattle.field.proofs.Parts.{part-read, text-read, no-part}
-use Rattle.message.specs.Request.{Shape, keyed, writes, writesIf, keyedIf, bare, bulk, shapeOf, Args, argsOf, nameLimit, keyLimit, valueLimit, Request, requestIn, request}
+use Rattle.message.specs.Arguments.{Shape, keyed, writes, writesIf, keyedIf, bare, bulk, shapeOf, Args, argsOf, nameLimit, keyLimit, valueLimit}
+use Rattle.message.specs.Request.{Request, requestIn, request}
 use Rattle.message.proofs.RequestLaws.{text-laws}
 use Rattle.request_reader.specs.RequestRead.{asRequest, front, options, Options, requestAt}
 use Rattle.request_reader.specs.declared.RequestRead.{RequestRead}

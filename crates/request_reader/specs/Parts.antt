@@ -10,7 +10,7 @@ use Rattle.wire.specs.Field.{limited, entryVersion}
 use Rattle.field.specs.FieldRead.{limitedText, nowhere, spanTo}
 use Rattle.field.specs.declared.Span.{Span}
 use Rattle.message.specs.declared.Request.{Request}
-use Rattle.message.specs.Request.{Shape, keyed, writes, writesIf, keyedIf, bare, bulk, Args, nameLimit, keyLimit}
+use Rattle.message.specs.Arguments.{Shape, keyed, writes, writesIf, keyedIf, bare, bulk, Args, nameLimit, keyLimit}
 use Rattle.request_reader.specs.RequestRead as a
 use Rattle.request_reader.specs.declared.Front.{Front}
 use Rattle.request_reader.specs.declared.FrontRead.{FrontRead}

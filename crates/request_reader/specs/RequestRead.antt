@@ -10,7 +10,8 @@ use Rattle.wire.specs.Field.{limited}
 use Rattle.field.specs.FieldRead.{limitedText, spanTo}
 use Rattle.message.specs.declared.Head.{Head}
 use Rattle.message.specs.declared.Request as code
-use Rattle.message.specs.Request.{Request, nameLimit, keyLimit, operation, transaction, isVersion, editionAt}
+use Rattle.message.specs.Arguments.{nameLimit, keyLimit}
+use Rattle.message.specs.Request.{Request, operation, transaction, isVersion, editionAt}
 use Rattle.message.specs.Start.{start}
 use Rattle.request_reader.specs.declared.Front.{Front}
 use Rattle.request_reader.specs.declared.RequestRead.{RequestRead}

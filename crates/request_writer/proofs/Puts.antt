@@ -16,7 +16,8 @@ use Rattle.wire.proofs.WriteLaws.{wrote-seq, wrote-guard, wrote-type, put-wrote
 use Rattle.field.specs.FieldRead.{limitedText}
 use Rattle.message.specs.declared.Operation.{Operation}
 use Rattle.message.specs.Operation.{codeOf}
-use Rattle.message.specs.Request.{keyed, writes, writesIf, keyedIf, bare, bulk, shapeOf, Args, argsOf, opFits, operation, transaction, isVersion, editionAt, fields, Request, request, nameLimit, keyLimit, valueLimit}
+use Rattle.message.specs.Arguments.{keyed, writes, writesIf, keyedIf, bare, bulk, shapeOf, Args, argsOf, nameLimit, keyLimit, valueLimit}
+use Rattle.message.specs.Request.{opFits, operation, transaction, isVersion, editionAt, fields, Request, request}
 use Rattle.message.proofs.Editions.{has-transaction}
 use Rattle.request_writer.specs.Parts.{Ready}
 

@@ -17,7 +17,8 @@ use Rattle.text.specs.Text.{isText}
 use Rattle.field.specs.FieldRead.{limitedText}
 use Rattle.message.specs.declared.Operation.{Operation}
 use Rattle.message.specs.Operation.{codeOf}
-use Rattle.message.specs.Request.{Shape, keyed, writes, writesIf, keyedIf, bare, bulk, shapeOf, Args, argsOf, isEmpty, noTimes, noEntryVersion, noBulk, noValue, opFits, operation, isVersion, editionAt, Request, request, nameLimit, keyLimit, valueLimit}
+use Rattle.message.specs.Arguments.{Shape, keyed, writes, writesIf, keyedIf, bare, bulk, shapeOf, Args, argsOf, isEmpty, noTimes, noEntryVersion, noBulk, noValue, nameLimit, keyLimit, valueLimit}
+use Rattle.message.specs.Request.{opFits, operation, isVersion, editionAt, Request, request}
 use Rattle.message.proofs.RequestLaws.{code-found}
 use Rattle.message.proofs.RequestParts.{parts, whole-request}
 use Rattle.message.proofs.Editions.{flags-small, version-small}

@@ -8,7 +8,8 @@ use Rattle.wire.specs.Number.{vInt, vLong}
 use Rattle.wire.proofs.NumberWrite.{int-long}
 use Rattle.wire.proofs.FieldLaws.{big-length, limited-length}
 use Rattle.field.specs.FieldRead.{limitedText}
-use Rattle.message.specs.Request.{Shape, keyed, writes, writesIf, keyedIf, bare, bulk, shapeOf, Args, argsOf, operation, transaction, editionAt, fields, Request, request, nameLimit, keyLimit, valueLimit}
+use Rattle.message.specs.Arguments.{Shape, keyed, writes, writesIf, keyedIf, bare, bulk, shapeOf, Args, argsOf, nameLimit, keyLimit, valueLimit}
+use Rattle.message.specs.Request.{operation, transaction, editionAt, fields, Request, request}
 use Rattle.message.proofs.Editions.{has-transaction, flags-small}
 use Rattle.request_writer.specs.Parts.{limitsOf, sizeOf, argsSize}
 use Rattle.request_writer.proofs.Rules.{Within, within, bulk-int, Rules}

@@ -6,7 +6,7 @@ use Rattle.wire.specs.Codec.{Codec, Valid}
 use Rattle.wire.specs.Number.{vLong}
 use Rattle.wire.specs.Write.{Room}
 use Rattle.message.specs.declared.Head.{Head}
-use Rattle.message.specs.Request.{Shape, keyed, writes, writesIf, keyedIf, bare, bulk, Args, args, keyLimit, valueLimit}
+use Rattle.message.specs.Arguments.{Shape, keyed, writes, writesIf, keyedIf, bare, bulk, Args, args, keyLimit, valueLimit}
 use Rattle.request_writer.specs.declared.write.Limits as code-limits
 
 -- the arguments of a head, a key and a value

@@ -10,7 +10,8 @@ ghost use Prim.Native.Nat.{_+_, _≤_};
 ghost use lib.ListN.{length};
 ghost use Rattle.wire.specs.Codec.{Valid};
 ghost use Rattle.wire.specs.Write.{Wrote};
-ghost use Rattle.message.specs.Request.{request, requestOf, argsOf, shapeOf, writes, writesIf, keyedIf, keyLimit, valueLimit};
+ghost use Rattle.message.specs.Arguments.{argsOf, shapeOf, writes, writesIf, keyedIf, keyLimit, valueLimit};
+ghost use Rattle.message.specs.Request.{request, requestOf};
 ghost use Rattle.request_writer.specs.Parts.{argsWith, asLimits, limits, limitsOf, sizeOf, argsSize, Ready};
 
 // The greatest length or number of each argument: 0 where it is not sent.

@@ -1,4 +1,4 @@
--- The rows of the reply table by status. Assumes nothing.
+-- The reply table by status. Assumes nothing.
 use mathlib.Core.Path.{_≡_, refl, sym}
 use mathlib.Core.List.{[], _∷_}
 use mathlib.Core.Option.{Option, none, some}
@@ -17,37 +17,37 @@ use Rattle.rules.specs.declared.Body.{Body}
 use Rattle.rules.specs.declared.Body.the-variants as b
 use Rattle.rules.proofs.Body as body
 
--- a row that is not allowed is as no row
+-- a status that is not allowed is as none
 module _ (s : ℕ) (x : Option m.Body) where
-  pub row-0 : cond (eqb s 0) x (cond (eqb s 1) none (cond (eqb s 2) none none)) ≡ cond (eqb s 0) x none
-  row-0 = rw (if-none (eqb s 2), if-none (eqb s 1))
+  pub only-0 : cond (eqb s 0) x (cond (eqb s 1) none (cond (eqb s 2) none none)) ≡ cond (eqb s 0) x none
+  only-0 = rw (if-none (eqb s 2), if-none (eqb s 1))
 
-  pub rows-01 : (y : Option m.Body) → cond (eqb s 0) x (cond (eqb s 1) y (cond (eqb s 2) none none)) ≡ cond (eqb s 0) x (cond (eqb s 1) y none)
-  rows-01 y = rw (if-none (eqb s 2))
+  pub only-01 : (y : Option m.Body) → cond (eqb s 0) x (cond (eqb s 1) y (cond (eqb s 2) none none)) ≡ cond (eqb s 0) x (cond (eqb s 1) y none)
+  only-01 y = rw (if-none (eqb s 2))
 
-  pub rows-02 : (y : Option m.Body) → cond (eqb s 0) x (cond (eqb s 1) none (cond (eqb s 2) y none)) ≡ cond (eqb s 0) x (cond (eqb s 2) y none)
-  rows-02 y = go (eqb s 1) refl
+  pub only-02 : (y : Option m.Body) → cond (eqb s 0) x (cond (eqb s 1) none (cond (eqb s 2) y none)) ≡ cond (eqb s 0) x (cond (eqb s 2) y none)
+  only-02 y = go (eqb s 1) refl
     where
       go : (t : Bool) → eqb s 1 ≡ t → cond (eqb s 0) x (cond t none (cond (eqb s 2) y none)) ≡ cond (eqb s 0) x (cond (eqb s 2) y none)
       go true e = rw (eqb-true s 1 e)
       go false e = refl
 
 -- the statuses of an error reply
-else-row : {A : Type 0} {x y : A} (t : Bool) → (t ≡ false → y ≡ x) → cond t x y ≡ x
-else-row true h = refl
-else-row false h = h refl
+or-else : {A : Type 0} {x y : A} (t : Bool) → (t ≡ false → y ≡ x) → cond t x y ≡ x
+or-else true h = refl
+or-else false h = h refl
 
 module _ (s : ℕ) where
   pub error-text : 0x81 ≤ s → s ≤ 0x86 → some m.text ≡ bodyAt s errors
   unfolding bodyAt
   error-text l h =
       sym
-      (else-row (eqb s 0x81) λ a.
-      else-row (eqb s 0x82) λ b.
-      else-row (eqb s 0x83) λ c.
-      else-row (eqb s 0x84) λ d.
-      else-row (eqb s 0x85) λ e.
-      else-row (eqb s 0x86) λ f.
+      (or-else (eqb s 0x81) λ a.
+      or-else (eqb s 0x82) λ b.
+      or-else (eqb s 0x83) λ c.
+      or-else (eqb s 0x84) λ d.
+      or-else (eqb s 0x85) λ e.
+      or-else (eqb s 0x86) λ f.
       absurd
       (omega (arith, eqb-false s 0x81 a, eqb-false s 0x82 b, eqb-false s 0x83 c, eqb-false s 0x84 d, eqb-false s 0x85 e, eqb-false s 0x86 f)))
 

@@ -1,5 +1,5 @@
 -- What the code's shapes of arguments stand for.
-use Rattle.message.specs.Request.{Shape, keyed, writes, writesIf, keyedIf, bare, bulk}
+use Rattle.message.specs.Arguments.{Shape, keyed, writes, writesIf, keyedIf, bare, bulk}
 use Rattle.rules.specs.declared.Shape as code
 use Rattle.rules.specs.declared.Shape.the-variants as s
 

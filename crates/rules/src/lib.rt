@@ -8,10 +8,11 @@ ghost use mathlib.Core.Bool.{cond};
 ghost use mathlib.Core.Option.{none};
 ghost use lib.Dec.{eqb};
 ghost use Rattle.message.specs.Edition.{early};
-ghost use Rattle.message.specs.Request.{shapeOf, isVersion, editionAt};
+ghost use Rattle.message.specs.Arguments.{shapeOf};
+ghost use Rattle.message.specs.Request.{isVersion, editionAt};
 ghost use Rattle.message.specs.ReplyTable.{bodyAt, table, errors, isAllowed, allowed};
 ghost use Rattle.message.specs.Payload.{formOf, oldForm};
-ghost use Rattle.message.specs.Reply.{rowsOf, isAwaited};
+ghost use Rattle.message.specs.Reply.{statusesOf, isAwaited};
 ghost use Rattle.rules.specs.Body.{asBody};
 ghost use Rattle.rules.specs.Shape.{asShape};
 
@@ -113,7 +114,7 @@ pub fn is_awaited(o: Operation, op: u8) -> bool
 }
 
 // The body of a status, where 00, 01 and 02 have the bodies `a`, `b` and `c`.
-fn row(status: u8, a: Body, b: Body, c: Body) -> Body
+fn pick(status: u8, a: Body, b: Body, c: Body) -> Body
     ensures { λ r. ⌜ asBody r ≡ cond (eqb status 0) (asBody a) (cond (eqb status 1) (asBody b) (cond (eqb status 2) (asBody c) none)) ⌝ }
 {
     match status {
@@ -129,20 +130,20 @@ fn in_table(o: Operation, status: u8) -> Body
     ensures { λ r. ⌜ asBody r ≡ bodyAt status (table o) ⌝ }
 {
     match o {
-        Operation::Put => row(status, Body::Old, Body::NotAllowed, Body::NotAllowed),
-        Operation::PutIfAbsent => row(status, Body::OldNone, Body::Old, Body::NotAllowed),
-        Operation::Replace => row(status, Body::Old, Body::OldNone, Body::NotAllowed),
-        Operation::ReplaceIfUnmodified => row(status, Body::Old, Body::OldNone, Body::OldNone),
-        Operation::Remove => row(status, Body::Old, Body::NotAllowed, Body::OldNone),
-        Operation::RemoveIfUnmodified => row(status, Body::Old, Body::OldNone, Body::OldNone),
-        Operation::Get => row(status, Body::Value, Body::NotAllowed, Body::Nothing),
-        Operation::GetWithVersion => row(status, Body::Versioned, Body::NotAllowed, Body::Nothing),
-        Operation::ContainsKey => row(status, Body::Nothing, Body::NotAllowed, Body::Nothing),
-        Operation::Clear => row(status, Body::Nothing, Body::NotAllowed, Body::NotAllowed),
-        Operation::Stats => row(status, Body::Statistics, Body::NotAllowed, Body::NotAllowed),
-        Operation::Ping => row(status, Body::Nothing, Body::NotAllowed, Body::NotAllowed),
-        Operation::BulkGet => row(status, Body::Entries, Body::NotAllowed, Body::NotAllowed),
-        Operation::BulkGetKeys => row(status, Body::Keys, Body::NotAllowed, Body::NotAllowed),
+        Operation::Put => pick(status, Body::Old, Body::NotAllowed, Body::NotAllowed),
+        Operation::PutIfAbsent => pick(status, Body::OldNone, Body::Old, Body::NotAllowed),
+        Operation::Replace => pick(status, Body::Old, Body::OldNone, Body::NotAllowed),
+        Operation::ReplaceIfUnmodified => pick(status, Body::Old, Body::OldNone, Body::OldNone),
+        Operation::Remove => pick(status, Body::Old, Body::NotAllowed, Body::OldNone),
+        Operation::RemoveIfUnmodified => pick(status, Body::Old, Body::OldNone, Body::OldNone),
+        Operation::Get => pick(status, Body::Value, Body::NotAllowed, Body::Nothing),
+        Operation::GetWithVersion => pick(status, Body::Versioned, Body::NotAllowed, Body::Nothing),
+        Operation::ContainsKey => pick(status, Body::Nothing, Body::NotAllowed, Body::Nothing),
+        Operation::Clear => pick(status, Body::Nothing, Body::NotAllowed, Body::NotAllowed),
+        Operation::Stats => pick(status, Body::Statistics, Body::NotAllowed, Body::NotAllowed),
+        Operation::Ping => pick(status, Body::Nothing, Body::NotAllowed, Body::NotAllowed),
+        Operation::BulkGet => pick(status, Body::Entries, Body::NotAllowed, Body::NotAllowed),
+        Operation::BulkGetKeys => pick(status, Body::Keys, Body::NotAllowed, Body::NotAllowed),
     }
 }
 
@@ -160,7 +161,7 @@ fn in_errors(status: u8) -> Body
 }
 
 pub fn body_at(o: Operation, op: u8, status: u8) -> Body
-    ensures { λ r. ⌜ asBody r ≡ bodyAt status (rowsOf o op) ⌝ }
+    ensures { λ r. ⌜ asBody r ≡ bodyAt status (statusesOf o op) ⌝ }
 {
     if op == 0x50 {
         in_errors(status)

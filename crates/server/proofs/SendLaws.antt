@@ -22,10 +22,11 @@ use Rattle.wire.proofs.WriteLaws.{send-room}
 use Rattle.message.specs.declared.Operation.{Operation}
 use Rattle.message.specs.declared.Operation.the-variants.{Stats}
 use Rattle.message.specs.Operation.{codeOf}
-use Rattle.message.specs.Request.{Request, valueLimit}
+use Rattle.message.specs.Arguments.{valueLimit}
+use Rattle.message.specs.Request.{Request}
 use Rattle.message.specs.ReplyTable.{table, bodyAt, allowed}
 use Rattle.message.specs.Payload.{payload, formOf}
-use Rattle.message.specs.Reply.{asked, Reply, rowsOf, reply, errorReply, statisticsReply, bulkOperation, bulkReply}
+use Rattle.message.specs.Reply.{asked, Reply, statusesOf, reply, errorReply, statisticsReply, bulkOperation, bulkReply}
 use Rattle.message.specs.Listing.{listing}
 use Rattle.message.specs.Refusal.{refusal}
 use Rattle.message.proofs.ErrorLaws.{refusal-good}
@@ -48,7 +49,7 @@ use Rattle.message.specs.declared.Form.{Form}
 use Rattle.message.specs.declared.Form.the-variants as f
 use Rattle.message.proofs.Form as form-code
 use Rattle.message.proofs.Operation as operation-code
-use Rattle.message.proofs.Every.{every, every-of, bodies, every-body, rows-are}
+use Rattle.message.proofs.Every.{every, every-of, bodies, every-body, statuses-are}
 use Rattle.service.specs.Serve as stream
 use Rattle.service.specs.Serve.{room, bulkRoom, roomOf, errorPieces}
 use Rattle.service.proofs.Bounds.{reply-room}
@@ -57,7 +58,7 @@ use Rattle.plan.specs.Plan.{heldAt}
 use Rattle.server.specs.declared.Answer.{Answer}
 use Rattle.server.specs.CallDone.{Says, Sends}
 use Rattle.server.specs.Act.{isPlain, valueShown, versionShown, sentTo, Planned}
-use Rattle.server.specs.Bulk.{pairAt, listedOf, Listable, sentListed}
+use Rattle.server.specs.Bulk.{entryPair, listedPairs, Listable, sentListed}
 
 -- a message that fits is written, and its bytes are the pieces sent
 module _ {A : Type 0} (c : Codec A) (a : A) {x : wire.Sent} {old new : List ℕ} {ps : List Piece} {n : ℕ} {v : stream.Verdict} {r : Answer} where
@@ -127,8 +128,8 @@ unfolding isPlain
 plain-test true = every (λ o. not (isPlain o) || bodies (λ b. plain (formOf true b)) (table o)) refl
 plain-test false = every (λ o. not (isPlain o) || bodies (λ b. plain (formOf false b)) (table o)) refl
 
-plain-rows : (o : Operation) (t : Bool) → isPlain o ≡ true → bodies (λ b. plain (formOf t b)) (table o) ≡ true
-plain-rows o t n = rw n at (plain-test t o)
+plain-bodies : (o : Operation) (t : Bool) → isPlain o ≡ true → bodies (λ b. plain (formOf t b)) (table o) ≡ true
+plain-bodies o t n = rw n at (plain-test t o)
 
 -- the tags of the operations whose replies show at most one entry, and of those that ask for no more room than any call has
 abbrev plainTags : List ℕ
@@ -147,7 +148,7 @@ room-tags o k = eqb-true room (roomOf o) (every-of shortTags (λ o. eqb room (ro
 
 -- the form of the reply to a request, by the status
 abbrev pub form : Request → ℕ → Form
-form q s = formOf (wantsOld q) (allowed (bodyAt s (rowsOf (q .op) (codeOf (q .op) + 1))))
+form q s = formOf (wantsOld q) (allowed (bodyAt s (statusesOf (q .op) (codeOf (q .op) + 1))))
 
 module _ (c : Context) {t : List ℕ} {q : Request} {y : Held} {s : ℕ} (g : Planned t q y s) where
   -- the reply to a request of such an operation, of its code, a version and a value
@@ -159,8 +160,8 @@ module _ (c : Context) {t : List ℕ} {q : Request} {y : Held} {s : ℕ} (g : Pl
       → (x, new) ≡ send (reply (asked code (wantsOld q))) (made code e v) old → (x, new) ≡ sentTo c q (stateOf t) old
   unfolding result held planned
   held-sent old n o e w z =
-      let f = shown-same (formOf (wantsOld q) (allowed (bodyAt (planned q (stateOf t) .status) (table (q .op))))) (statistics c (stateOf t)) (listedBy q (stateOf t)) (heldAt t (q .args .key)) (every-body (λ b. plain (formOf (wantsOld q) b)) (planned q (stateOf t) .status) (table (q .op)) refl (plain-rows (q .op) (wantsOld q) n)) in
-      z ∙ rw (o, e, w, rows-are (q .op), ← (g .status), f)
+      let f = shown-same (formOf (wantsOld q) (allowed (bodyAt (planned q (stateOf t) .status) (table (q .op))))) (statistics c (stateOf t)) (listedBy q (stateOf t)) (heldAt t (q .args .key)) (every-body (λ b. plain (formOf (wantsOld q) b)) (planned q (stateOf t) .status) (table (q .op)) refl (plain-bodies (q .op) (wantsOld q) n)) in
+      z ∙ rw (o, e, w, statuses-are (q .op), ← (g .status), f)
 
   -- the reply to stats
   pub stats-sent : {x : wire.Sent} {ns : List ℕ} (old : List ℕ) {new : List ℕ} → q .op ≡ Stats → ns ≡ statistics c (stateOf t)
@@ -198,10 +199,10 @@ module _ (n : ℕ) (t : List ℕ) where
   many-some h = rw (ne-eqb n 0 h) (sym (length-take n (stateOf t .entries)))
 
   module _ (values : Bool) where
-    pub listed-long : length (listedOf values n (stateOf t)) ≡ length (lowest n (stateOf t .entries))
+    pub listed-long : length (listedPairs values n (stateOf t)) ≡ length (lowest n (stateOf t .entries))
     listed-long = length-map (lowest n (stateOf t .entries)) (pairOf values)
 
-    pub listed-at : (i : ℕ) → i < length (lowest n (stateOf t .entries)) → getD (listedOf values n (stateOf t)) i (pairOf values (memory.entry [] [] 0 0)) ≡ pairAt values t i
+    pub listed-at : (i : ℕ) → i < length (lowest n (stateOf t .entries)) → getD (listedPairs values n (stateOf t)) i (pairOf values (memory.entry [] [] 0 0)) ≡ entryPair values t i
     unfolding entryAt
     listed-at i l = List·getD-map (pairOf values) (lowest n (stateOf t .entries)) i (memory.entry [] [] 0 0) ∙ ap (pairOf values) (go (eqb n 0) l)
       where
@@ -211,7 +212,7 @@ module _ (n : ℕ) (t : List ℕ) where
         go false l = getD-take n (stateOf t .entries) i (memory.entry [] [] 0 0) (omega (arith, length-take n (stateOf t .entries)))
 
     -- a table's have a written form
-    pub listed-valid : Sound t → Valid (listing values) (listedOf values n (stateOf t))
+    pub listed-valid : Sound t → Valid (listing values) (listedPairs values n (stateOf t))
     listed-valid s = go (eqb n 0)
       where
         go : (b : Bool) → Valid (listing values) (map (pairOf values) (cond b (stateOf t .entries) (take n (stateOf t .entries))))
@@ -219,8 +220,8 @@ module _ (n : ℕ) (t : List ℕ) where
         go false = listing-good values (take n (stateOf t .entries)) (omega (arith, s .table .few, length-take n (stateOf t .entries))) (each-take Sizes n (stateOf t .entries) (s .table .sizes))
 
     -- and take at most 41,473 bytes
-    pub listed-most : Sound t → length (listing values .enc (listedOf values n (stateOf t))) ≤ 41_473
-    listed-most s = omega (arith, longest-most values, listing-most values .most (listedOf values n (stateOf t)) (listed-valid s))
+    pub listed-most : Sound t → length (listing values .enc (listedPairs values n (stateOf t))) ≤ 41_473
+    listed-most s = omega (arith, longest-most values, listing-most values .most (listedPairs values n (stateOf t)) (listed-valid s))
 
 -- so much room there is for them
 pub bulk-room : (values : Bool) (o : Operation) {l : ℕ} → o ≡ bulkOperation values → roomOf o ≤ l → bulkRoom ≤ l

@@ -10,7 +10,8 @@ use lib.Dec.{ltb}
 use borrow.Author.Tests.{lt-ltb, le-ltb, ltb-true}
 use Rattle.wire.specs.Codec.{Read, Valid}
 use Rattle.wire.proofs.Laws.{never}
-use Rattle.message.specs.Request.{Request, request, isEmpty}
+use Rattle.message.specs.Arguments.{isEmpty}
+use Rattle.message.specs.Request.{Request, request}
 use Rattle.message.proofs.Sizes.{small}
 use Rattle.map.specs.State.{Entry, State, find, without, hasKey}
 use Rattle.map.specs.Deadline.{deadline, standing}

@@ -11,7 +11,8 @@ use Rattle.wire.specs.Codec.{Valid}
 use Rattle.wire.specs.Write.{Sent, send}
 use Rattle.message.specs.declared.Operation.{Operation}
 use Rattle.message.specs.declared.Operation.the-variants.{Stats, BulkGet, BulkGetKeys}
-use Rattle.message.specs.Request.{keyLimit, valueLimit, Request, request}
+use Rattle.message.specs.Arguments.{keyLimit, valueLimit}
+use Rattle.message.specs.Request.{Request, request}
 use Rattle.map.specs.History.{is}
 use Rattle.map.specs.Plan.{Change, keep, store, drop, empty}
 use Rattle.map.specs.State.{Entry, State, withEntries, without, hasKey}

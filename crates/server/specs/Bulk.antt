@@ -16,19 +16,19 @@ use Rattle.table.specs.Memory.{stateOf}
 use Rattle.table.specs.Found.{entryAt}
 
 -- entry i of a table as a bulk reply lists it, and the first n, all where n is 0
-abbrev pub pairAt : Bool → List ℕ → ℕ → List ℕ × List ℕ
-pairAt values t i = pairOf values (entryAt t i)
+abbrev pub entryPair : Bool → List ℕ → ℕ → List ℕ × List ℕ
+entryPair values t i = pairOf values (entryAt t i)
 
-abbrev pub listedOf : Bool → ℕ → State → List (List ℕ × List ℕ)
-listedOf values n st = map (pairOf values) (lowest n (st .entries))
+abbrev pub listedPairs : Bool → ℕ → State → List (List ℕ × List ℕ)
+listedPairs values n st = map (pairOf values) (lowest n (st .entries))
 
 -- these are m, have a written form, and there is room for them
 pub record Listable (values : Bool) (n m : ℕ) (t : List ℕ) (at : ℕ) (old : List ℕ) : Type 0 where
   pub many : m ≡ length (lowest n (stateOf t .entries))
-  pub valid : Valid (listing values) (listedOf values n (stateOf t))
-  pub room : Room (listing values) (listedOf values n (stateOf t)) at old
+  pub valid : Valid (listing values) (listedPairs values n (stateOf t))
+  pub room : Room (listing values) (listedPairs values n (stateOf t)) at old
 
 -- the reply to bulkGet, or to bulkGetKeys where values are not asked for, as a writer sends it into a buffer
 abbrev pub sentListed : Bool → Bool → ℕ → ℕ → State → List ℕ → Sent × List ℕ
 sentListed flag values id n st old =
-    send (reply (asked (codeOf (bulkOperation values)) flag)) (bulkReply values id (listedOf values n st)) old
+    send (reply (asked (codeOf (bulkOperation values)) flag)) (bulkReply values id (listedPairs values n st)) old

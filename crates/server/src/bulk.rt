@@ -16,7 +16,7 @@ ghost use Rattle.message.specs.Sent.{asSent};
 ghost use Rattle.map.specs.Shown.{lowest};
 ghost use Rattle.table.specs.Memory.{stateOf, Sound};
 ghost use Rattle.service.specs.Serve as stream;
-ghost use Rattle.server.specs.Bulk.{pairAt, listedOf, Listable, sentListed};
+ghost use Rattle.server.specs.Bulk.{entryPair, listedPairs, Listable, sentListed};
 
 // How many entries are listed where n are asked for: all where n is 0.
 fn many(t: &[u8], n: u64) -> usize
@@ -34,7 +34,7 @@ fn many(t: &[u8], n: u64) -> usize
 
 // Entry i behind its more byte.
 fn put_entry(out: &mut [u8], at: usize, t: &[u8], i: usize, values: bool) -> usize
-    ensures { λ r. ⌜ (Valid (itemOf values) (pairAt values (now (t .entry)) i) → Room (item (itemOf values)) (some (pairAt values (now (t .entry)) i)) at (now (out .entry)) → Wrote (item (itemOf values)) (some (pairAt values (now (t .entry)) i)) (now (out .entry)) (now (out .exit)) at r) ⌝ }
+    ensures { λ r. ⌜ (Valid (itemOf values) (entryPair values (now (t .entry)) i) → Room (item (itemOf values)) (some (entryPair values (now (t .entry)) i)) at (now (out .entry)) → Wrote (item (itemOf values)) (some (entryPair values (now (t .entry)) i)) (now (out .entry)) (now (out .exit)) at r) ⌝ }
 {
     let first = put::put_byte(out, at, 1);
     let next = put::put_limited(out, first, table::key_at(t, i), Request::KEY);
@@ -46,7 +46,7 @@ fn put_entry(out: &mut [u8], at: usize, t: &[u8], i: usize, values: bool) -> usi
 
 // The entries listed and their end, where there are m of them.
 fn put_entries(out: &mut [u8], at: usize, t: &[u8], m: usize, values: bool) -> usize
-    ensures { λ r. ⌜ ((n : ℕ) → Listable values n m (now (t .entry)) at (now (out .entry)) → Wrote (listing values) (listedOf values n (stateOf (now (t .entry)))) (now (out .entry)) (now (out .exit)) at r) ⌝ }
+    ensures { λ r. ⌜ ((n : ℕ) → Listable values n m (now (t .entry)) at (now (out .entry)) → Wrote (listing values) (listedPairs values n (stateOf (now (t .entry)))) (now (out .entry)) (now (out .exit)) at r) ⌝ }
 {
     let mut here = at;
     let mut i = 0;

@@ -13,14 +13,15 @@ use Rattle.wire.specs.Codec as wire
 use Rattle.wire.specs.Codec.{Read, Valid, Bytes}
 use Rattle.wire.proofs.Laws.{never}
 use Rattle.message.specs.declared.Operation.{Operation}
-use Rattle.message.specs.Request.{Request, request, isEmpty}
-use Rattle.message.specs.Reply.{errorReply}
+use Rattle.message.specs.Arguments.{isEmpty}
+use Rattle.message.specs.Request.{Request, request}
+use Rattle.message.specs.Reply.{errorReply, longestReply}
 use Rattle.message.specs.Refusal.{refusal}
 use Rattle.message.proofs.RequestLaws.{request-laws}
 use Rattle.message.proofs.Sizes.{request-small}
 use Rattle.message.proofs.Refusals.{refusals}
 use Rattle.message.proofs.Every.{every}
-use Rattle.message.proofs.ReplySize.{longestReply, error-most}
+use Rattle.message.proofs.ReplySize.{error-most}
 use Rattle.message.proofs.ErrorLaws.{refusal-good}
 use Rattle.message.specs.Start.{idIn}
 use Rattle.map.specs.State.{State}

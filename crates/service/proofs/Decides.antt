@@ -8,7 +8,7 @@ use native.Mathlib.Omega.{arith}
 use lib.ListN.{length, getD, List·getD-eq-default}
 use lib.Dec.{eqb}
 use borrow.Author.Tests.{eqb-true, eqb-false}
-use Rattle.message.specs.Request.{keyLimit, valueLimit}
+use Rattle.message.specs.Arguments.{keyLimit, valueLimit}
 use Rattle.wire.specs.Codec.{isBytes}
 use Rattle.wire.proofs.Laws.{never}
 use Rattle.wire.specs.Same.{sameList}

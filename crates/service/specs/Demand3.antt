@@ -70,7 +70,7 @@ pub data SameCalls : List Call → List Call → Type 0 where
   same-call : {c c′ : Call} {cs cs′ : List Call} → c′ .context ≡ c .context → length (c′ .buffer) ≡ length (c .buffer) → SameCalls cs cs′
       → SameCalls (c ∷ cs) (c′ ∷ cs′)
 
--- how far a stream has come with one request of its row
+-- how far a stream has come with one request of its input
 pub data Progress : Type 0 where
   -- so many requests stand before it
   ahead : ℕ → Progress
@@ -122,7 +122,7 @@ pub data Independent (u w : List ℕ) : Progress → List ℕ → List ℕ → L
       → Independent u w (progress p table d) (drop (d .answer .taken) input) (d .table) cs cs′ ds ds′
       → Independent u w p input table (c ∷ cs) (c′ ∷ cs′) (d ∷ ds) (d′ ∷ ds′)
 
--- two rows that have u and w in one place, and else the same bytes
+-- two inputs that have u and w in one place, and else the same bytes
 pub record SameBut (u w input input′ : List ℕ) : Type 0 where
   pub front : List ℕ
   pub back : List ℕ

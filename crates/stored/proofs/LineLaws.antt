@@ -15,7 +15,7 @@ use Rattle.wire.specs.Codec.{Codec, Valid, Bytes, byte, guard, seq, all}
 use Rattle.wire.specs.Field.{bigEndian, limited}
 use Rattle.wire.proofs.Laws.{Laws, seq-laws, guard-laws, type-laws, byte-laws, guard-valid, seq-valid, type-good, seq-good, guard-good, bytes-are}
 use Rattle.wire.proofs.FieldLaws.{big-laws, big-good, limited-laws, limited-good}
-use Rattle.message.specs.Request.{keyLimit, valueLimit}
+use Rattle.message.specs.Arguments.{keyLimit, valueLimit}
 use Rattle.message.proofs.Most.{Most, type-most, seq-most, guard-most, byte-most, big-most, limited-most}
 use Rattle.map.specs.State.{Entry, State}
 use Rattle.map.specs.Table.{Each, IsTable}

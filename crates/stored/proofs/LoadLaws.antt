@@ -13,7 +13,7 @@ use Rattle.wire.specs.Codec.{Read, whole, more, refused, after, Codec, Bytes, b
 use Rattle.wire.specs.Field.{bigEndian, limited}
 use Rattle.wire.proofs.Laws.{Laws, after-after}
 use Rattle.wire.proofs.At.{at-front, at-seq, at-type, at-guard, at-cond}
-use Rattle.message.specs.Request.{keyLimit, valueLimit}
+use Rattle.message.specs.Arguments.{keyLimit, valueLimit}
 use Rattle.message.proofs.Most.{Most}
 use Rattle.field.specs.FieldRead.{stopped}
 use Rattle.field.proofs.Parts.{not-whole}

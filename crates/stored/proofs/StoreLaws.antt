@@ -16,7 +16,7 @@ use Rattle.wire.specs.Write.{Wrote, putAt, laid}
 use Rattle.wire.proofs.Laws.{type-valid, seq-valid, raw-good, bytes-part}
 use Rattle.wire.proofs.FieldLaws.{big-length, big-good, big-small, limited-length, limited-valid}
 use Rattle.wire.proofs.WriteLaws.{wrote-seq, wrote-guard, wrote-type, put-wrote}
-use Rattle.message.specs.Request.{keyLimit, valueLimit}
+use Rattle.message.specs.Arguments.{keyLimit, valueLimit}
 use Rattle.message.proofs.Most.{Most}
 use Rattle.map.specs.State.{Entry, State, fresh}
 use Rattle.map.specs.Deadline.{expired}

@@ -14,7 +14,7 @@ use Rattle.bytes.specs.Bytes.{slice, indexOf, indexAfter}
 use Rattle.wire.specs.Codec.{Valid}
 use Rattle.wire.proofs.Laws.{never, bytes-are}
 use Rattle.wire.proofs.FieldLaws.{limited-valid}
-use Rattle.message.specs.Request.{keyLimit, valueLimit}
+use Rattle.message.specs.Arguments.{keyLimit, valueLimit}
 use Rattle.map.specs.History.{noHistory}
 use Rattle.map.specs.State.{Entry, State}
 use Rattle.map.specs.Table.{Each, IsTable}

@@ -7,7 +7,7 @@ use Prim.Native.Nat.{ℕ}
 use lib.Dec.{eqb}
 use Rattle.wire.specs.Codec.{Codec, byte, guard, seq, as-type, all}
 use Rattle.wire.specs.Field.{entryVersion, second, limited}
-use Rattle.message.specs.Request.{keyLimit, valueLimit}
+use Rattle.message.specs.Arguments.{keyLimit, valueLimit}
 use Rattle.map.specs.History.{noHistory}
 use Rattle.map.specs.State.{Entry, State, withEntries, withHistory}
 use Rattle.map.specs.Deadline.{expired, standing}

@@ -5,7 +5,7 @@ use mathlib.Core.Logic.{⊎-elim, inl, inr}
 use Prim.Native.Nat.{ℕ, _+_, _-_, _≤_, _<_, _^_}
 use native.Mathlib.Omega.{arith}
 use lib.ListN.{length}
-use Rattle.message.specs.Request.{keyLimit, valueLimit}
+use Rattle.message.specs.Arguments.{keyLimit, valueLimit}
 use Rattle.map.specs.Step.{mostKeys}
 use Rattle.table.specs.Bytes.{upto}
 use Rattle.table.specs.Memory.{headCount, countIndex, lastIndex, firstIndex, boundIndex, rowsAt, rowWidth, size, numberOf, placeOf, rowAt, entry, entryOf, countOf, entriesOf, historyOf, Permutation}

@@ -6,7 +6,7 @@ use mathlib.Core.Option.{Option, none, some}
 use Prim.Native.Nat.{ℕ, suc, _-_}
 use lib.ListN.{length, getD, take, drop}
 use lib.Dec.{eqb, leb, ltb}
-use Rattle.message.specs.Request.{keyLimit, valueLimit}
+use Rattle.message.specs.Arguments.{keyLimit, valueLimit}
 use Rattle.map.specs.State.{Entry, State, withEntries, withLast, find, hasKey}
 use Rattle.message.specs.declared.Operation.{Operation}
 use Rattle.map.specs.History.{adds}

@@ -10,7 +10,7 @@ use mathlib.Core.Option.{Option, none, some}
 use Prim.Native.Nat.{ℕ, zero, suc, _+_, _*_, _%_, _≤_, _<_, _^_, min}
 use lib.ListN.{length, getD}
 use lib.Dec.{eqb}
-use Rattle.message.specs.Request.{keyLimit, valueLimit}
+use Rattle.message.specs.Arguments.{keyLimit, valueLimit}
 use Rattle.map.specs.History.{History, countsHeld}
 use Rattle.map.specs.State.{Entry, State, fresh}
 use Rattle.map.specs.Step.{mostKeys}

@@ -11,7 +11,7 @@ ghost use mathlib.Core.Bool.{true};
 ghost use Prim.Native.Nat.{suc, _+_, _≤_, _<_, _-_, min};
 ghost use lib.ListN.{length};
 ghost use lib.Seq.{sets};
-ghost use Rattle.message.specs.Request.{keyLimit, valueLimit};
+ghost use Rattle.message.specs.Arguments.{keyLimit, valueLimit};
 ghost use Rattle.map.specs.Step.{mostKeys, lastVersion};
 ghost use Rattle.wire.specs.Write.{part};
 ghost use Rattle.table.specs.Bytes.{be8};

@@ -7,35 +7,35 @@ use Rattle.text.specs.declared.Pending.{Pending}
 use Rattle.text.specs.declared.Pending.the-variants.{Bytes, Invalid}
 
 -- a line of the table: the first bytes from .. upto are followed by `count` bytes, the first of which is low .. high and the others 80 .. bf
-pub record Row : Type 0 where
+pub record Range : Type 0 where
   pub from : ℕ
   pub upto : ℕ
   pub count : ℕ
   pub low : ℕ
   pub high : ℕ
 
-abbrev pub row : ℕ → ℕ → ℕ → ℕ → ℕ → Row
-row f u c l h = record { from = f; upto = u; count = c; low = l; high = h }
+abbrev pub range : ℕ → ℕ → ℕ → ℕ → ℕ → Range
+range f u c l h = record { from = f; upto = u; count = c; low = l; high = h }
 
-unfoldable pub table : List Row
+unfoldable pub table : List Range
 table =
-    row 0x00 0x7f 0 0x80 0xbf
-    ∷ row 0xc2 0xdf 1 0x80 0xbf
-    ∷ row 0xe0 0xe0 2 0xa0 0xbf
-    ∷ row 0xe1 0xec 2 0x80 0xbf
-    ∷ row 0xed 0xed 2 0x80 0x9f
-    ∷ row 0xee 0xef 2 0x80 0xbf
-    ∷ row 0xf0 0xf0 3 0x90 0xbf
-    ∷ row 0xf1 0xf3 3 0x80 0xbf
-    ∷ row 0xf4 0xf4 3 0x80 0x8f
+    range 0x00 0x7f 0 0x80 0xbf
+    ∷ range 0xc2 0xdf 1 0x80 0xbf
+    ∷ range 0xe0 0xe0 2 0xa0 0xbf
+    ∷ range 0xe1 0xec 2 0x80 0xbf
+    ∷ range 0xed 0xed 2 0x80 0x9f
+    ∷ range 0xee 0xef 2 0x80 0xbf
+    ∷ range 0xf0 0xf0 3 0x90 0xbf
+    ∷ range 0xf1 0xf3 3 0x80 0xbf
+    ∷ range 0xf4 0xf4 3 0x80 0x8f
     ∷ []
 
-unfoldable pub rowOf : List Row → ℕ → Pending
-rowOf [] b = Invalid
-rowOf (r ∷ rs) b = cond (leb (r .from) b) (cond (leb b (r .upto)) (Bytes (r .count) (r .low) (r .high)) (rowOf rs b)) (rowOf rs b)
+unfoldable pub rangeOf : List Range → ℕ → Pending
+rangeOf [] b = Invalid
+rangeOf (r ∷ rs) b = cond (leb (r .from) b) (cond (leb b (r .upto)) (Bytes (r .count) (r .low) (r .high)) (rangeOf rs b)) (rangeOf rs b)
 
 unfoldable pub leadOf : ℕ → Pending
-leadOf b = rowOf table b
+leadOf b = rangeOf table b
 
 -- what has to follow once a byte has come
 unfoldable pub stepOf : Pending → ℕ → Pending

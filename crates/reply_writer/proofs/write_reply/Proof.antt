@@ -6,7 +6,7 @@ use Rattle.wire.specs.Codec.{refuse}
 use Rattle.wire.specs.Write.{send}
 use Rattle.message.specs.Operation.{findCode}
 use Rattle.message.specs.ReplyTable.{bodyAt, isAllowed}
-use Rattle.message.specs.Reply.{reply, replyOf, isAwaited, rowsOf}
+use Rattle.message.specs.Reply.{reply, replyOf, isAwaited, statusesOf}
 use Rattle.reply_writer.proofs.SendLaws.{send-other, send-unlisted, send-framed}
 use borrow.Author.Needs.{needs}
 use Rattle.reply_writer.proofs.write_reply.Statement.{statement}
@@ -18,7 +18,7 @@ found : (c : tie.After-found) → let s = c .before .before .before .before .bef
 found c = sym (c .before .before .find .ensures) ∙ rw (c .found .given .1)
 
 listed : (c : tie.After-is-allowed) → let f = c .before .before .before .before .before in let a = f .before .before .before .before .before .before .args .head in
-    isAllowed (bodyAt (a .status) (rowsOf (f .found .given .0 .0) (a .op))) ≡ c .is-allowed .result
+    isAllowed (bodyAt (a .status) (statusesOf (f .found .given .0 .0) (a .op))) ≡ c .is-allowed .result
 listed c = ap isAllowed (sym (c .before .body-at .ensures)) ∙ sym (c .is-allowed .ensures)
 
 returns : tie.Need-returns
@@ -32,7 +32,7 @@ returns-2 c = let i = c .before in
     let s = f .before .before .before .before .before .before in
     let o = f .found .given .0 .0 in
     rw (found f)
-    (send-other (isAwaited o) (rowsOf o) (s .args .asked .flag) (replyOf (s .args .head) (s .args .value .now) (s .args .text .now)) (s .args .out .now)
+    (send-other (isAwaited o) (statusesOf o) (s .args .asked .flag) (replyOf (s .args .head) (s .args .value .now) (s .args .text .now)) (s .args .out .now)
     (sym (i .is-awaited .ensures) ∙ not-true _ (c .if1 .taken)))
 
 returns-3 : tie.Need-returns-3
@@ -42,7 +42,7 @@ returns-3 c = let i = c .before in
     let s = f .before .before .before .before .before .before in
     let o = f .found .given .0 .0 in
     rw (found f)
-    (send-unlisted (isAwaited o) (rowsOf o) (s .args .asked .flag) (replyOf (s .args .head) (s .args .value .now) (s .args .text .now)) (s .args .out .now)
+    (send-unlisted (isAwaited o) (statusesOf o) (s .args .asked .flag) (replyOf (s .args .head) (s .args .value .now) (s .args .text .now)) (s .args .out .now)
     (listed i ∙ not-true _ (c .if2 .taken)))
 
 returns-4 : tie.Need-returns-4
@@ -57,7 +57,7 @@ returns-4 c = let w = c .before .before in
     rw (found f)
     (w .write-message .ensures
     ∙ (rw (← (i .before .body-at .ensures), ← (w .before .form-of .ensures)) at
-    (send-framed (isAwaited o) (rowsOf o) (s .args .asked .flag) (replyOf (s .args .head) (s .args .value .now) (s .args .text .now)) (s .args .out .now)
+    (send-framed (isAwaited o) (statusesOf o) (s .args .asked .flag) (replyOf (s .args .head) (s .args .value .now) (s .args .text .now)) (s .args .out .now)
     (sym (e .before .is-awaited .ensures) ∙ not-false _ (e .if1 .left)) (listed i ∙ not-false _ (l .if2 .left)))))
 
 pub write-reply-spec : {M : Type 1} → statement M

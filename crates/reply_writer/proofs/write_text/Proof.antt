@@ -5,7 +5,7 @@ use lib.Dec.{eqb}
 use Rattle.message.specs.declared.Operation.the-variants.{Ping}
 use Rattle.message.specs.Operation.{findCode}
 use Rattle.message.specs.ReplyTable.{errorCode, errors, isAllowed}
-use Rattle.message.specs.Reply.{isAwaited, rowsOf, reply, errorReply}
+use Rattle.message.specs.Reply.{isAwaited, statusesOf, reply, errorReply}
 use Rattle.rules.proofs.BodyLaws.{error-text}
 use Rattle.reply_writer.specs.Frame.{errorOf}
 use Rattle.reply_writer.proofs.SendLaws.{send-framed}
@@ -21,7 +21,7 @@ returns c = let w = c .before .before in
     let r = errorOf (a .id) (a .status) (a .text .now) in
     let e = ap isAllowed (sym (error-text (a .status) (s .pre .0) (s .pre .1))) in
     w .write-reply .ensures
-    ∙ sym (send-framed (isAwaited Ping) (rowsOf Ping) false r (a .out .now) refl e)
+    ∙ sym (send-framed (isAwaited Ping) (statusesOf Ping) false r (a .out .now) refl e)
     ∙ send-framed (λ op. eqb op errorCode) (λ op. errors) false r (a .out .now) refl e
 
 pub write-text-spec : {M : Type 1} → statement M

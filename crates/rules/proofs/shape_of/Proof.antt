@@ -1,5 +1,5 @@
 -- `rules::shape_of` meets its contract, arm by arm. Assumes nothing.
-use Rattle.message.specs.Request.{shapeOf}
+use Rattle.message.specs.Arguments.{shapeOf}
 use borrow.Author.Needs.{needs}
 use Rattle.rules.proofs.shape_of.Statement.{statement}
 use Rattle.rules.proofs.shape_of.Tie as tie

@@ -6,7 +6,7 @@ use Rattle.wire.specs.Codec.{Read, mapped, readAt}
 use Rattle.wire.specs.Number.{vLong}
 use Rattle.field.proofs.Parts.{number-stops}
 use Rattle.message.specs.ReplyTable.{bodyAt, isAllowed}
-use Rattle.message.specs.Reply.{isAwaited, rowsOf, message}
+use Rattle.message.specs.Reply.{isAwaited, statusesOf, message}
 use Rattle.reply_reader.specs.ReplyRead.{Answer, replyAt}
 use Rattle.reply_reader.proofs.ReadLaws.{rest1, rest2, rest3, rest4, rest5, at-message}
 use Rattle.reply_reader.proofs.BulkLaws.{bulk-form}
@@ -16,7 +16,7 @@ use Rattle.reply_reader.proofs.read.read_message.Tie as tie
 
 -- what reading the reply finds, and what decides after each field
 abbrev Of : tie.Start → Read Answer
-Of s = mapped replyAt (readAt (message (isAwaited (s .args .o)) (rowsOf (s .args .o)) (s .args .flag)) (s .args .s .now) 0)
+Of s = mapped replyAt (readAt (message (isAwaited (s .args .o)) (statusesOf (s .args .o)) (s .args .flag)) (s .args .s .now) 0)
 
 at1 : (c : tie.After-r1) → let s = c .before .before .before .before in
     Of s ≡ rest1 (s .args .o) (s .args .flag) (s .args .s .now) (c .r1 .given .0 .1 .0 .at)
@@ -42,7 +42,7 @@ unfolding rest3
 at4 c = at3 (c .before .before .before .before .before .before) ∙ rw (awaited (c .before .before .before), ← (c .before .before .read-byte2 .ensures), c .r4 .given .1)
 
 listed : (c : tie.After-is-allowed) → let r4 = c .before .before .before in let r3 = r4 .before .before .before .before .before .before in let r2 = r3 .before .before .before .before in let s = r2 .before .before .before .before .before .before .before .before in
-    isAllowed (bodyAt (r4 .r4 .given .0 .0) (rowsOf (s .args .o) (r3 .r3 .given .0 .0))) ≡ c .is-allowed .result
+    isAllowed (bodyAt (r4 .r4 .given .0 .0) (statusesOf (s .args .o) (r3 .r3 .given .0 .0))) ≡ c .is-allowed .result
 listed c = ap isAllowed (sym (c .before .body-at .ensures)) ∙ sym (c .is-allowed .ensures)
 
 at5 : (c : tie.After-r5) → let r4 = c .before .before .before .before .before .before .before in let r3 = r4 .before .before .before .before .before .before in let r2 = r3 .before .before .before .before in let s = r2 .before .before .before .before .before .before .before .before in

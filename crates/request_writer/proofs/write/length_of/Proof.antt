@@ -1,7 +1,8 @@
 -- `request_writer::write::length_of` meets its contract: the lengths of the fields make the whole. Assumes nothing.
 use Prim.Native.Nat.{_<_, _^_}
 use native.Mathlib.Omega.{arith}
-use Rattle.message.specs.Request.{requestOf, shapeOf}
+use Rattle.message.specs.Arguments.{shapeOf}
+use Rattle.message.specs.Request.{requestOf}
 use Rattle.request_writer.proofs.Rules.{within, rules}
 use Rattle.request_writer.proofs.Sizes.{args-small, request-size}
 use borrow.Author.Needs.{needs}

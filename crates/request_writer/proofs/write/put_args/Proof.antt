@@ -1,7 +1,7 @@
 -- `request_writer::write::put_args` meets its contract: the shape decides. Assumes nothing.
 use mathlib.Core.Path.{_≡_, sym, _∙_}
 use Rattle.wire.specs.Number.{vInt}
-use Rattle.message.specs.Request.{shapeOf}
+use Rattle.message.specs.Arguments.{shapeOf}
 use Rattle.rules.specs.declared.Shape.{Shape}
 use Rattle.rules.specs.Shape.{asShape}
 use Rattle.request_writer.proofs.Puts.{put-keyed, put-bare, put-bulk}

@@ -7,7 +7,8 @@ use Prim.Native.Nat.{ℕ, _≤_}
 use native.Mathlib.Omega.{arith}
 use lib.ListN.{length}
 use borrow.Author.Tests.{eq-eqb, ne-eqb}
-use Rattle.message.specs.Request.{Request, requestIn, isEmpty}
+use Rattle.message.specs.Arguments.{isEmpty}
+use Rattle.message.specs.Request.{Request, requestIn}
 use Rattle.message.proofs.Sizes.{request-small}
 use Rattle.map.specs.Plan.{Change}
 use Rattle.map.specs.Step as map

@@ -4,7 +4,7 @@ use native.Mathlib.Omega.{arith}
 use Rattle.message.proofs.Most.{vLong-most}
 use Rattle.reply_writer.proofs.SendLaws.{bulk-behind, send-bulk}
 use Rattle.table.specs.Memory.{stateOf}
-use Rattle.server.specs.Bulk.{listedOf}
+use Rattle.server.specs.Bulk.{listedPairs}
 use Rattle.server.proofs.SendLaws.{listed-valid, listed-most}
 use borrow.Author.Needs.{needs}
 use Rattle.server.proofs.bulk.write_bulk.Statement.{statement}
@@ -16,7 +16,7 @@ returns c s v h flag =
     let m = p .before in
     let b = m .before .before .before .before in
     let a = b .before .before .before .before .args in
-    let es = listedOf (a .values) (a .n) (stateOf (a .t .now)) in
+    let es = listedPairs (a .values) (a .n) (stateOf (a .t .now)) in
     let g = listed-valid (a .n) (a .t .now) (a .values) s in
     bulk-behind (a .values) (a .id) es (a .out .now) v g (omega (arith, h, vLong-most .most (a .id) v, listed-most (a .n) (a .t .now) (a .values) s)) (b .put-bulk-head .ensures)
     (λ r. p .put-entries .ensures (a .n) (record { many = m .many .ensures; valid = g; room = r }))

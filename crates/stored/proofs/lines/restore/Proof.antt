@@ -6,7 +6,7 @@ use borrow.Author.Tests.{eq-eqb, ne-eqb}
 use Rattle.wire.specs.Codec.{whole, more, exactly, readAt}
 use Rattle.wire.specs.Field.{bigEndian, limited}
 use Rattle.stored.specs.File.{form1, entryLine}
-use Rattle.message.specs.Request.{keyLimit, valueLimit}
+use Rattle.message.specs.Arguments.{keyLimit, valueLimit}
 use Rattle.wire.proofs.Laws.{after-after}
 use Rattle.field.proofs.Parts.{span-stops, limited-in}
 use Rattle.field.specs.FieldRead.{partOf, asSpan}

@@ -2,7 +2,7 @@
 use native.Mathlib.Omega.{arith}
 use borrow.Author.Tests.{le-leb, lt-leb}
 use lib.ListN.{length}
-use Rattle.message.specs.Request.{keyLimit}
+use Rattle.message.specs.Arguments.{keyLimit}
 use Rattle.table.specs.Change.{fitsRow}
 use Rattle.table.proofs.check.fits_row.Statement.{statement}
 use Rattle.table.proofs.check.fits_row.Tie as tie

@@ -6,7 +6,7 @@ use native.Mathlib.Omega.{arith}
 use lib.ListN.{length, getD}
 use borrow.Author.Tests.{eq-eqb}
 use borrow.Author.Needs.{needs}
-use Rattle.message.specs.Request.{keyLimit}
+use Rattle.message.specs.Arguments.{keyLimit}
 use Rattle.table.specs.Bytes.{be8}
 use Rattle.table.specs.Memory.{entry, entryOf, rowWidth, keyLengthStart, keyStart}
 use Rattle.table.proofs.Parts.{length-part, getD-part}

@@ -1,7 +1,7 @@
--- `rules::row` meets its contract. Assumes nothing.
+-- `rules::pick` meets its contract. Assumes nothing.
 use borrow.Author.Tests.{ne-eqb}
-use Rattle.rules.proofs.row.Statement.{statement}
-use Rattle.rules.proofs.row.Tie as tie
+use Rattle.rules.proofs.pick.Statement.{statement}
+use Rattle.rules.proofs.pick.Tie as tie
 
 returns : tie.Need-returns
 returns c = rw (c .match .keys1)
@@ -15,5 +15,5 @@ returns-3 c = rw (c .match .keys3)
 returns-4 : tie.Need-returns-4
 returns-4 c = rw (ne-eqb _ _ (c .match .rest .0 .0 .1), ne-eqb _ _ (c .match .rest .0 .1), ne-eqb _ _ (c .match .rest .1))
 
-pub row-spec : {M : Type 1} → statement M
-row-spec = tie.close (tie.spec returns returns-2 returns-3 returns-4)
+pub pick-spec : {M : Type 1} → statement M
+pick-spec = tie.close (tie.spec returns returns-2 returns-3 returns-4)

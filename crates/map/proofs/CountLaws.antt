@@ -304,15 +304,3 @@ module _ (c : Context) (r : Request) (st : State) where
   pub time-since : (f : ℕ) → st .history .first ≡ some f → timeIn (statistics c (arrive c r st)) ≡ c .second - f
   unfolding statistics arrive noted swept
   time-since f e = rw e
-
-first-after : (f : ℕ) (c : Context) (r : Request) (st : State) (o : Outcome) → step c r st ≡ o → st .history .first ≡ some f → stateAfter st o .history .first ≡ some f
-first-after f c r st (refused k) e h = h
-first-after f c r st (answered a t) e h = first-step c r st a t e ∙ rw h
-
--- it stays the first
-pub first-run : (f : ℕ) (xs : List (Context × Request)) (st : State) → st .history .first ≡ some f → ends st (run xs st) .history .first ≡ some f
-unfolding run ends
-first-run f [] st h = h
-first-run f (x ∷ xs) st h =
-    let o = step (x .0) (x .1) st in
-    first-run f xs (stateAfter st o) (first-after f (x .0) (x .1) st o refl h)

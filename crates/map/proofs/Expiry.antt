@@ -20,17 +20,17 @@ use Rattle.map.specs.State.{Entry, State}
 use Rattle.map.specs.Deadline.{standing}
 use Rattle.map.specs.Plan.{Change, keep, store, drop, empty}
 use Rattle.map.specs.Shown.{Shown, nothing, noValue, value, versioned, counted, listed, shows, byVersion, wanted, lowest, listedBy}
-use Rattle.map.specs.Step.{mostKeys, lastVersion, Context, Result, Outcome, refused, answered, wantsOld, entry, stored, isNone, names, held, full, planned, statistics, result, act, core, present, swept, noted, arrive, step, stateAfter, run}
+use Rattle.map.specs.Step.{mostKeys, lastVersion, Context, Result, Outcome, refused, answered, wantsOld, entry, stored, isNone, names, held, full, planned, statistics, result, act, core, present, swept, noted, arrive, step, stateAfter, Taken, run}
 use Rattle.map.specs.Table.{Each}
 use Rattle.map.specs.Counted.{ends}
 use Rattle.map.specs.Reply.{Piece, itemPieces, listPieces, shownPieces, pieces}
-use Rattle.map.specs.Expiry.{Stands, ShowsEach, PiecesHave, InTime, AllInTime, Rises, greatest}
+use Rattle.map.specs.Expiry.{Stands, ShowsEach, PiecesHave, InTime, AllInTime, Rises, greatest, firstServed}
 use Rattle.map.proofs.Each.{Maybe, each-find}
 use Rattle.wire.proofs.SameLaws.{same-refl}
 use Rattle.map.proofs.Answered.{changed, did}
 use Rattle.map.proofs.Laws.{find-stored}
 use Rattle.map.proofs.ListedLaws.{listed-each}
-use Rattle.map.proofs.CountLaws.{latest-step}
+use Rattle.map.proofs.CountLaws.{latest-step, first-step}
 use Rattle.map.proofs.Standing.{standing-stand, standing-all}
 
 -- a result shows entries of the state that it is given from
@@ -186,3 +186,25 @@ latest-run [] st = refl
 latest-run (x ∷ xs) st =
     let o = step (x .0) (x .1) st in
     latest-run xs (stateAfter st o) ∙ ap (λ (n : ℕ). greatest n xs (run xs (stateAfter st o))) (latest-after (x .0) (x .1) st o refl)
+
+-- "that of the first call served", by whether one was before; nothing behind it moves it
+first-none : (h : Option ℕ) → h ≡ firstServed h [] []
+unfolding firstServed
+first-none none = refl
+first-none (some n) = refl
+
+first-after : (h : Option ℕ) (c : Context) (r : Request) (st : State) (o : Outcome) → st .history .first ≡ h → step c r st ≡ o
+    → (xs : List (Context × Request)) (ts : List Taken)
+    → firstServed (stateAfter st o .history .first) xs ts ≡ firstServed h ((c, r) ∷ xs) (record { request = r; outcome = o; state = stateAfter st o } ∷ ts)
+unfolding firstServed
+first-after none c r st (refused k) q e xs ts = rw q
+first-after none c r st (answered a t) q e xs ts = rw (first-step c r st a t e, q)
+first-after (some n) c r st (refused k) q e xs ts = rw q
+first-after (some n) c r st (answered a t) q e xs ts = rw (first-step c r st a t e, q)
+
+pub first-run : (xs : List (Context × Request)) (st : State) → ends st (run xs st) .history .first ≡ firstServed (st .history .first) xs (run xs st)
+unfolding run ends
+first-run [] st = first-none (st .history .first)
+first-run (x ∷ xs) st =
+    let o = step (x .0) (x .1) st in
+    first-run xs (stateAfter st o) ∙ first-after (st .history .first) (x .0) (x .1) st o refl refl xs (run xs (stateAfter st o))

@@ -1,6 +1,7 @@
--- What expiry means over the steps of a run (document 02, C-15).
+-- What expiry means over the steps of a run (document 02, C-15), and which seconds a run leaves.
 use mathlib.Core.List.{List, [], _∷_}
 use mathlib.Core.Bool.{cond}
+use mathlib.Core.Option.{Option, none, some}
 use Prim.Native.Nat.{ℕ, _≤_, _<_, max}
 use Rattle.message.specs.Request.{Request}
 use Rattle.map.specs.State.{Entry}
@@ -32,7 +33,7 @@ abbrev pub PiecesHave : (Entry → Type 0) → List Piece → Type 0
 PiecesHave P [] = Unit {0}
 PiecesHave P (p ∷ ps) = PieceHas P p × PiecesHave P ps
 
--- A result shows what stands at the latest second that its step left, which is its present second (`latest-run`).
+-- A result shows what stands at the latest second that its step left, which is its present second (`latest-step`).
 abbrev pub InTime : Outcome → Type 0
 InTime (refused k) = Unit {0}
 InTime (answered a st) = ShowsEach (Stands (st .history .latest)) (a .shown)
@@ -51,3 +52,10 @@ unfoldable pub greatest : ℕ → List (Context × Request) → List Taken → �
 greatest n [] ts = n
 greatest n (x ∷ xs) [] = n
 greatest n (x ∷ xs) (t ∷ ts) = greatest (cond (isAnswered (t .outcome)) (max (x .0 .second) n) n) xs ts
+
+-- "the first call served": the one before the run where there is one, else the first of the calls that was answered
+unfoldable pub firstServed : Option ℕ → List (Context × Request) → List Taken → Option ℕ
+firstServed (some n) xs ts = some n
+firstServed none [] ts = none
+firstServed none (x ∷ xs) [] = none
+firstServed none (x ∷ xs) (t ∷ ts) = cond (isAnswered (t .outcome)) (some (x .0 .second)) (firstServed none xs ts)

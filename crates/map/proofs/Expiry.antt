@@ -24,7 +24,7 @@ use Rattle.map.specs.Step.{mostKeys, lastVersion, Context, Result, Outco
 use Rattle.map.specs.Table.{Each}
 use Rattle.map.specs.Counted.{ends}
 use Rattle.map.specs.Reply.{Piece, itemPieces, listPieces, shownPieces, pieces}
-use Rattle.map.specs.Expiry.{Stands, ShowsEach, PiecesHave, InTime, AllInTime, Rises, greatest, firstServed}
+use Rattle.map.specs.Expiry.{Stands, ShowsEach, PiecesHave, InTime, AllInTime, datedStep, Rises, greatest, firstServed}
 use Rattle.map.proofs.Each.{Maybe, each-find}
 use Rattle.wire.proofs.SameLaws.{same-refl}
 use Rattle.map.proofs.Answered.{changed, did}
@@ -133,6 +133,11 @@ module _ (c : Context) (r : Request) (st : State) where
   unfolding step arrive noted swept full
   ten-stands e = let f = core-ten c r (arrive c r st) e in leb-true mostKeys _ (both (isNone (held r (arrive c r st))) _ f)
 
+  -- "counts as absent for every operation, listing and statistic": to drop what has expired before a call changes no outcome
+  pub expired-absent : step c r (swept c st) ≡ step c r st
+  unfolding step arrive noted swept
+  expired-absent = rw (standing-all (present c st) (standing (present c st) (st .entries)) (standing-stand (present c st) (st .entries)))
+
   -- every listing and statistic is of what stands
   pub lists-standing : listedBy r (arrive c r st) ≡ lowest (wanted r) (byVersion (standing (present c st) (st .entries)))
   unfolding listedBy arrive noted swept
@@ -142,14 +147,17 @@ module _ (c : Context) (r : Request) (st : State) where
   unfolding statistics arrive noted swept
   counts-standing = refl
 
-  -- What moved since C-14, as one law: at a second that is not below the latest one and before every deadline nothing is dropped, and deadlines are
-  -- reckoned from the call's own second.
-  pub nothing-expired : st .history .latest ≤ c .second → Each (Stands (c .second)) (st .entries)
-      → (step c r st ≡ core c r (noted c r st)) × (noted c r st .history .latest ≡ c .second)
-  unfolding step arrive noted swept
+  -- What moved since C-14, as one law: a step is that of C-14 on what stands, reckoned from the present second.
+  pub moved : step c r st ≡ datedStep (present c st) c r (swept c st)
+  unfolding step datedStep arrive noted swept
+  moved = refl
+
+  -- So at a second that is not below the latest one and before every deadline it is that of C-14, reckoned from the call's own second.
+  pub nothing-expired : st .history .latest ≤ c .second → Each (Stands (c .second)) (st .entries) → step c r st ≡ datedStep (c .second) c r st
+  unfolding swept
   nothing-expired l h =
       let own : present c st ≡ c .second = max-eq-left l in
-      (rw (standing-all (present c st) (st .entries) (rw own h)), own)
+      moved ∙ rw (own, standing-all (c .second) (st .entries) h)
 
 -- "Deadlines are reckoned from it": what a step stores has the deadline from the present second
 pub stores-from : (c : Context) (r : Request) (st : State) (a : Result) (t : State) → step c r st ≡ answered a t → planned r (arrive c r st) .change ≡ store

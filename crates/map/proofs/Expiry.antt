@@ -1,6 +1,6 @@
 -- Expiry over every run. Assumes nothing.
 use mathlib.Core.Path.{_≡_, refl, ap, _∙_}
-use mathlib.Core.List.{List, [], _∷_, _++_}
+use mathlib.Core.List.{List, [], _∷_}
 use mathlib.Core.Bool.{Bool, true, false, cond, _&&_}
 use mathlib.Core.Option.{Option, none, some}
 use Prim.Native.Nat.{ℕ, suc, _≤_}
@@ -19,12 +19,11 @@ use Rattle.message.specs.Payload.{formOf}
 use Rattle.map.specs.State.{Entry, State}
 use Rattle.map.specs.Deadline.{standing}
 use Rattle.map.specs.Plan.{Change, keep, store, drop, empty}
-use Rattle.map.specs.Shown.{Shown, nothing, noValue, value, versioned, counted, listed, shows, byVersion, wanted, lowest, listedBy}
+use Rattle.map.specs.Shown.{shows, byVersion, wanted, lowest, listedBy}
 use Rattle.map.specs.Step.{mostKeys, lastVersion, Context, Result, Outcome, refused, answered, wantsOld, entry, stored, isNone, names, held, full, planned, statistics, result, act, core, present, swept, noted, arrive, step, stateAfter, Taken, run}
 use Rattle.map.specs.Table.{Each}
 use Rattle.map.specs.Counted.{ends}
-use Rattle.map.specs.Reply.{Piece, itemPieces, listPieces, shownPieces, pieces}
-use Rattle.map.specs.Expiry.{Stands, ShowsEach, PiecesHave, InTime, AllInTime, datedStep, Rises, greatest, firstServed}
+use Rattle.map.specs.Expiry.{Stands, ShowsEach, InTime, AllInTime, datedStep, Rises, greatest, firstServed}
 use Rattle.map.proofs.Each.{Maybe, each-find}
 use Rattle.wire.proofs.SameLaws.{same-refl}
 use Rattle.map.proofs.Answered.{changed, did}
@@ -50,33 +49,6 @@ unfolding result held
 result-each P c r st h =
     shows-each P (formOf (wantsOld r) (allowed (bodyAt (planned r st .status) (table (r .op))))) (statistics c st) (listedBy r st) (held r st)
     (listed-each r st P h) (each-find (names r) P (st .entries) h)
-
--- and so do the pieces of its reply
-pieces-append : (P : Entry → Type 0) (ps qs : List Piece) → PiecesHave P ps → PiecesHave P qs → PiecesHave P (ps ++ qs)
-pieces-append P [] qs h i = i
-pieces-append P (p ∷ ps) qs h i = (h .0, pieces-append P ps qs (h .1) i)
-
-item-have : (P : Entry → Type 0) (values : Bool) (e : Entry) → P e → PiecesHave P (itemPieces values e)
-item-have P true e h = (tt, (tt, (h, tt)))
-item-have P false e h = (tt, tt)
-
-list-have : (P : Entry → Type 0) (values : Bool) (es : List Entry) → Each P es → PiecesHave P (listPieces values es)
-unfolding listPieces
-list-have P values [] h = (tt, tt)
-list-have P values (e ∷ es) h = pieces-append P (itemPieces values e) (listPieces values es) (item-have P values e (h .0)) (list-have P values es (h .1))
-
-shown-have : (P : Entry → Type 0) (s : Shown) → ShowsEach P s → PiecesHave P (shownPieces s)
-unfolding shownPieces
-shown-have P nothing h = tt
-shown-have P noValue h = (tt, tt)
-shown-have P (value e) h = (tt, (h, tt))
-shown-have P (versioned e) h = (tt, (tt, (h, tt)))
-shown-have P (counted ns) h = (tt, tt)
-shown-have P (listed values es) h = list-have P values es h
-
-pub pieces-have : (P : Entry → Type 0) (r : Request) (a : Result) → ShowsEach P (a .shown) → PiecesHave P (pieces r a)
-unfolding pieces
-pieces-have P r a h = (tt, shown-have P (a .shown) h)
 
 -- what is refused 10 is full
 both : (a b : Bool) → (a && b) ≡ true → b ≡ true

@@ -9,7 +9,6 @@ use Rattle.map.specs.Shown.{Shown, nothing, noValue, value, versioned, c
 use Rattle.map.specs.Step.{Context, Outcome, refused, answered, core, noted, Taken}
 use Rattle.map.specs.Table.{Each}
 use Rattle.map.specs.Counted.{isAnswered}
-use Rattle.map.specs.Reply.{Piece, fixed, ofEntry}
 
 -- "An entry whose deadline isn't 0 and isn't above the present second counts as absent": every other one stands
 abbrev pub Stands : ℕ → Entry → Type 0
@@ -23,15 +22,6 @@ ShowsEach P (value e) = P e
 ShowsEach P (versioned e) = P e
 ShowsEach P (counted ns) = Unit {0}
 ShowsEach P (listed values es) = Each P es
-
--- each entry whose value is in the pieces of a reply has the property
-abbrev pub PieceHas : (Entry → Type 0) → Piece → Type 0
-PieceHas P (fixed s) = Unit {0}
-PieceHas P (ofEntry e) = P e
-
-abbrev pub PiecesHave : (Entry → Type 0) → List Piece → Type 0
-PiecesHave P [] = Unit {0}
-PiecesHave P (p ∷ ps) = PieceHas P p × PiecesHave P ps
 
 -- A result shows what stands at the latest second that its step left, which is its present second (`latest-step`).
 abbrev pub InTime : Outcome → Type 0

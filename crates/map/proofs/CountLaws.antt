@@ -145,11 +145,11 @@ full-at m n h = go (decLt m n)
 onward-sum : (n k : ℕ) → n ≤ mostCount → atMost mostCount (onward n + k) ≡ atMost mostCount (n + suc k)
 onward-sum n k h = go (ltb n mostCount) refl
   where
-    go : (b : Bool) → ltb n mostCount ≡ b → atMost mostCount (cond b (suc n) n + k) ≡ atMost mostCount (n + suc k)
-    go true q = let e : suc n + k ≡ n + suc k = omega arith in ap (atMost mostCount) e
+    go : (b : Bool) → ltb n mostCount ≡ b → atMost mostCount (onward n + k) ≡ atMost mostCount (n + suc k)
+    go true q = let e : suc n + k ≡ n + suc k = omega arith in rw q (ap (atMost mostCount) e)
     go false q =
         let l = ltb-false n mostCount q in
-        full-at mostCount (n + k) (omega arith) ∙ sym (full-at mostCount (n + suc k) (omega arith))
+        rw q (full-at mostCount (n + k) (omega arith) ∙ sym (full-at mostCount (n + suc k) (omega arith)))
 
 step-sum : (b : Bool) (n k : ℕ) → n ≤ mostCount → atMost mostCount (cond b (onward n) n + k) ≡ atMost mostCount (n + cond b (suc k) k)
 step-sum true n k h = onward-sum n k h

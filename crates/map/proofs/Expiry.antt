@@ -1,7 +1,7 @@
 -- Expiry over every run. Assumes nothing.
 use mathlib.Core.Path.{_≡_, refl, ap, _∙_}
 use mathlib.Core.List.{List, [], _∷_}
-use mathlib.Core.Bool.{Bool, true, false, cond, _&&_}
+use mathlib.Core.Bool.{Bool, true, false, cond}
 use mathlib.Core.Option.{Option, none, some}
 use Prim.Native.Nat.{ℕ, suc, _≤_}
 use native.Mathlib.Nat.{le-refl, le-max-right, max-eq-left}
@@ -9,18 +9,16 @@ use native.Mathlib.Omega.{arith}
 use lib.ListN.{length, getD}
 use lib.Dec.{eqb, ltb}
 use borrow.Author.Tests.{leb-true}
-use Rattle.wire.proofs.Laws.{never}
+use Rattle.wire.proofs.Laws.{never, both}
 use Rattle.wire.proofs.Basics.{pick}
 use Rattle.message.specs.declared.Form.{Form}
 use Rattle.message.specs.declared.Form.the-variants as form
 use Rattle.message.specs.Request.{Request, isEmpty}
-use Rattle.message.specs.ReplyTable.{bodyAt, allowed, table}
-use Rattle.message.specs.Payload.{formOf}
 use Rattle.map.specs.State.{Entry, State}
 use Rattle.map.specs.Deadline.{standing}
 use Rattle.map.specs.Plan.{Change, keep, store, drop, empty}
 use Rattle.map.specs.Shown.{shows, byVersion, wanted, lowest, listedBy}
-use Rattle.map.specs.Step.{mostKeys, lastVersion, Context, Result, Outcome, refused, answered, wantsOld, entry, stored, isNone, names, held, full, planned, statistics, result, act, core, present, swept, noted, arrive, step, stateAfter, Taken, run}
+use Rattle.map.specs.Step.{mostKeys, lastVersion, Context, Result, Outcome, refused, answered, entry, stored, isNone, names, held, full, planned, statistics, result, act, core, present, swept, noted, arrive, step, stateAfter, Taken, run}
 use Rattle.map.specs.Table.{Each}
 use Rattle.map.specs.Counted.{ends}
 use Rattle.map.specs.Expiry.{Stands, ShowsEach, InTime, AllInTime, datedStep, Rises, greatest, firstServed}
@@ -47,14 +45,9 @@ shows-each P (form.Listed values) ns es f h i = h
 result-each : (P : Entry → Type 0) (c : Context) (r : Request) (st : State) → Each P (st .entries) → ShowsEach P (result c r st .shown)
 unfolding result held
 result-each P c r st h =
-    shows-each P (formOf (wantsOld r) (allowed (bodyAt (planned r st .status) (table (r .op))))) (statistics c st) (listedBy r st) (held r st)
-    (listed-each r st P h) (each-find (names r) P (st .entries) h)
+    shows-each P _ (statistics c st) (listedBy r st) (held r st) (listed-each r st P h) (each-find (names r) P (st .entries) h)
 
 -- what is refused 10 is full
-both : (a b : Bool) → (a && b) ≡ true → b ≡ true
-both true b e = e
-both false b e = never (cc)
-
 act-ten : (r : Request) (st : State) (a : Result) (d : Change) → act r st a d ≡ refused 10 → full r st ≡ true
 unfolding act
 act-ten r st a keep e = never (cc)
@@ -96,14 +89,10 @@ module _ (c : Context) (r : Request) (st : State) where
   rises-after (refused k) e = le-refl _
   rises-after (answered a t) e = rw (latest-step c r st a t e) (le-max-right _ _)
 
-  -- a step that is refused changes nothing: neither the entries that it took for absent nor the latest second
-  pub refused-keeps : (k : ℕ) → step c r st ≡ refused k → stateAfter st (step c r st) ≡ st
-  refused-keeps k e = rw e
-
   -- "Refusal 10 counts only entries that still stand."
   pub ten-stands : step c r st ≡ refused 10 → mostKeys ≤ length (standing (present c st) (st .entries))
   unfolding step arrive noted swept full
-  ten-stands e = let f = core-ten c r (arrive c r st) e in leb-true mostKeys _ (both (isNone (held r (arrive c r st))) _ f)
+  ten-stands e = let f = core-ten c r (arrive c r st) e in leb-true mostKeys _ (both (isNone (held r (arrive c r st))) _ f .1)
 
   -- "counts as absent for every operation, listing and statistic": to drop what has expired before a call changes no outcome
   pub expired-absent : step c r (swept c st) ≡ step c r st

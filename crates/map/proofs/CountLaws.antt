@@ -4,8 +4,8 @@ use mathlib.Core.List.{List, [], _∷_}
 use mathlib.Core.Bool.{Bool, true, false, cond, not, _&&_}
 use mathlib.Core.Option.{Option, none, some}
 use mathlib.Core.Logic.{_⊎_, inl, inr}
-use Prim.Native.Nat.{ℕ, zero, suc, _+_, _-_, _≤_, _<_, zero-le}
-use native.Mathlib.Nat.{add-zero, add-suc, suc-add}
+use Prim.Native.Nat.{ℕ, zero, suc, _+_, _-_, _≤_, _<_}
+use native.Mathlib.Nat.{add-zero, zero-add, add-suc, suc-add}
 use native.Mathlib.Omega.{arith}
 use native.Mathlib.Decide.{decLt}
 use lib.ListN.{getD, replicate}
@@ -145,11 +145,11 @@ full-at m n h = go (decLt m n)
 onward-sum : (n k : ℕ) → n ≤ mostCount → atMost mostCount (onward n + k) ≡ atMost mostCount (n + suc k)
 onward-sum n k h = go (ltb n mostCount) refl
   where
-    go : (b : Bool) → ltb n mostCount ≡ b → atMost mostCount (cond b (suc n) n + k) ≡ atMost mostCount (n + suc k)
-    go true q = let e : suc n + k ≡ n + suc k = omega arith in ap (atMost mostCount) e
+    go : (b : Bool) → ltb n mostCount ≡ b → atMost mostCount (onward n + k) ≡ atMost mostCount (n + suc k)
+    go true q = let e : suc n + k ≡ n + suc k = omega arith in rw q (ap (atMost mostCount) e)
     go false q =
         let l = ltb-false n mostCount q in
-        full-at mostCount (n + k) (omega arith) ∙ sym (full-at mostCount (n + suc k) (omega arith))
+        rw q (full-at mostCount (n + k) (omega arith) ∙ sym (full-at mostCount (n + suc k) (omega arith)))
 
 step-sum : (b : Bool) (n k : ℕ) → n ≤ mostCount → atMost mostCount (cond b (onward n) n + k) ≡ atMost mostCount (n + cond b (suc k) k)
 step-sum true n k h = onward-sum n k h
@@ -214,44 +214,48 @@ number-split (x ∷ xs) st =
 abbrev at : ℕ → State → ℕ
 at i st = getD (st .history .counts) i 0
 
-low-at : (m n : ℕ) → atMost m n < m → atMost m n ≡ n
-low-at m n h = go (decLt m n)
-  where
-    go : Dec (m < n) → atMost m n ≡ n
-    go (yes p) = absurd (omega (arith, full-at m n (omega arith)))
-    go (no p) = rw (le-leb n m (omega arith))
-
 under-at : (m n : ℕ) → n ≤ m → atMost m n ≡ n
 under-at m n h = rw (le-leb n m h)
 
--- "retrievals .. split into hits and misses": where they were before a run and no count of retrievals stops, they are behind it
+-- "retrievals .. split into hits and misses": where they were before a run and the count of retrievals is not to pass the largest, they are behind it
 pub hits-misses : (xs : List (Context × Request)) (st : State) → Counts (st .history) → at hits st + at misses st ≡ at retrievals st
-    → at retrievals (ends st (run xs st)) < mostCount → at hits (ends st (run xs st)) + at misses (ends st (run xs st)) ≡ at retrievals (ends st (run xs st))
+    → at retrievals st + number retrievals st (run xs st) ≤ mostCount
+    → at hits (ends st (run xs st)) + at misses (ends st (run xs st)) ≡ at retrievals (ends st (run xs st))
 hits-misses xs st s e l =
     let f = run xs st in
-    let r = counts-run retrievals (omega arith) xs st s in
-    let h = counts-run hits (omega arith) xs st s in
-    let m = counts-run misses (omega arith) xs st s in
     let n = number-split xs st in
-    let q : atMost mostCount (at retrievals st + number retrievals st f) < mostCount = rw r at l in
-    let z = low-at mostCount (at retrievals st + number retrievals st f) q in
-    let x = under-at mostCount (at hits st + number hits st f) (omega (arith, n, z)) in
-    let y = under-at mostCount (at misses st + number misses st f) (omega (arith, n, z)) in
-    omega (arith, r ∙ z, h ∙ x, m ∙ y, n, e)
+    let r = counts-run retrievals (omega arith) xs st s ∙ under-at mostCount (at retrievals st + number retrievals st f) l in
+    let h = counts-run hits (omega arith) xs st s ∙ under-at mostCount (at hits st + number hits st f) (omega (arith, n)) in
+    let m = counts-run misses (omega arith) xs st s ∙ under-at mostCount (at misses st + number misses st f) (omega (arith, n)) in
+    omega (arith, r, h, m, n, e)
 
--- a fresh table counts from 0
+-- with no history each count is 0
+zeros : (i : ℕ) → getD (noHistory .counts) i 0 ≡ 0
+zeros zero = refl
+zeros (suc zero) = refl
+zeros (suc (suc zero)) = refl
+zeros (suc (suc (suc zero))) = refl
+zeros (suc (suc (suc (suc zero)))) = refl
+zeros (suc (suc (suc (suc (suc zero))))) = refl
+zeros (suc (suc (suc (suc (suc (suc zero)))))) = refl
+zeros (suc (suc (suc (suc (suc (suc (suc i))))))) = refl
+
 pub fresh-counts : Counts (fresh .history)
-fresh-counts = record { long = refl; most = λ i. zeros i }
-  where
-    zeros : (i : ℕ) → getD (noHistory .counts) i 0 ≤ mostCount
-    zeros zero = zero-le
-    zeros (suc zero) = zero-le
-    zeros (suc (suc zero)) = zero-le
-    zeros (suc (suc (suc zero))) = zero-le
-    zeros (suc (suc (suc (suc zero)))) = zero-le
-    zeros (suc (suc (suc (suc (suc zero))))) = zero-le
-    zeros (suc (suc (suc (suc (suc (suc zero)))))) = zero-le
-    zeros (suc (suc (suc (suc (suc (suc (suc i))))))) = zero-le
+fresh-counts = record { long = refl; most = λ i. omega (arith, zeros i) }
+
+-- "of the history since start or the last load", for a fresh table and a loaded one have none
+module _ (xs : List (Context × Request)) (st : State) (e : st .history ≡ noHistory) where
+  none-at : (i : ℕ) → at i st ≡ 0
+  none-at i = rw e (zeros i)
+
+  -- each count is the number of steps that it counts, up to the largest
+  pub since-start : (i : ℕ) → i < countsHeld → at i (ends st (run xs st)) ≡ atMost mostCount (number i st (run xs st))
+  since-start i l = counts-run i l xs st (rw e fresh-counts) ∙ rw (none-at i, zero-add)
+
+  -- and the retrievals are the hits and the misses
+  pub split-since-start : number retrievals st (run xs st) ≤ mostCount
+      → at hits (ends st (run xs st)) + at misses (ends st (run xs st)) ≡ at retrievals (ends st (run xs st))
+  split-since-start l = hits-misses xs st (rw e fresh-counts) (rw e) (omega (arith, none-at retrievals))
 
 -- a clear counts nothing, and neither do stats and the bulk requests
 marked-none : (n : ℕ) (ns : List ℕ) → marked (replicate n false) ns ≡ ns
@@ -300,15 +304,3 @@ module _ (c : Context) (r : Request) (st : State) where
   pub time-since : (f : ℕ) → st .history .first ≡ some f → timeIn (statistics c (arrive c r st)) ≡ c .second - f
   unfolding statistics arrive noted swept
   time-since f e = rw e
-
-first-after : (f : ℕ) (c : Context) (r : Request) (st : State) (o : Outcome) → step c r st ≡ o → st .history .first ≡ some f → stateAfter st o .history .first ≡ some f
-first-after f c r st (refused k) e h = h
-first-after f c r st (answered a t) e h = first-step c r st a t e ∙ rw h
-
--- it stays the first
-pub first-run : (f : ℕ) (xs : List (Context × Request)) (st : State) → st .history .first ≡ some f → ends st (run xs st) .history .first ≡ some f
-unfolding run ends
-first-run f [] st h = h
-first-run f (x ∷ xs) st h =
-    let o = step (x .0) (x .1) st in
-    first-run f xs (stateAfter st o) (first-after f (x .0) (x .1) st o refl h)

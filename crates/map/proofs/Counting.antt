@@ -22,7 +22,7 @@ abbrev Within : ℕ → Type 0
 Within n = n ≤ mostCount
 
 onward-most : (n : ℕ) → n ≤ mostCount → onward n ≤ mostCount
-onward-most n h = pick Within (ltb n mostCount) (λ q. ltb-true n mostCount q) h
+onward-most n h = pick Within (ltb n mostCount) (λ q. ltb-true n mostCount q) (omega arith)
 
 -- there are as many counts as before, each within its limit
 marked-long : (bs : List Bool) (ns : List ℕ) → length (marked bs ns) ≡ length ns
@@ -64,7 +64,7 @@ module _ (c : Context) (r : Request) (st : State) (h : c .second < 0x1_0000_0000
 
   arrive-seconds : Seconds (st .history) → Seconds (arrive c r st .history)
   unfolding arrive noted swept
-  arrive-seconds s = record { first = go (st .history .first) (s .first); latest = present-most s }
+  arrive-seconds s = record { first = omega (arith, go (st .history .first) (s .first)); latest = omega (arith, present-most s) }
     where
       go : (o : Option ℕ) → startOf o 0 ≤ lastSecond → startOf o (c .second) ≤ lastSecond
       go none q = omega arith

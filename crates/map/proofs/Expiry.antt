@@ -1,7 +1,7 @@
 -- Expiry over every run. Assumes nothing.
 use mathlib.Core.Path.{_≡_, refl, ap, _∙_}
-use mathlib.Core.List.{List, [], _∷_, _++_}
-use mathlib.Core.Bool.{Bool, true, false, cond, _&&_}
+use mathlib.Core.List.{List, [], _∷_}
+use mathlib.Core.Bool.{Bool, true, false, cond}
 use mathlib.Core.Option.{Option, none, some}
 use Prim.Native.Nat.{ℕ, suc, _≤_}
 use native.Mathlib.Nat.{le-refl, le-max-right, max-eq-left}
@@ -9,29 +9,26 @@ use native.Mathlib.Omega.{arith}
 use lib.ListN.{length, getD}
 use lib.Dec.{eqb, ltb}
 use borrow.Author.Tests.{leb-true}
-use Rattle.wire.proofs.Laws.{never}
+use Rattle.wire.proofs.Laws.{never, both}
 use Rattle.wire.proofs.Basics.{pick}
 use Rattle.message.specs.declared.Form.{Form}
 use Rattle.message.specs.declared.Form.the-variants as form
 use Rattle.message.specs.Arguments.{isEmpty}
 use Rattle.message.specs.Request.{Request}
-use Rattle.message.specs.ReplyTable.{bodyAt, allowed, table}
-use Rattle.message.specs.Payload.{formOf}
 use Rattle.map.specs.State.{Entry, State}
 use Rattle.map.specs.Deadline.{standing}
 use Rattle.map.specs.Plan.{Change, keep, store, drop, empty}
-use Rattle.map.specs.Shown.{Shown, nothing, noValue, value, versioned, counted, listed, shows, byVersion, wanted, lowest, listedBy}
-use Rattle.map.specs.Step.{mostKeys, lastVersion, Context, Result, Outcome, refused, answered, wantsOld, entry, stored, isNone, names, held, full, planned, statistics, result, act, core, present, swept, noted, arrive, step, stateAfter, run}
+use Rattle.map.specs.Shown.{shows, byVersion, wanted, lowest, listedBy}
+use Rattle.map.specs.Step.{mostKeys, lastVersion, Context, Result, Outcome, refused, answered, entry, stored, isNone, names, held, full, planned, statistics, result, act, core, present, swept, noted, arrive, step, stateAfter, Taken, run}
 use Rattle.map.specs.Table.{Each}
 use Rattle.map.specs.Counted.{ends}
-use Rattle.map.specs.Reply.{Piece, itemPieces, listPieces, shownPieces, pieces}
-use Rattle.map.specs.Expiry.{Stands, ShowsEach, PiecesHave, InTime, AllInTime, Rises, greatest}
+use Rattle.map.specs.Expiry.{Stands, ShowsEach, InTime, AllInTime, datedStep, Rises, greatest, firstServed}
 use Rattle.map.proofs.Each.{Maybe, each-find}
 use Rattle.wire.proofs.SameLaws.{same-refl}
 use Rattle.map.proofs.Answered.{changed, did}
 use Rattle.map.proofs.Laws.{find-stored}
 use Rattle.map.proofs.ListedLaws.{listed-each}
-use Rattle.map.proofs.CountLaws.{latest-step}
+use Rattle.map.proofs.CountLaws.{latest-step, first-step}
 use Rattle.map.proofs.Standing.{standing-stand, standing-all}
 
 -- a result shows entries of the state that it is given from
@@ -49,41 +46,9 @@ shows-each P (form.Listed values) ns es f h i = h
 result-each : (P : Entry → Type 0) (c : Context) (r : Request) (st : State) → Each P (st .entries) → ShowsEach P (result c r st .shown)
 unfolding result held
 result-each P c r st h =
-    shows-each P (formOf (wantsOld r) (allowed (bodyAt (planned r st .status) (table (r .op))))) (statistics c st) (listedBy r st) (held r st)
-    (listed-each r st P h) (each-find (names r) P (st .entries) h)
-
--- and so do the pieces of its reply
-pieces-append : (P : Entry → Type 0) (ps qs : List Piece) → PiecesHave P ps → PiecesHave P qs → PiecesHave P (ps ++ qs)
-pieces-append P [] qs h i = i
-pieces-append P (p ∷ ps) qs h i = (h .0, pieces-append P ps qs (h .1) i)
-
-item-have : (P : Entry → Type 0) (values : Bool) (e : Entry) → P e → PiecesHave P (itemPieces values e)
-item-have P true e h = (tt, (tt, (h, tt)))
-item-have P false e h = (tt, tt)
-
-list-have : (P : Entry → Type 0) (values : Bool) (es : List Entry) → Each P es → PiecesHave P (listPieces values es)
-unfolding listPieces
-list-have P values [] h = (tt, tt)
-list-have P values (e ∷ es) h = pieces-append P (itemPieces values e) (listPieces values es) (item-have P values e (h .0)) (list-have P values es (h .1))
-
-shown-have : (P : Entry → Type 0) (s : Shown) → ShowsEach P s → PiecesHave P (shownPieces s)
-unfolding shownPieces
-shown-have P nothing h = tt
-shown-have P noValue h = (tt, tt)
-shown-have P (value e) h = (tt, (h, tt))
-shown-have P (versioned e) h = (tt, (tt, (h, tt)))
-shown-have P (counted ns) h = (tt, tt)
-shown-have P (listed values es) h = list-have P values es h
-
-pub pieces-have : (P : Entry → Type 0) (r : Request) (a : Result) → ShowsEach P (a .shown) → PiecesHave P (pieces r a)
-unfolding pieces
-pieces-have P r a h = (tt, shown-have P (a .shown) h)
+    shows-each P _ (statistics c st) (listedBy r st) (held r st) (listed-each r st P h) (each-find (names r) P (st .entries) h)
 
 -- what is refused 10 is full
-both : (a b : Bool) → (a && b) ≡ true → b ≡ true
-both true b e = e
-both false b e = never (cc)
-
 act-ten : (r : Request) (st : State) (a : Result) (d : Change) → act r st a d ≡ refused 10 → full r st ≡ true
 unfolding act
 act-ten r st a keep e = never (cc)
@@ -125,14 +90,15 @@ module _ (c : Context) (r : Request) (st : State) where
   rises-after (refused k) e = le-refl _
   rises-after (answered a t) e = rw (latest-step c r st a t e) (le-max-right _ _)
 
-  -- a step that is refused changes nothing: neither the entries that it took for absent nor the latest second
-  pub refused-keeps : (k : ℕ) → step c r st ≡ refused k → stateAfter st (step c r st) ≡ st
-  refused-keeps k e = rw e
-
   -- "Refusal 10 counts only entries that still stand."
   pub ten-stands : step c r st ≡ refused 10 → mostKeys ≤ length (standing (present c st) (st .entries))
   unfolding step arrive noted swept full
-  ten-stands e = let f = core-ten c r (arrive c r st) e in leb-true mostKeys _ (both (isNone (held r (arrive c r st))) _ f)
+  ten-stands e = let f = core-ten c r (arrive c r st) e in leb-true mostKeys _ (both (isNone (held r (arrive c r st))) _ f .1)
+
+  -- "counts as absent for every operation, listing and statistic": to drop what has expired before a call changes no outcome
+  pub expired-absent : step c r (swept c st) ≡ step c r st
+  unfolding step arrive noted swept
+  expired-absent = rw (standing-all (present c st) (standing (present c st) (st .entries)) (standing-stand (present c st) (st .entries)))
 
   -- every listing and statistic is of what stands
   pub lists-standing : listedBy r (arrive c r st) ≡ lowest (wanted r) (byVersion (standing (present c st) (st .entries)))
@@ -143,14 +109,17 @@ module _ (c : Context) (r : Request) (st : State) where
   unfolding statistics arrive noted swept
   counts-standing = refl
 
-  -- What moved since C-14, as one law: at a second that is not below the latest one and before every deadline nothing is dropped, and deadlines are
-  -- reckoned from the call's own second.
-  pub nothing-expired : st .history .latest ≤ c .second → Each (Stands (c .second)) (st .entries)
-      → (step c r st ≡ core c r (noted c r st)) × (noted c r st .history .latest ≡ c .second)
-  unfolding step arrive noted swept
+  -- What moved since C-14, as one law: a step is that of C-14 on what stands, reckoned from the present second.
+  pub moved : step c r st ≡ datedStep (present c st) c r (swept c st)
+  unfolding step datedStep arrive noted swept
+  moved = refl
+
+  -- So at a second that is not below the latest one and before every deadline it is that of C-14, reckoned from the call's own second.
+  pub nothing-expired : st .history .latest ≤ c .second → Each (Stands (c .second)) (st .entries) → step c r st ≡ datedStep (c .second) c r st
+  unfolding swept
   nothing-expired l h =
       let own : present c st ≡ c .second = max-eq-left l in
-      (rw (standing-all (present c st) (st .entries) (rw own h)), own)
+      moved ∙ rw (own, standing-all (c .second) (st .entries) h)
 
 -- "Deadlines are reckoned from it": what a step stores has the deadline from the present second
 pub stores-from : (c : Context) (r : Request) (st : State) (a : Result) (t : State) → step c r st ≡ answered a t → planned r (arrive c r st) .change ≡ store
@@ -187,3 +156,25 @@ latest-run [] st = refl
 latest-run (x ∷ xs) st =
     let o = step (x .0) (x .1) st in
     latest-run xs (stateAfter st o) ∙ ap (λ (n : ℕ). greatest n xs (run xs (stateAfter st o))) (latest-after (x .0) (x .1) st o refl)
+
+-- "that of the first call served", by whether one was before; nothing behind it moves it
+first-none : (h : Option ℕ) → h ≡ firstServed h [] []
+unfolding firstServed
+first-none none = refl
+first-none (some n) = refl
+
+first-after : (h : Option ℕ) (c : Context) (r : Request) (st : State) (o : Outcome) → st .history .first ≡ h → step c r st ≡ o
+    → (xs : List (Context × Request)) (ts : List Taken)
+    → firstServed (stateAfter st o .history .first) xs ts ≡ firstServed h ((c, r) ∷ xs) (record { request = r; outcome = o; state = stateAfter st o } ∷ ts)
+unfolding firstServed
+first-after none c r st (refused k) q e xs ts = rw q
+first-after none c r st (answered a t) q e xs ts = rw (first-step c r st a t e, q)
+first-after (some n) c r st (refused k) q e xs ts = rw q
+first-after (some n) c r st (answered a t) q e xs ts = rw (first-step c r st a t e, q)
+
+pub first-run : (xs : List (Context × Request)) (st : State) → ends st (run xs st) .history .first ≡ firstServed (st .history .first) xs (run xs st)
+unfolding run ends
+first-run [] st = first-none (st .history .first)
+first-run (x ∷ xs) st =
+    let o = step (x .0) (x .1) st in
+    first-run xs (stateAfter st o) ∙ first-after (st .history .first) (x .0) (x .1) st o refl refl xs (run xs (stateAfter st o))

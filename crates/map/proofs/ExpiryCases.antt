@@ -55,7 +55,7 @@ pub refused-leaves : replies (asks 10 Get (0x78 ∷ []) 0 ∷ asks 9 Get [] 0 �
 unfolding run step core arrive noted swept act result planned plan plans shows bodyAt held find without expired sameList
 refused-leaves = refl
 
--- "remove .. of an expired key": the key was not there.
+-- A remove of an expired key: the key was not there.
 pub remove-late : replies (asks 10 Remove [] 0 ∷ []) ≡ (0x02, nothing) ∷ []
 unfolding run step core arrive noted swept act result planned plan plans shows bodyAt held find without expired
 remove-late = refl

@@ -1,4 +1,4 @@
--- What is found in a list of entries behind a write, and that no version is issued twice. Assumes nothing.
+-- What is found in a list of entries behind a write, that a refused step changes nothing, and that no version is issued twice. Assumes nothing.
 use mathlib.Core.Path.{_≡_, refl, _∙_}
 use mathlib.Core.List.{List, [], _∷_, _++_, map}
 use mathlib.Core.Bool.{Bool, true, false, cond}
@@ -60,6 +60,12 @@ find-stored k es e = find-append (hasKey k) (without (hasKey (e .key)) es) e ∙
     go false i =
         or-none (find (hasKey k) (without (hasKey (e .key)) es))
         ∙ find-without (hasKey k) (hasKey (e .key)) (λ f j. rw (same-true (f .key) (e .key) j) i) es
+
+-- "a refused step leaves the map and the latest second served as they were before it": the steps behind it go on from there
+pub refused-keeps : (c : Context) (r : Request) (st : State) (k : ℕ) → step c r st ≡ refused k → (xs : List (Context × Request))
+    → run ((c, r) ∷ xs) st ≡ record { request = r; outcome = refused k; state = st } ∷ run xs st
+unfolding run
+refused-keeps c r st k e xs = rw e
 
 above-less : (n m : ℕ) → n < m → (vs : List ℕ) → Above m vs → Above n vs
 above-less n m l [] h = tt

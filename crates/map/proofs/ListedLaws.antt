@@ -26,10 +26,7 @@ use Rattle.map.proofs.Finding.{cond-of}
 use Rattle.map.proofs.Answered.{did}
 use Rattle.map.proofs.SortedLaws.{Apart, sorted-is, sorted-same, same-sorted, sorted-order, sorted-with}
 
--- versions are an order, which tells entries of different versions apart
-onward : (e f g : Entry) → older e f ≡ true → older f g ≡ true → older e g ≡ true
-onward e f g p q = lt-ltb (e .version) (g .version) (omega (arith, ltb-true (e .version) (f .version) p, ltb-true (f .version) (g .version) q))
-
+-- versions tell entries of different versions apart, and are an order
 apart : (e f : Entry) → OtherVersion e f → Apart older e f
 apart e f h = go (decLt (e .version) (f .version))
   where
@@ -38,6 +35,9 @@ apart e f h = go (decLt (e .version) (f .version))
     go (no n) =
         let l : f .version < e .version = omega (arith, h) in
         rw (lt-ltb (f .version) (e .version) l, le-ltb (e .version) (f .version) (omega arith))
+
+onward : (e f g : Entry) → older e f ≡ true → older f g ≡ true → older e g ≡ true
+onward e f g p q = lt-ltb (e .version) (g .version) (omega (arith, ltb-true (e .version) (f .version) p, ltb-true (f .version) (g .version) q))
 
 -- what is said of each is said of the first ones
 pub each-take : (P : Entry → Type 0) (n : ℕ) (es : List Entry) → Each P es → Each P (take n es)

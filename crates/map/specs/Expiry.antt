@@ -1,14 +1,14 @@
--- What expiry means over the steps of a run (document 02, C-15).
+-- What expiry means over the steps of a run (document 02, C-15), and which seconds a run leaves.
 use mathlib.Core.List.{List, [], _∷_}
 use mathlib.Core.Bool.{cond}
+use mathlib.Core.Option.{Option, none, some}
 use Prim.Native.Nat.{ℕ, _≤_, _<_, max}
 use Rattle.message.specs.Request.{Request}
-use Rattle.map.specs.State.{Entry}
+use Rattle.map.specs.State.{Entry, State, withHistory}
 use Rattle.map.specs.Shown.{Shown, nothing, noValue, value, versioned, counted, listed}
-use Rattle.map.specs.Step.{Context, Outcome, refused, answered, Taken}
+use Rattle.map.specs.Step.{Context, Outcome, refused, answered, core, noted, Taken}
 use Rattle.map.specs.Table.{Each}
 use Rattle.map.specs.Counted.{isAnswered}
-use Rattle.map.specs.Reply.{Piece, fixed, ofEntry}
 
 -- "An entry whose deadline isn't 0 and isn't above the present second counts as absent": every other one stands
 abbrev pub Stands : ℕ → Entry → Type 0
@@ -23,16 +23,7 @@ ShowsEach P (versioned e) = P e
 ShowsEach P (counted ns) = Unit {0}
 ShowsEach P (listed values es) = Each P es
 
--- each entry whose value is in the pieces of a reply has the property
-abbrev pub PieceHas : (Entry → Type 0) → Piece → Type 0
-PieceHas P (fixed s) = Unit {0}
-PieceHas P (ofEntry e) = P e
-
-abbrev pub PiecesHave : (Entry → Type 0) → List Piece → Type 0
-PiecesHave P [] = Unit {0}
-PiecesHave P (p ∷ ps) = PieceHas P p × PiecesHave P ps
-
--- A result shows what stands at the latest second that its step left, which is its present second (`latest-run`).
+-- A result shows what stands at the latest second that its step left, which is its present second (`latest-step`).
 abbrev pub InTime : Outcome → Type 0
 InTime (refused k) = Unit {0}
 InTime (answered a st) = ShowsEach (Stands (st .history .latest)) (a .shown)
@@ -40,6 +31,13 @@ InTime (answered a st) = ShowsEach (Stands (st .history .latest)) (a .shown)
 abbrev pub AllInTime : List Taken → Type 0
 AllInTime [] = Unit {0}
 AllInTime (x ∷ xs) = InTime (x .outcome) × AllInTime xs
+
+-- C-14's step: nothing is dropped before it, and deadlines are reckoned from a second that is given, there the call's ("the lifespan is added to the call's
+-- second")
+unfoldable pub datedStep : ℕ → Context → Request → State → Outcome
+datedStep second c r st =
+    let t = noted c r st in
+    core c r (withHistory (record { first = t .history .first; latest = second; counts = t .history .counts }) t)
 
 -- the latest second never falls, from n on
 abbrev pub Rises : ℕ → List Taken → Type 0
@@ -51,3 +49,10 @@ unfoldable pub greatest : ℕ → List (Context × Request) → List Taken → �
 greatest n [] ts = n
 greatest n (x ∷ xs) [] = n
 greatest n (x ∷ xs) (t ∷ ts) = greatest (cond (isAnswered (t .outcome)) (max (x .0 .second) n) n) xs ts
+
+-- "the first call served": the one before the run where there is one, else the first of the calls that was answered
+unfoldable pub firstServed : Option ℕ → List (Context × Request) → List Taken → Option ℕ
+firstServed (some n) xs ts = some n
+firstServed none [] ts = none
+firstServed none (x ∷ xs) [] = none
+firstServed none (x ∷ xs) (t ∷ ts) = cond (isAnswered (t .outcome)) (some (x .0 .second)) (firstServed none xs ts)

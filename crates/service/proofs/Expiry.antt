@@ -7,23 +7,22 @@ use Prim.Native.Nat.{ℕ, _≤_}
 use native.Mathlib.Nat.{le-of-eq}
 use lib.ListN.{length, drop}
 use Rattle.map.specs.State.{State}
-use Rattle.map.specs.Step.{Context, answered, present}
-use Rattle.map.specs.Expiry.{Stands, PiecesHave}
-use Rattle.map.proofs.Expiry.{pieces-have, shows-standing, rises-after}
+use Rattle.map.specs.Step.{Context, answered}
+use Rattle.map.proofs.Expiry.{shows-standing, rises-after}
 use Rattle.table.specs.Memory.{stateOf}
 use Rattle.service.specs.Serve.{Effect, serve}
 use Rattle.service.specs.Stream.{Call, Done, Becomes, Run, run-end, run-call}
-use Rattle.service.specs.Expiry.{AllInTime, Rises}
+use Rattle.service.specs.Expiry.{Sends, silence, error, reply, AllInTime, Rises}
 use Rattle.service.proofs.Decides.{isSound}
 use Rattle.service.proofs.Sounds.{tells-sound, effectIn, does-in}
 use Rattle.service.proofs.Calls.{every-call}
 
 module _ (c : Context) (st : State) where
-  -- no call sends the value of an entry at or behind its deadline
-  sends-standing : (input : List ℕ) (ok : Bool) (space : ℕ) → PiecesHave (Stands (present c st)) (serve input ok st c space .sent)
+  -- no call sends anything of an entry at or behind its deadline
+  sends-standing : (input : List ℕ) (ok : Bool) (space : ℕ) → Sends c st (serve input ok st c space .sent)
   sends-standing =
-      every-call (λ (f : Effect). PiecesHave (Stands (present c st)) (f .sent)) c st (λ n v. tt) (λ n k id. (tt, tt))
-      (λ r n a t e. pieces-have (Stands (present c st)) r a (shows-standing c r st a t e))
+      every-call (λ (f : Effect). Sends c st (f .sent)) c st (λ n v. silence) (λ n k id. error k id)
+      (λ r n a t e. reply r a t e (shows-standing c r st a t e))
 
   -- nor leaves a lower latest second
   abbrev NoLower : Option State → Type 0
@@ -44,8 +43,8 @@ all-in-time input t (c ∷ cs) (d ∷ ds) (run-call x xs) = (
   record {
     ok = isSound t;
     tells = tells-sound t;
-    reply = does-in x .buffer;
-    stands = sends-standing (c .context) (stateOf t) input (isSound t) (length (c .buffer));
+    buffer = does-in x .buffer;
+    sends = sends-standing (c .context) (stateOf t) input (isSound t) (length (c .buffer));
   },
   all-in-time (drop (d .answer .taken) input) (d .table) cs ds xs,
 )

@@ -10,6 +10,7 @@ pub mod Demand3
 pub mod Determined
 pub mod Exist
 pub mod Bounds
+pub mod Many
 pub mod Once
 pub mod Expiry
 pub mod Chunks

@@ -5,19 +5,28 @@ use mathlib.Core.Bool.{Bool}
 use Prim.Native.Nat.{ℕ, _≤_}
 use lib.ListN.{drop}
 use lib.Seq.{sets}
-use Rattle.map.specs.Step.{present}
-use Rattle.map.specs.Reply.{flat}
-use Rattle.map.specs.Expiry.{Stands, PiecesHave}
+use Rattle.message.specs.Request.{Request}
+use Rattle.map.specs.State.{State}
+use Rattle.map.specs.Step.{Context, Result, answered, present, step}
+use Rattle.map.specs.Reply.{Piece, flat, pieces}
+use Rattle.map.specs.Expiry.{Stands, ShowsEach}
 use Rattle.table.specs.Memory.{stateOf, Sound}
 use Rattle.table.specs.Found.{Tells}
+use Rattle.service.specs.Serve.{errorPieces}
 use Rattle.service.specs.Stream.{Call, Done, effectOf}
 
--- the reply to a call has no value in it of an entry at or behind its deadline, at the call's present second
+-- What a call sends: nothing, an error reply, or the reply to a request whose step shows, by value or by key alone, no entry but those that stand at the
+-- present second.
+pub data Sends (c : Context) (st : State) : List Piece → Type 0 where
+  silence : Sends c st []
+  error : (k id : ℕ) → Sends c st (errorPieces k id)
+  reply : (r : Request) (a : Result) (t : State) → step c r st ≡ answered a t → ShowsEach (Stands (present c st)) (a .shown) → Sends c st (pieces r a)
+
 pub record InTime (input table : List ℕ) (c : Call) (d : Done) : Type 0 where
   pub ok : Bool
   pub tells : Tells ok (Sound table)
-  pub reply : d .buffer ≡ sets (c .buffer) 0 (flat (effectOf ok input table c .sent))
-  pub stands : PiecesHave (Stands (present (c .context) (stateOf table))) (effectOf ok input table c .sent)
+  pub buffer : d .buffer ≡ sets (c .buffer) 0 (flat (effectOf ok input table c .sent))
+  pub sends : Sends (c .context) (stateOf table) (effectOf ok input table c .sent)
 
 -- call for call
 abbrev pub AllInTime : List ℕ → List ℕ → List Call → List Done → Type 0

@@ -3,7 +3,7 @@
 use mathlib.Core.Path.{_≡_}
 use mathlib.Core.List.{List, _++_}
 use mathlib.Core.Bool.{Bool, true, false, _&&_, _||_}
-use Prim.Native.Nat.{ℕ, suc, _+_}
+use Prim.Native.Nat.{ℕ, _+_}
 use lib.ListN.{take, drop}
 use lib.Dec.{eqb, ltb}
 use Rattle.map.specs.Step.{Context}
@@ -64,3 +64,9 @@ pub data Streams (c : Context) : Bool → List ℕ → List ℕ → List ℕ →
       → goesOn (d .answer) ≡ true
       → Streams c (used || ltb 0 (d .size)) (drop (d .answer .taken) input) (d .table) (drop (d .size) (d .buffer)) t
       → Streams c used input table lent (behind (d .answer .taken) (d .size) 1 (d .buffer) t)
+
+-- no call that the stream makes is refused 12
+abbrev pub NeverShort : {c : Context} {used : Bool} {input table lent : List ℕ} {t : Total} → Streams c used input table lent t → Type 0
+NeverShort (waits x e) = Unit {0}
+NeverShort (last {d = d} x e f) = isShort (d .answer .verdict) ≡ false
+NeverShort (then {d = d} x e f s) = (isShort (d .answer .verdict) ≡ false) × NeverShort s

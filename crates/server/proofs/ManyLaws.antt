@@ -201,7 +201,7 @@ module _ (c : Context) (input table lent : List ℕ) where
 
     -- since there is no room for any call, in a buffer that had room
     pub no-room : room ≤ length lent → length out - size < room → Streams c false input table lent (stopped out now)
-    unfolding serving.still serving.serve flat
+    unfolding serving.unchanged serving.serve flat
     no-room l h =
         let s : length (drop size out) < room = simp length-drop (omega arith) in
         let d : Done = record { answer = record { taken = 0; verdict = serving.refused 12 }; size = 0; buffer = drop size out; table = now } in
@@ -240,14 +240,14 @@ module _ (c : Context) (input table lent : List ℕ) where
 
   -- one call that is refused for want of room, or because the table is not sound
   pub short : length lent < room → Streams c false input table lent (record { taken = 0; size = 0; calls = 1; verdict = serving.refused 12; buffer = lent; table = table })
-  unfolding serving.still serving.serve flat
+  unfolding serving.unchanged serving.serve flat
   short h =
       last {input = input} {table = table} {lent = lent} {d = record { answer = record { taken = 0; verdict = serving.refused 12 }; size = 0; buffer = lent; table = table }}
       (record { ok = isSound table; tells = tells-sound table; does = rw (lt-ltb (length lent) room h) (record { answer = refl; size = refl; buffer = refl; table = refl }) }) refl refl
 
   pub unsound : room ≤ length lent → (Sound table → ⊥)
       → Streams c false input table lent (record { taken = 0; size = 0; calls = 1; verdict = serving.refused 13; buffer = lent; table = table })
-  unfolding serving.still serving.serve flat
+  unfolding serving.unchanged serving.serve flat
   unsound h s =
       last {input = input} {table = table} {lent = lent} {d = record { answer = record { taken = 0; verdict = serving.refused 13 }; size = 0; buffer = lent; table = table }}
       (record { ok = false; tells = says-no s; does = rw (le-ltb (length lent) room h) (record { answer = refl; size = refl; buffer = refl; table = refl }) }) refl refl

@@ -54,8 +54,8 @@ does s l =
     record { answer = ap₂ (λ (x : ℕ) (y : stream.Verdict). record { taken = x; verdict = y }) (e .taken) (e .verdict); size = e .size; buffer = s .buffer; table = l }
 
 -- nothing sent
-pub does-still : {v : stream.Verdict} {t old : List ℕ} {a : Answer} → Says 0 0 v a → Does (stream.still v) t old (doneOf a old t)
-unfolding stream.still flat
+pub does-still : {v : stream.Verdict} {t old : List ℕ} {a : Answer} → Says 0 0 v a → Does (stream.unchanged v) t old (doneOf a old t)
+unfolding stream.unchanged flat
 does-still s = does (record { says = s; buffer = refl }) refl
 
 -- a request that is refused

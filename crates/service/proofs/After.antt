@@ -20,7 +20,7 @@ use Rattle.map.proofs.Keeps.{keeps}
 use Rattle.map.proofs.Sent as sent
 use Rattle.map.proofs.Sent.{pieces-with}
 use Rattle.table.specs.Memory.{stateOf}
-use Rattle.service.specs.Serve.{Answer, Effect, effect, served, more, refused, still, onStep, onRead, serve, room, roomOf, within}
+use Rattle.service.specs.Serve.{Answer, Effect, effect, served, more, refused, unchanged, onStep, onRead, serve, room, roomOf, within}
 use Rattle.service.specs.Stream.{Call, Done, Becomes, Run, run-end, run-call}
 use Rattle.service.specs.Demand3.{wrote, gone, after, SameCalls, same-end, same-call, Independent, end, call}
 use Rattle.service.proofs.Decides.{isSound}
@@ -65,20 +65,20 @@ module _ (u w : List ℕ) (len : length w ≡ length u) (v : ℕ) where
             }
 
     track-read : (input : List ℕ) (second : Context) (x : Read Request) → Tracks (onRead input second st x) (onRead input second (stateWith v w st) x)
-    unfolding onRead still piecesWith
+    unfolding onRead unchanged piecesWith
     track-read input second (wire.whole r n) = track-step second r n
     track-read input second wire.more = record { like = record { answer = refl; sent = refl; shows = refl }; next = tt }
     track-read input second (wire.refused k) = record { like = record { answer = refl; sent = refl; shows = refl }; next = tt }
 
     track : (input : List ℕ) (ok : Bool) (second : Context) (space : ℕ) → Tracks (serve input ok st second space) (serve input ok (stateWith v w st) second space)
-    unfolding serve still piecesWith
+    unfolding serve unchanged piecesWith
     track input ok second space = go (ltb space room) ok
       where
         x : Read Request
         x = request .dec input
 
-        go : (a b : Bool) → Tracks (cond a (still (refused 12)) (cond b (within space x (onRead input second st x)) (still (refused 13))))
-            (cond a (still (refused 12)) (cond b (within space x (onRead input second (stateWith v w st) x)) (still (refused 13))))
+        go : (a b : Bool) → Tracks (cond a (unchanged (refused 12)) (cond b (within space x (onRead input second st x)) (unchanged (refused 13))))
+            (cond a (unchanged (refused 12)) (cond b (within space x (onRead input second (stateWith v w st) x)) (unchanged (refused 13))))
         go true b = record { like = record { answer = refl; sent = refl; shows = refl }; next = tt }
         go false true = track-within space x (onRead input second st x) (onRead input second (stateWith v w st) x) (track-read input second x)
         go false false = record { like = record { answer = refl; sent = refl; shows = refl }; next = tt }

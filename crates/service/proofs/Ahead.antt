@@ -17,7 +17,7 @@ use Rattle.map.specs.Step as map-step
 use Rattle.map.specs.Step.{Outcome, step}
 use Rattle.map.proofs.Sent as sent
 use Rattle.table.specs.Memory.{stateOf}
-use Rattle.service.specs.Serve.{Answer, Effect, refused, still, room}
+use Rattle.service.specs.Serve.{Answer, Effect, refused, unchanged, room}
 use Rattle.service.specs.Stream.{Call, Done, Does, Run, run-end, run-call}
 use Rattle.service.specs.Demand3.{Progress, ahead, wrote, gone, passes, after, stateBut, SameCalls, same-end, same-call, Alike, progress, Independent, end, call}
 use Rattle.service.proofs.Decides.{isSound}
@@ -41,9 +41,9 @@ drop-took k a b e = rw e (drop-append-seam a b)
 
 -- a call on a request that both rows have takes it, or nothing
 took : (r : Request) (n : ℕ) (o : Outcome) (space : ℕ) (a b : Bool)
-    → (cond a (still (refused 12)) (cond b (onWhole space r n o) (still (refused 13))) .answer .taken ≡ 0)
-    ⊎ (cond a (still (refused 12)) (cond b (onWhole space r n o) (still (refused 13))) .answer .taken ≡ n)
-unfolding still
+    → (cond a (unchanged (refused 12)) (cond b (onWhole space r n o) (unchanged (refused 13))) .answer .taken ≡ 0)
+    ⊎ (cond a (unchanged (refused 12)) (cond b (onWhole space r n o) (unchanged (refused 13))) .answer .taken ≡ n)
+unfolding unchanged
 took r n o space true b = inl refl
 took r n o space false true = inr (whole-taken r n o space)
 took r n o space false false = inl refl

@@ -35,7 +35,7 @@ use Rattle.map.proofs.Counting.{arrive-table}
 use Rattle.map.proofs.Format.{result-most}
 use Rattle.table.proofs.Lists.{lt-or-ge}
 use Rattle.table.specs.Memory.{stateOf, Sound}
-use Rattle.service.specs.Serve.{Effect, refused, errorPieces, still, onStep, onRead, serve, room, bulkRoom, roomOf, within}
+use Rattle.service.specs.Serve.{Effect, refused, errorPieces, unchanged, onStep, onRead, serve, room, bulkRoom, roomOf, within}
 use Rattle.service.specs.Stream.{Call, Done, Becomes, Serves}
 use Rattle.service.specs.Many.{isShort}
 use Rattle.service.proofs.Sounds.{sound-is, effectIn, does-in}
@@ -79,7 +79,7 @@ pub answer-longest : (c : Context) (r : Request) (st : State) (a : map-step.Resu
     → step c r st ≡ answered a t → length (flat (pieces r a)) ≤ bulkRoom
 answer-longest c r st a t v s h e = omega (arith, answer-fits c r st a t v s h e, room-most (r .op))
 
--- an error reply has at most 279 bytes, as any reply but that of stats has
+-- an error reply has at most 279 bytes
 pub error-size : (k id : ℕ) → 1 ≤ k → k ≤ 11 → id < 0x8000_0000_0000_0000 → length (flat (errorPieces k id)) ≤ 279
 unfolding flat
 error-size k id l h i =
@@ -116,7 +116,7 @@ module _ (input : List ℕ) (b : Bytes input) (small : idIn input < 0x8000_0000_
       }
 
   facts-read : (x : Read Request) → request .dec input ≡ x → Facts input space (within space x (onRead input c st x))
-  unfolding within onRead still flat
+  unfolding within onRead unchanged flat
   facts-read (wire.whole r n) e = ⊎-elim short fits (lt-or-ge space (roomOf (r .op)))
     where
       short : space < roomOf (r .op) → Facts input space (within space (wire.whole r n) (onStep r n (step c r st)))
@@ -156,7 +156,7 @@ module _ (input : List ℕ) (c : Context) (st : State) where
   step-roomy r n (answered a t) g = refl
 
   read-roomy : (x : Read Request) → request .dec input ≡ x → isShort (onRead input c st x .answer .verdict) ≡ false
-  unfolding onRead still
+  unfolding onRead unchanged
   read-roomy (wire.whole r n) e = step-roomy r n (step c r st) (late c r st)
   read-roomy wire.more e = refl
   read-roomy (wire.refused k) e = ne-eqb k 12 (λ q. omega (arith, refusals input k e .1))

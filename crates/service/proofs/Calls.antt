@@ -22,7 +22,7 @@ use Rattle.map.specs.State.{State}
 use Rattle.map.specs.Step as map-step
 use Rattle.map.specs.Step.{Context, Outcome, answered, step}
 use Rattle.map.specs.Reply.{pieces}
-use Rattle.service.specs.Serve.{Verdict, served, more, refused, Effect, effect, errorPieces, still, onStep, onRead, serve, room, bulkRoom, roomOf, within}
+use Rattle.service.specs.Serve.{Verdict, served, more, refused, Effect, effect, errorPieces, unchanged, onStep, onRead, serve, room, bulkRoom, roomOf, within}
 use Rattle.service.specs.Many.{goesOn}
 
 -- a whole request, by the room that it asks for
@@ -76,26 +76,26 @@ module _ (E : Effect → Type 0) (c : Context) (st : State) (quiet : (n : ℕ) (
   every-step r n (answered a t) e = answer r n a t e
 
   every-read : (input : List ℕ) (x : Read Request) → E (onRead input c st x)
-  unfolding onRead still
+  unfolding onRead unchanged
   every-read input (wire.whole r n) = every-step r n (step c r st) refl
   every-read input wire.more = quiet 0 more
   every-read input (wire.refused k) = error 0 k (idIn input)
 
   pub every-call : (input : List ℕ) (ok : Bool) (space : ℕ) → E (serve input ok st c space)
-  unfolding serve still
+  unfolding serve unchanged
   every-call input ok space = go (ltb space room) ok
     where
       x : Read Request
       x = request .dec input
 
-      go : (a b : Bool) → E (cond a (still (refused 12)) (cond b (within space x (onRead input c st x)) (still (refused 13))))
+      go : (a b : Bool) → E (cond a (unchanged (refused 12)) (cond b (within space x (onRead input c st x)) (unchanged (refused 13))))
       go true b = quiet 0 (refused 12)
       go false true = within-has E space x (onRead input c st x) (λ n. quiet n (refused 12)) (every-read input x)
       go false false = quiet 0 (refused 13)
 
 pub serve-at : (r : Request) → Valid request r → (t : List ℕ) (ok : Bool) (st : State) (second : Context) (space : ℕ)
     → serve (request .enc r ++ t) ok st second space
-    ≡ cond (ltb space room) (still (refused 12)) (cond ok (onWhole space r (length (request .enc r)) (step second r st)) (still (refused 13)))
+    ≡ cond (ltb space room) (unchanged (refused 12)) (cond ok (onWhole space r (length (request .enc r)) (step second r st)) (unchanged (refused 13)))
 unfolding serve onRead within
 serve-at r v t ok st second space = rw (request-laws .round r t v)
 

@@ -22,7 +22,7 @@ use Rattle.map.proofs.Keeps.{keeps}
 use Rattle.map.proofs.CountLaws.{first-step}
 use Rattle.map.proofs.Sent as sent
 use Rattle.table.specs.Memory.{firstIndex, numberOf, firstOf, historyOf, stateOf, Sound}
-use Rattle.service.specs.Serve.{Effect, more, refused, still, onStep, onRead, serve, room, within}
+use Rattle.service.specs.Serve.{Effect, more, refused, unchanged, onStep, onRead, serve, room, within}
 use Rattle.service.specs.Stream.{Call, Done, Becomes, Serves, Run, run-end, run-call}
 use Rattle.service.specs.Demand3.{after, call}
 use Rattle.wire.proofs.Laws.{bytes-drop}
@@ -69,17 +69,17 @@ module _ (input : List ℕ) (b : Bytes input) (c : Context) (h : c .second < 0x1
       (k .0, k .1, keeps-first c r (stateOf t) a st e h (sound-first t s))
 
   fits-read : (x : Read Request) → request .dec input ≡ x → Fits (onRead input c (stateOf t) x .next)
-  unfolding onRead still
+  unfolding onRead unchanged
   fits-read (wire.whole r n) e = fits-step r n (request-laws .exact input r n b e .good) (step c r (stateOf t)) refl
   fits-read wire.more e = tt
   fits-read (wire.refused k) e = tt
 
 fits : (input : List ℕ) → Bytes input → (t : List ℕ) (c : Call) → c .context .second < 0x1_0000_0000 → Fits (effectIn input t c .next)
-unfolding serve still
+unfolding serve unchanged
 fits input b t c h = go (ltb (length (c .buffer)) room) (isSound t) refl
   where
     go : (x y : Bool) → isSound t ≡ y
-        → Fits (cond x (still (refused 12)) (cond y (within (length (c .buffer)) (request .dec input) (onRead input (c .context) (stateOf t) (request .dec input))) (still (refused 13))) .next)
+        → Fits (cond x (unchanged (refused 12)) (cond y (within (length (c .buffer)) (request .dec input) (onRead input (c .context) (stateOf t) (request .dec input))) (unchanged (refused 13))) .next)
     go true y e = tt
     go false true e = within-has (λ (f : Effect). Fits (f .next)) (length (c .buffer)) (request .dec input) (onRead input (c .context) (stateOf t) (request .dec input)) (λ n. tt)
         (fits-read input b (c .context) h t (is-sound t e) (request .dec input) refl)

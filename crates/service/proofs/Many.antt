@@ -18,7 +18,7 @@ use Rattle.map.specs.Step as map-step
 use Rattle.map.specs.Step.{Context, Outcome, answered, step}
 use Rattle.map.specs.Reply.{flat}
 use Rattle.table.specs.Memory.{stateOf}
-use Rattle.service.specs.Serve.{Verdict, served, more, refused, full, Effect, still, onStep, onRead, serve, room, bulkRoom, within}
+use Rattle.service.specs.Serve.{Verdict, served, more, refused, full, Effect, unchanged, onStep, onRead, serve, room, bulkRoom, within}
 use Rattle.service.specs.Stream.{Done, Serves, effectOf}
 use Rattle.service.specs.Many.{isShort, Total, at, Streams, waits, last, then, NeverShort}
 use Rattle.service.proofs.Calls.{within-has}
@@ -27,7 +27,7 @@ use Rattle.service.proofs.Bounds.{roomy-serve, never-short}
 module _ {c : Context} {input table lent : List ℕ} {d : Done} (x : Serves input table (at c lent) d) where
   -- with room for any reply a call is not refused 12
   roomy-call : bulkRoom ≤ length lent → isShort (d .answer .verdict) ≡ false
-  unfolding serve still
+  unfolding serve unchanged
   roomy-call h = rw (x .does .answer) (go (x .ok))
     where
       go : (ok : Bool) → isShort (serve input ok (stateOf table) c (length lent) .answer .verdict) ≡ false
@@ -82,19 +82,19 @@ module _ (input : List ℕ) (c : Context) (st : State) where
   step-ends r n (answered a t) = refl
 
   read-ends : (x : Read Request) → NotFull (onRead input c st x)
-  unfolding onRead still
+  unfolding onRead unchanged
   read-ends (wire.whole r n) = step-ends r n (step c r st)
   read-ends wire.more = refl
   read-ends (wire.refused k) = refl
 
   call-ends : (ok : Bool) (space : ℕ) → NotFull (serve input ok st c space)
-  unfolding serve still
+  unfolding serve unchanged
   call-ends ok space = go (ltb space room) ok
     where
       x : Read Request
       x = request .dec input
 
-      go : (a b : Bool) → NotFull (cond a (still (refused 12)) (cond b (within space x (onRead input c st x)) (still (refused 13))))
+      go : (a b : Bool) → NotFull (cond a (unchanged (refused 12)) (cond b (within space x (onRead input c st x)) (unchanged (refused 13))))
       go true b = refl
       go false true = within-has NotFull space x (onRead input c st x) (λ n. refl) (read-ends x)
       go false false = refl

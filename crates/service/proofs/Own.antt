@@ -23,7 +23,7 @@ use Rattle.map.proofs.Finding.{fresh}
 use Rattle.map.proofs.Commute.{step-value, issues}
 use Rattle.map.proofs.Sent as sent
 use Rattle.table.specs.Memory.{stateOf}
-use Rattle.service.specs.Serve.{Answer, Effect, effect, refused, still, onStep, room, roomOf}
+use Rattle.service.specs.Serve.{Answer, Effect, effect, refused, unchanged, onStep, room, roomOf}
 use Rattle.service.specs.Stream.{Call, Done, Does}
 use Rattle.service.specs.Demand3.{ahead, wrote, gone, passes, call}
 use Rattle.service.proofs.Decides.{isSound}
@@ -109,11 +109,11 @@ module _ (r : Request) (w : List ℕ) (len : length w ≡ length (r .args .value
         → Does (effectIn (request .enc (withValue w r) ++ rest) t′ c′) t′ (c′ .buffer) d′
         → Like (r .args .value) w len (ahead 0) (effectIn (request .enc r ++ rest) t c) (effectIn (request .enc (withValue w r) ++ rest) t′ c′)
         × Own t d d′
-    unfolding still
+    unfolding unchanged
     own rest t t′ c c′ d d′ g k l x y =
         let p = serve-at r v rest (isSound t) (stateOf t) (c .context) (length (c .buffer)) in
         let q : effectIn (request .enc (withValue w r) ++ rest) t′ c′
-        ≡ cond (ltb (length (c .buffer)) room) (still (refused 12)) (cond (isSound t) (onWhole (length (c .buffer)) (withValue w r) n o′) (still (refused 13))) =
+        ≡ cond (ltb (length (c .buffer)) room) (unchanged (refused 12)) (cond (isSound t) (onWhole (length (c .buffer)) (withValue w r) n o′) (unchanged (refused 13))) =
         serve-at (withValue w r) vw rest (isSound t′) (stateOf t′) (c′ .context) (length (c′ .buffer)) ∙ rw (g .sounds, g .state, k, l, value-length r w v len) in
         let z = go (ltb (length (c .buffer)) room) (isSound t) (ltb (length (c .buffer)) (roomOf (r .op))) refl (subst (λ (f : Effect). Does f t (c .buffer) d) p x)
         (subst (λ (f : Effect). Does f t′ (c′ .buffer) d′) q y) in
@@ -132,10 +132,10 @@ module _ (r : Request) (w : List ℕ) (len : length w ≡ length (r .args .value
         short = effect n (refused 12) [] none
 
         go : (a b k : Bool) → isSound t ≡ b
-            → Does (cond a (still (refused 12)) (cond b (cond k short (onStep r n o)) (still (refused 13)))) t (c .buffer) d
-            → Does (cond a (still (refused 12)) (cond b (cond k short (onStep (withValue w r) n o′)) (still (refused 13)))) t′ (c′ .buffer) d′
-            → Like (r .args .value) w len (ahead 0) (cond a (still (refused 12)) (cond b (cond k short (onStep r n o)) (still (refused 13))))
-            (cond a (still (refused 12)) (cond b (cond k short (onStep (withValue w r) n o′)) (still (refused 13)))) × Own t d d′
+            → Does (cond a (unchanged (refused 12)) (cond b (cond k short (onStep r n o)) (unchanged (refused 13)))) t (c .buffer) d
+            → Does (cond a (unchanged (refused 12)) (cond b (cond k short (onStep (withValue w r) n o′)) (unchanged (refused 13)))) t′ (c′ .buffer) d′
+            → Like (r .args .value) w len (ahead 0) (cond a (unchanged (refused 12)) (cond b (cond k short (onStep r n o)) (unchanged (refused 13))))
+            (cond a (unchanged (refused 12)) (cond b (cond k short (onStep (withValue w r) n o′)) (unchanged (refused 13)))) × Own t d d′
         go true b k s x y = (
           record { answer = refl; sent = refl; shows = refl },
           idle (ap (λ (f : Answer). f .taken) (x .answer)) (same-next t t′ none none (d .table) (d′ .table) g refl (x .table) (y .table)),

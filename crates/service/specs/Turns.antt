@@ -3,15 +3,16 @@ use mathlib.Core.Path.{_≡_}
 use mathlib.Core.List.{List, [], _++_}
 use mathlib.Core.Bool.{Bool}
 use mathlib.Core.Option.{none}
-use Prim.Native.Nat.{ℕ, _+_, _-_, _≤_, _<_}
+use Prim.Native.Nat.{ℕ, _+_, _*_, _-_, _≤_, _<_}
 use lib.ListN.{length, drop}
 use Rattle.map.specs.State.{State}
+use Rattle.service.specs.Serve.{bulkRoom}
 use Rattle.service.specs.Line.{stateLeft, later}
 use Rattle.service.specs.Feed.{Turn, turn, turnOf}
 
--- the room for any line that a line gives: the 41,600 bytes that a bulk request asks for, in digits, and the line end
+-- the room for any line that a line gives: the bytes that a bulk request asks for, two digits each, and the line end
 abbrev pub lineRoom : ℕ
-lineRoom = 83_201
+lineRoom = 2 * bulkRoom + 1
 
 -- what a turn and the turns behind it make together
 abbrev pub both : Turn → Turn → Turn

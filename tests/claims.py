@@ -1,7 +1,7 @@
 #!/usr/bin/env python3
 """Holds docs/CLAIMS.md to the files: each edit, file and function that it names is there, its table of public functions lists the edits and the
-wrong programs that there are, each public function has two wrong programs or more, and each public law that no other file cites is a claim. With
---write, that table is written again."""
+wrong programs that there are, each public function has two wrong programs or more, none of them stands twice, and each public law that no other file
+cites is a claim. With --write, that table is written again."""
 import glob
 import os
 import re
@@ -46,18 +46,53 @@ def rows():
             yield f"| `{crate}` | {', '.join(f'`{e}`' for e in edits)} | {', '.join(f'`{f}` {n}' for f, n in wrong.items())} |\n"
 
 
+def edits():
+    """Each wrong program: where it stands, its crate, and its changes, each with the file, the text to be changed and the other text."""
+    for path in sorted(glob.glob('crates/*/must-fail/*.edit') + glob.glob('tests/wrong/*.txt')):
+        many = path.startswith('tests/')
+        crate = os.path.basename(path)[:-4] if many else path.split('/')[1]
+        with open(path, encoding='utf-8') as file:
+            texts = re.split(r'^(?=# )', file.read(), flags=re.M) if many else [file.read()]
+        for text in filter(None, texts):
+            label = text.split('\n')[0][2:]
+            changes = []
+            for word, rest in re.findall(r'^(file|old|new):(?: (.*))?$', text, re.M):
+                if word == 'file':
+                    name = rest
+                elif word == 'old':
+                    old = rest
+                else:
+                    changes.append((name, old, rest))
+            yield f'{path}, {label!r}', crate, changes
+
+
+def text_of(path):
+    with open(path, encoding='utf-8') as file:
+        return file.read()
+
+
 def stale_edits():
     """The wrong programs whose text to be changed does not stand in its file, or stands there more than once."""
-    for path in sorted(glob.glob('tests/wrong/*.txt') + glob.glob('crates/*/must-fail/*.edit')):
-        crate = path.split('/')[1] if path.startswith('crates/') else os.path.basename(path)[:-4]
-        with open(path, encoding='utf-8') as lines:
-            for line in lines:
-                word, _, rest = line.rstrip('\n').partition(': ')
-                if word == 'file':
-                    with open(f'crates/{crate}/{rest}', encoding='utf-8') as file:
-                        text = file.read()
-                elif word == 'old' and text.count(rest) != 1:
-                    yield f'{path}: {rest!r} stands {text.count(rest)} times'
+    for place, crate, changes in edits():
+        for name, old, _ in changes:
+            count = text_of(f'crates/{crate}/{name}').count(old)
+            if count != 1:
+                yield f'{place}: {old!r} stands {count} times'
+
+
+def copied_edits():
+    """The wrong programs that stand somewhere else too: their files have the same text once changed, proofs aside."""
+    places = {}
+    for place, crate, changes in edits():
+        program = {}
+        for name, old, other in changes:
+            if not name.startswith('proofs/'):
+                path = f'crates/{crate}/{name}'
+                program[path] = program.get(path, text_of(path)).replace(old, other)
+        program = frozenset(program.items())
+        if program in places:
+            yield f'{place} is {places[program]} again'
+        places[program] = place
 
 
 def names_in(text):
@@ -99,6 +134,7 @@ def main():
         return []
     faults = [] if text[at:] == ''.join(rows()) else ['the table of public functions is not that of the files (tests/claims.py --write)']
     faults += stale_edits()
+    faults += copied_edits()
     faults += unclaimed_laws(names_in(text))
     names = set(crates())
     for crate in crates():

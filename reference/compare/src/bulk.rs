@@ -8,7 +8,7 @@ use reference::listing::MOST_LISTED;
 use reference::map::MOST_KEYS;
 use reference::operation::{greatest_bulk, serves, BULK_GET, BULK_GET_KEYS};
 use reference::serve::{BULK_ROOM, LEAST_ROOM};
-use reference::{read_request, serve, write_number, Listed, Read, Request};
+use reference::{read_request, serve, write_number, Listed, Read, Request, Table};
 
 use crate::calls::{replied, state_is, Call, World};
 use crate::chance::Chance;
@@ -327,7 +327,7 @@ fn one_by_one(world: &mut World, row: &[u8], second: u32) -> Vec<u8> {
 }
 
 /// Two tables that differ in the value of one entry: the bulk replies differ in
-/// its bytes alone.
+/// its bytes alone. At times other entries have the bytes of one of both values.
 fn changed_value<S: Subject>(trial: &mut Trial<S>) -> Outcome {
     let held = 1 + trial.chance.below(MOST_KEYS);
     let mut one = world(&mut trial.chance, held);
@@ -339,9 +339,13 @@ fn changed_value<S: Subject>(trial: &mut Trial<S>) -> Outcome {
     }
     let place = trial.chance.below(rows.len());
     let key = rows[place].key.to_vec();
-    for side in [&mut one, &mut other] {
-        let mut table = side.table.clone();
-        let value = trial.chance.bytes(100);
+    let values = [0, 1].map(|_| trial.chance.bytes(100));
+    let mut table = one.table.clone();
+    if trial.chance.one_in(2) {
+        beside(&mut trial.chance, &mut table, &values);
+    }
+    for (side, value) in [&mut one, &mut other].into_iter().zip(values) {
+        let mut table = table.clone();
         table.entries.entry(key.clone()).or_default().value = value;
         *side = World::of(&mut trial.chance, table, Vec::new());
     }
@@ -354,6 +358,15 @@ fn changed_value<S: Subject>(trial: &mut Trial<S>) -> Outcome {
         differ_there(trial, &mut one, &mut other, &asked, (place, second))?;
     }
     Ok(())
+}
+
+/// Gives some of the entries one of these values.
+fn beside(chance: &mut Chance, table: &mut Table, values: &[Vec<u8>]) {
+    for entry in table.entries.values_mut() {
+        if chance.one_in(3) {
+            entry.value = chance.pick(values);
+        }
+    }
 }
 
 fn differ_there<S: Subject>(

@@ -13,6 +13,7 @@ use reference::operation::{
     sends_entry_version, sends_value, BULK_GET, CLEAR, GET, GET_WITH_VERSION, PUT, REMOVE, STATS,
 };
 use reference::serve::{answer_request, error_id, LEAST_ROOM};
+use reference::statistics::NAMES;
 use reference::{
     is_text, load, read_reply, same_key, serve_line, write_reply, write_request, History, Read,
     Reply, Request, Statistics, Table, Verdict,
@@ -106,6 +107,8 @@ pub enum Fault {
     LoadsLateDeadline,
     // Statistics.
     SwapsStatistics,
+    TakesTenStatistics,
+    LastNameUnread,
     TellsStatisticsAlways,
     ReadsLeadingZero,
     SevenForName,
@@ -121,8 +124,10 @@ pub enum Fault {
     GreatCount,
     // Bulk requests and replies.
     BulkCountIgnored,
+    BulkOneMore,
     BulkHighest,
     BulkByKey,
+    BulkByRow,
     BulkHidesDated,
     KeysInEleven,
     ScopeThree,
@@ -133,6 +138,7 @@ pub enum Fault {
     NineBeforeBulkTwelve,
     BulkCounts,
     BulkNoEnd,
+    BulkEndsWithOne,
     BulkTwelveInStream,
     BulkTwelveEndsStream,
     SixForMoreByte,
@@ -151,6 +157,7 @@ pub enum Fault {
     EntriesRoomFirst,
     EntriesNeedOneMore,
     ValueLeaksToEntry,
+    EqualValueOnce,
     // Entries that expire.
     EqualStands,
     BoundEqualSkips,
@@ -158,6 +165,7 @@ pub enum Fault {
     LatestFalls,
     RefusedSweeps,
     RefusedMovesSecond,
+    ElevenSweeps,
     BulkTwelveSweeps,
     UnservedMovesSecond,
     TenCountsExpired,
@@ -403,8 +411,7 @@ impl Echo {
                 (12, if nothing { 0 } else { taken }, Vec::new())
             }
             Read::Whole(request, taken) => {
-                let bound = number(memory, BOUND);
-                let (message, verdict) = self.step(request, second, &mut table, bound);
+                let (message, verdict) = self.step(request, second, &mut table, memory);
                 if verdict == Verdict::Served || self.counts_refused(verdict) {
                     self.put_back(&table, memory);
                 }
@@ -417,6 +424,7 @@ impl Echo {
         match self.fault {
             Some(Fault::RefusedPutCounts) => verdict == Verdict::Refused(10),
             Some(Fault::RefusedCallIsFirst) => verdict == Verdict::Refused(9),
+            Some(Fault::ElevenSweeps) => verdict == Verdict::Refused(11),
             Some(Fault::RefusedSweeps | Fault::RefusedMovesSecond) => true,
             _ => false,
         }
@@ -438,7 +446,7 @@ impl Echo {
         mut request: Request,
         second: u32,
         table: &mut Table,
-        bound: u64,
+        memory: &[u8],
     ) -> (Vec<u8>, Verdict) {
         if let Some(refusal) = self.wrong_refusal(&request, second, table) {
             let message = reference::reply::error_bytes(request.id, refusal);
@@ -449,12 +457,12 @@ impl Echo {
         let arrival = Arrival {
             request: &request,
             second,
-            bound,
+            memory,
         };
         self.before_step(&arrival, table);
         let mut answer = answer_request(&request, second, table);
         if answer.1 == Verdict::Served {
-            self.change_listing(&request, second, &before, &mut answer.0);
+            self.change_listing(&arrival, &before, &mut answer.0);
             self.change_shown(&arrival, &before, &mut answer.0);
         }
         self.after_step(&arrival, &before, table, answer.1);
@@ -572,6 +580,7 @@ impl Echo {
         match self.fault? {
             Fault::SevenForName if stats && !is_text(input.get(6..).unwrap_or(&[])) => Some(7),
             Fault::AnyNumberOfStatistics if stats => Some(again(&with_nine(input))),
+            Fault::LastNameUnread if stats => Some(again(&with_last_name(input))),
             Fault::ReadsLeadingZero if code == 8 => Some(again(&without_zero(input))),
             Fault::ReplyTextUnchecked if code == 7 => Some(0),
             Fault::LooksBeforeOperation if code == 4 && input.is_empty() => Some(0),
@@ -764,6 +773,8 @@ impl Subject for Echo {
     }
 
     fn write_statistics(&mut self, out: &mut [u8], id: u64, statistics: &[u64]) -> u64 {
+        let first_nine = self.has(Fault::TakesTenStatistics) && statistics.len() > 9;
+        let statistics = &statistics[..if first_nine { 9 } else { statistics.len() }];
         let Ok(mut statistics) = Statistics::try_from(statistics) else {
             return 16;
         };
@@ -977,6 +988,18 @@ fn with_nine(input: &[u8]) -> Vec<u8> {
     let id = bytes.iter().skip(1).position(|byte| *byte < 0x80);
     if let Some(number) = id.and_then(|last| bytes.get_mut(last + 5)) {
         *number = if *number < 0x80 { 9 } else { *number };
+    }
+    bytes
+}
+
+/// The reply with its last name made the right one, if its length is right.
+fn with_last_name(input: &[u8]) -> Vec<u8> {
+    let mut bytes = input.to_vec();
+    let name = NAMES[8].as_bytes();
+    let length = input.iter().rposition(|byte| *byte as usize == name.len());
+    let start = length.map_or(0, |at| at + 1);
+    if let Some(place) = bytes.get_mut(start..start + name.len()) {
+        place.copy_from_slice(name);
     }
     bytes
 }

@@ -20,6 +20,9 @@ use crate::writers::{check_entries, check_entries_in, EntriesDraft};
 
 /// A reply of at most so many bytes is cut at each place in every round.
 const SHORT: usize = 3000;
+/// One of as many entries as may be is cut so in one round of so many, the
+/// first among them.
+const ROUNDS: u64 = 25;
 
 fn asked<S>(trial: &mut Trial<S>) -> Asked {
     Asked {
@@ -79,7 +82,8 @@ pub fn replies<S: Subject>(trial: &mut Trial<S>, count: usize) -> Outcome {
     walked(trial, &whole, asked.op, &reply.entries)?;
     each_field(trial, asked, &fields, &whole)?;
     some_places(trial, &whole)?;
-    let all = whole.len() <= SHORT || trial.chance.one_in(30);
+    let most = count == MOST_LISTED && trial.round % ROUNDS == 0;
+    let all = whole.len() <= SHORT || most;
     let step = if all { 1 } else { 97 };
     for end in (0..whole.len()).step_by(step) {
         beginning(trial, asked, &whole[..end])?;

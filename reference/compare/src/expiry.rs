@@ -7,7 +7,7 @@
 //! their bound.
 
 use reference::history::LARGEST_SECOND;
-use reference::map::{LARGEST_DEADLINE, LONGEST_SPAN, MOST_KEYS};
+use reference::map::{LARGEST_DEADLINE, LARGEST_VERSION, LONGEST_SPAN, MOST_KEYS};
 use reference::operation::{
     sends_key, sends_value, BULK_GET, BULK_GET_KEYS, CLEAR, CONTAINS_KEY, GET, GET_WITH_VERSION,
     PING, PUT, PUT_IF_ABSENT, REMOVE, REMOVE_IF_UNMODIFIED, REPLACE, REPLACE_IF_UNMODIFIED, STATS,
@@ -35,6 +35,7 @@ const CALLS: usize = 60;
 pub fn round<S: Stores>(trial: &mut Trial<S>) -> Outcome {
     damaged_seconds(trial)?;
     refused_then_earlier(trial)?;
+    no_version_then_earlier(trial)?;
     let mut world = world(&mut trial.chance);
     for _ in 0..CALLS {
         if trial.chance.one_in(20) {
@@ -279,11 +280,11 @@ fn gives<S: Stores>(
     files(trial, world, 1)
 }
 
-/// A full table of which one entry has this deadline.
-fn full(chance: &mut Chance, deadline: u64) -> World {
+/// A full table of this last version, of which one entry has this deadline.
+fn full(chance: &mut Chance, deadline: u64, last: u64) -> World {
     let keys: Vec<Vec<u8>> = (0..=MOST_KEYS).map(|at| vec![at as u8; 3]).collect();
     let mut table = Table {
-        last: MOST_KEYS as u64,
+        last,
         ..Table::default()
     };
     for (at, key) in keys[..MOST_KEYS].iter().enumerate() {
@@ -297,42 +298,74 @@ fn full(chance: &mut Chance, deadline: u64) -> World {
     World::of(chance, table, keys)
 }
 
-/// Calls that are refused at or behind a deadline, each followed by a call
-/// before it, which still sees the entry; then one at the deadline, for which
-/// there is room for another key, and one before it again, for which there is
-/// none: the second that was served stays the present one.
-fn refused_then_earlier<S: Stores>(trial: &mut Trial<S>) -> Outcome {
-    let end = 5 + trial.chance.below(1000) as u32;
-    let mut world = full(&mut trial.chance, u64::from(end));
-    let (first, new) = (world.keys[0].clone(), world.keys[MOST_KEYS].clone());
-    let asked = |chance: &mut Chance, operation: u8, key: &[u8]| Request {
+/// A request about a key, without a lifespan.
+fn about(chance: &mut Chance, operation: u8, key: &[u8]) -> Request {
+    Request {
         key: key.to_vec(),
         lifespan: 0,
         ..make::request_of(chance, operation)
-    };
+    }
+}
+
+/// A call that is refused at or behind the end of the first key's entry, and
+/// one before it, which still sees the entry.
+fn refused_and_earlier<S: Stores>(
+    trial: &mut Trial<S>,
+    world: &mut World,
+    end: u32,
+    (refused, code): (&Request, u64),
+) -> Outcome {
     let later = trial.chance.pick(&[end, end + 1, u32::MAX]);
+    gives(trial, world, later, refused, code)?;
+    let get = about(&mut trial.chance, GET_WITH_VERSION, &world.keys[0]);
+    gives(trial, world, end - 1, &get, GOOD)?;
+    same("the keys held", MOST_KEYS, world.table.entries.len())
+}
+
+/// Calls that are refused 9 and 12; then one at the deadline, for which there
+/// is room for another key, and one before it again, for which there is none:
+/// the second that was served stays the present one.
+fn refused_then_earlier<S: Stores>(trial: &mut Trial<S>) -> Outcome {
+    let end = 5 + trial.chance.below(1000) as u32;
+    let mut world = full(&mut trial.chance, u64::from(end), MOST_KEYS as u64);
+    let (first, new) = (world.keys[0].clone(), world.keys[MOST_KEYS].clone());
     let named = Request {
         name: b"n".to_vec(),
-        ..asked(&mut trial.chance, GET, &first)
+        ..about(&mut trial.chance, GET, &first)
     };
     let all = make::request_of(&mut trial.chance, BULK_GET);
-    let get = asked(&mut trial.chance, GET_WITH_VERSION, &first);
     for (refused, code) in [(named, 9), (all, 12)] {
-        gives(trial, &mut world, later, &refused, code)?;
-        gives(trial, &mut world, end - 1, &get, GOOD)?;
-        same("the keys held", MOST_KEYS, world.table.entries.len())?;
+        refused_and_earlier(trial, &mut world, end, (&refused, code))?;
     }
-    let put = asked(&mut trial.chance, PUT, &new);
+    let put = about(&mut trial.chance, PUT, &new);
     gives(trial, &mut world, end - 1, &put, 10)?;
     gives(trial, &mut world, end, &put, GOOD)?;
     same("the keys held", MOST_KEYS, world.table.entries.len())?;
-    let again = asked(&mut trial.chance, PUT_IF_ABSENT, &first);
+    let again = about(&mut trial.chance, PUT_IF_ABSENT, &first);
     gives(trial, &mut world, end - 1, &again, 10)?;
     same(
         "the latest second",
         u64::from(end),
         world.table.history.latest,
     )
+}
+
+/// The same at the last version: writes of a key that is held, of one that is
+/// not, and of the one whose entry ends are refused 11. Before the end a key
+/// that is not held is 10, and at the end the entry goes.
+fn no_version_then_earlier<S: Stores>(trial: &mut Trial<S>) -> Outcome {
+    let end = 5 + trial.chance.below(1000) as u32;
+    let mut world = full(&mut trial.chance, u64::from(end), LARGEST_VERSION);
+    for key in [1, MOST_KEYS, 0] {
+        let put = about(&mut trial.chance, PUT, &world.keys[key]);
+        refused_and_earlier(trial, &mut world, end, (&put, 11))?;
+    }
+    let put = about(&mut trial.chance, PUT, &world.keys[MOST_KEYS]);
+    gives(trial, &mut world, end - 1, &put, 10)?;
+    let get = about(&mut trial.chance, GET, &world.keys[0]);
+    gives(trial, &mut world, end, &get, GOOD)?;
+    same("the keys held", MOST_KEYS - 1, world.table.entries.len())?;
+    gives(trial, &mut world, end - 1, &put, 11)
 }
 
 /// A place in the head, a number, and whether memory with it is a table.

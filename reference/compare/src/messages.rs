@@ -3,10 +3,11 @@
 //! Compared are the return code, every field, and that the input stays as it
 //! was; of writers also every byte of the buffer (see `writers`).
 
+use reference::operation::STATS;
 use reference::statistics::NAMES;
 use reference::{read_reply, read_request, Read, Reply, Request};
 
-use crate::damage::variants;
+use crate::damage::{break_at, variants};
 use crate::difference::{hold, same, Difference, Outcome};
 use crate::fields::{join, length, of_reply, of_request, place, Field, Kind};
 use crate::lent::{Lent, Words};
@@ -24,7 +25,7 @@ pub fn round<S: Subject>(trial: &mut Trial<S>) -> Outcome {
         writers::statistics(trial)?;
         writers::entries(trial)?;
     }
-    Ok(())
+    each_of_statistics(trial)
 }
 
 /// A request and its damaged forms.
@@ -47,15 +48,40 @@ fn replies<S: Subject>(trial: &mut Trial<S>) -> Outcome {
     let other = join(&of_reply(other_asked, &other));
     for input in variants(&mut trial.chance, &fields, &other) {
         let asked = perhaps_other(trial, asked);
-        check_reply(trial, asked, &input).map_err(|found| {
-            found
-                .with("call", "fq_read_reply")
-                .with("operation", asked.op)
-                .with("flag", asked.flag)
-                .bytes("input", &input)
-        })?;
+        read_as(trial, asked, &input)?;
     }
     Ok(())
+}
+
+/// A stats reply with each field in turn broken.
+fn each_of_statistics<S: Subject>(trial: &mut Trial<S>) -> Outcome {
+    let asked = Asked {
+        op: STATS,
+        flag: trial.chance.one_in(2),
+    };
+    let reply = Reply {
+        id: make::long(&mut trial.chance),
+        operation: STATS + 1,
+        statistics: make::statistics(&mut trial.chance),
+        ..Reply::default()
+    };
+    let fields = of_reply(asked, &reply);
+    for at in 0..fields.len() {
+        let mut broken = fields.clone();
+        break_at(&mut trial.chance, &mut broken, at);
+        read_as(trial, asked, &join(&broken))?;
+    }
+    Ok(())
+}
+
+fn read_as<S: Subject>(trial: &mut Trial<S>, asked: Asked, input: &[u8]) -> Outcome {
+    check_reply(trial, asked, input).map_err(|found| {
+        found
+            .with("call", "fq_read_reply")
+            .with("operation", asked.op)
+            .with("flag", asked.flag)
+            .bytes("input", input)
+    })
 }
 
 fn perhaps_other<S>(trial: &mut Trial<S>, asked: Asked) -> Asked {

@@ -92,6 +92,7 @@ pub fn play<S>(
 ) -> Result<Counts, Difference> {
     let mut trial = Trial {
         subject,
+        round,
         chance: Chance::of_round(seed, part.number, round),
         counts: Counts::default(),
     };

@@ -7,6 +7,8 @@ use crate::subject::GOOD;
 
 pub struct Trial<'a, S> {
     pub subject: &'a mut S,
+    /// The number of the round, from 0 on.
+    pub round: u64,
     pub chance: Chance,
     pub counts: Counts,
 }

@@ -185,7 +185,7 @@ struct StatisticsDraft {
 }
 
 impl StatisticsDraft {
-    /// Too few numbers are 16, like a number above the largest vLong.
+    /// Another number of them is 16, like one above the largest vLong.
     fn written(&self, out: &mut [u8]) -> Result<usize, u8> {
         let Ok(statistics) = Statistics::try_from(&self.numbers[..]) else {
             return Err(16);
@@ -200,10 +200,11 @@ impl StatisticsDraft {
     }
 
     fn damage(&mut self, chance: &mut Chance) {
-        match chance.below(8) {
+        match chance.below(9) {
             0 => self.numbers.truncate(chance.below(9)),
-            1 => self.id = LARGEST_VLONG + chance.below(2) as u64,
-            2 => self.id = chance.number(),
+            1 => self.numbers.resize(chance.pick(&[10, 11]), 7),
+            2 => self.id = LARGEST_VLONG + chance.below(2) as u64,
+            3 => self.id = chance.number(),
             _ => odd_one(chance, &mut self.numbers),
         }
     }

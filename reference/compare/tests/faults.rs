@@ -146,6 +146,7 @@ fn faults_of_entries_that_expire_are_found() {
         LatestFalls,
         RefusedSweeps,
         RefusedMovesSecond,
+        ElevenSweeps,
         BulkTwelveSweeps,
         UnservedMovesSecond,
         TenCountsExpired,
@@ -188,8 +189,10 @@ fn faults_of_listings_are_found() {
     use Fault::*;
     let faults = [
         BulkCountIgnored,
+        BulkOneMore,
         BulkHighest,
         BulkByKey,
+        BulkByRow,
         BulkHidesDated,
         BulkFits,
         BulkRoomOneMore,
@@ -198,6 +201,7 @@ fn faults_of_listings_are_found() {
         NineBeforeBulkTwelve,
         BulkCounts,
         BulkNoEnd,
+        BulkEndsWithOne,
     ];
     are_found("bulk", &faults);
     are_found("serving", &faults);
@@ -252,7 +256,7 @@ fn faults_of_writers_of_entries_are_found() {
 #[test]
 fn values_that_leak_in_bulk_replies_are_found() {
     use Fault::*;
-    are_found("bulk", &[ValueLeaksToEntry]);
+    are_found("bulk", &[ValueLeaksToEntry, EqualValueOnce]);
     are_found("values", &[ValueLeaksToEntry]);
 }
 
@@ -280,6 +284,8 @@ fn faults_of_stats_replies_are_found() {
     use Fault::*;
     let faults = [
         SwapsStatistics,
+        TakesTenStatistics,
+        LastNameUnread,
         TellsStatisticsAlways,
         ReadsLeadingZero,
         SevenForName,

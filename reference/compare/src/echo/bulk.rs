@@ -6,8 +6,10 @@ use reference::operation::{greatest_bulk, BULK_GET, BULK_GET_KEYS};
 use reference::serve::{answer_request, BULK_ROOM};
 use reference::{read_reply, read_request, Listed, Read, Reply, Request, Table};
 
+use super::expiry::Arrival;
 use super::{fill, span, Echo, Fault};
 use crate::fields::{place, Field, Kind};
+use crate::memory::{rows, PLACES};
 use crate::messages::entries_length;
 use crate::subject::{read_code, write_code, Asked, EntryParts, GOOD};
 use crate::writers::EntriesDraft;
@@ -60,39 +62,52 @@ impl Echo {
         self.put_back(table, memory);
     }
 
-    /// A fault in what a bulk reply lists.
-    pub(super) fn change_listing(
-        &self,
-        request: &Request,
-        second: u32,
-        table: &Table,
-        message: &mut Vec<u8>,
-    ) {
-        if !is_bulk(request.operation) {
+    /// A fault in a bulk reply.
+    pub(super) fn change_listing(&self, call: &Arrival, table: &Table, message: &mut Vec<u8>) {
+        let operation = call.request.operation;
+        if !is_bulk(operation) {
             return;
         }
-        let Read::Whole(mut reply, _) = read_reply(request.operation, false, message) else {
+        match self.fault {
+            Some(Fault::BulkNoEnd) => drop(message.pop()),
+            Some(Fault::BulkEndsWithOne) => message.splice(message.len() - 1.., [1]).for_each(drop),
+            _ => {}
+        }
+        let Read::Whole(mut reply, _) = read_reply(operation, false, message) else {
             return;
         };
-        let all = |request| all_listed(request, second, table);
-        let count = reply.entries.len();
+        if self.change_listed(call, table, &mut reply.entries) {
+            *message = reference::reply::reply_bytes(operation, false, &reply);
+        }
+    }
+
+    /// A fault in what a bulk reply lists; whether there is one.
+    fn change_listed(&self, call: &Arrival, table: &Table, entries: &mut Vec<Listed>) -> bool {
+        let all = || all_listed(call.request, call.second, table);
+        let deadline = |entry: &Listed| table.entries.get(&entry.key).map_or(0, |e| e.deadline);
+        let count = entries.len();
         match self.fault {
-            Some(Fault::BulkCountIgnored) => reply.entries = all(request),
-            Some(Fault::BulkHighest) => {
-                let all = all(request);
-                reply.entries = all[all.len() - count..].to_vec();
+            Some(Fault::BulkCountIgnored) => *entries = all(),
+            Some(Fault::BulkOneMore) => {
+                *entries = all();
+                entries.truncate(count + 1);
             }
-            Some(Fault::BulkByKey) => reply.entries.sort_by(|one, two| one.key.cmp(&two.key)),
-            Some(Fault::BulkHidesDated) => reply
-                .entries
-                .retain(|entry| table.entries.get(&entry.key).map_or(0, |e| e.deadline) == 0),
-            Some(Fault::ValueLeaksToEntry) if count > 1 => leak(&mut reply.entries),
-            Some(Fault::BulkNoEnd) => drop(message.pop()),
-            _ => return,
+            Some(Fault::BulkHighest) => {
+                let all = all();
+                *entries = all[all.len() - count..].to_vec();
+            }
+            Some(Fault::BulkByKey) => entries.sort_by(|one, two| one.key.cmp(&two.key)),
+            Some(Fault::BulkByRow) => {
+                *entries = all();
+                entries.sort_by_key(|entry| row_of(call.memory, &entry.key));
+                entries.truncate(count);
+            }
+            Some(Fault::BulkHidesDated) => entries.retain(|entry| deadline(entry) == 0),
+            Some(Fault::ValueLeaksToEntry) if count > 1 => leak(entries),
+            Some(Fault::EqualValueOnce) => keep_first(entries),
+            _ => return false,
         }
-        if !self.has(Fault::BulkNoEnd) {
-            *message = reference::reply::reply_bytes(request.operation, false, &reply);
-        }
+        true
     }
 
     /// A wrong code for a bulk reply that is read.
@@ -221,6 +236,24 @@ fn all_listed(request: &Request, second: u32, table: &Table) -> Vec<Listed> {
         Read::Whole(reply, _) => reply.entries,
         _ => Vec::new(),
     }
+}
+
+/// The number of the row that has the key.
+fn row_of(memory: &[u8], key: &[u8]) -> Option<u8> {
+    let rows = rows(memory)?;
+    let place = rows.iter().position(|row| row.key == key)?;
+    Some(memory[PLACES + place])
+}
+
+/// Leaves out each entry with a value that one before it has, but for short
+/// ones.
+fn keep_first(entries: &mut Vec<Listed>) {
+    let mut seen = Vec::new();
+    entries.retain(|entry| {
+        let again = entry.value.len() > 50 && seen.contains(&entry.value);
+        seen.push(entry.value.clone());
+        !again
+    });
 }
 
 /// Puts the first byte of the first value into the next one.

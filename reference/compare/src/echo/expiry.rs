@@ -8,13 +8,13 @@ use reference::serve::answer_request;
 use reference::{read_reply, Read, Request, Table, Verdict};
 
 use super::{cap, Echo, Fault};
-use crate::memory::{self, greatest_bound, put_number, rows, BOUND, FIRST, LATEST};
+use crate::memory::{self, greatest_bound, number, put_number, rows, BOUND, FIRST, LATEST};
 
-/// A call: the request, its second, and the bound in the table's memory.
+/// A call: the request, its second, and the table's memory before it.
 pub(super) struct Arrival<'a> {
     pub request: &'a Request,
     pub second: u32,
-    pub bound: u64,
+    pub memory: &'a [u8],
 }
 
 impl Echo {
@@ -22,7 +22,7 @@ impl Echo {
     fn stands_at_end(&self, arrival: &Arrival, now: u64) -> bool {
         match self.fault {
             Some(Fault::EqualStands) => true,
-            Some(Fault::BoundEqualSkips) => arrival.bound == now,
+            Some(Fault::BoundEqualSkips) => number(arrival.memory, BOUND) == now,
             _ => false,
         }
     }
@@ -77,7 +77,7 @@ impl Echo {
                 table.history.latest = u64::from(arrival.second);
             }
             Some(Fault::RefusedMovesSecond) if !served => table.history.latest = now,
-            Some(Fault::RefusedSweeps) if !served => {
+            Some(Fault::RefusedSweeps | Fault::ElevenSweeps) if !served => {
                 table.entries.retain(|_, entry| entry.stands(now));
             }
             _ if table.last > before.last => self.after_write(arrival, table, now),

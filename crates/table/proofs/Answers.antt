@@ -17,16 +17,15 @@ use Rattle.map.specs.State.{Entry, State, fresh}
 use Rattle.map.specs.Step.{mostKeys, lastVersion, Context, statistics}
 use Rattle.map.specs.Table.{lastSecond}
 use Rattle.table.specs.Bytes.{be8, upto}
-use Rattle.table.specs.Memory.{countIndex, lastIndex, firstIndex, countsIndex, latestIndex, size, numberOf, firstOf, rowAt, entry, entryOf, countOf, historyOf, stateOf}
-use Rattle.table.specs.Found.{entryAt, FoundIs, NumberAt}
-use Rattle.table.specs.Check.{FoundFrom}
+use Rattle.table.specs.Memory.{countIndex, lastIndex, firstIndex, countsIndex, latestIndex, headCount, deadlineStart, rowWidth, size, numberOf, firstOf, rowAt, entry, entryOf, countOf, historyOf, stateOf}
+use Rattle.table.specs.Found.{entryAt, FoundIs, headerNumber, rowNumber, FoundFrom}
 use Rattle.table.specs.declared.Found.{Found}
 use Rattle.table.specs.declared.Found.the-variants.{At, Absent}
 use Rattle.table.specs.Change.{Answers, fitsRow, hasRoom, added, renewed, removed, cleared, arrived}
 use Rattle.table.specs.Sweep.{presentAt, swept}
 use Rattle.table.specs.Write.{withNumber, lowered, begun, counted, turned, less, withValue, withEntry}
 use Rattle.table.proofs.Lists.{lt-or-ge}
-use Rattle.table.proofs.RowLaws.{history-is, length-entries, entry-is}
+use Rattle.table.proofs.RowLaws.{history-is, length-entries, entry-is, count-most}
 
 pub other-length : (t : List ℕ) → (length t ≡ size → ⊥) → stateOf t ≡ fresh
 unfolding stateOf
@@ -47,22 +46,63 @@ pub no-row : (t : List ℕ) (i : ℕ) → length (stateOf t .entries) ≤ i → 
 unfolding entryAt
 no-row t i l = List·getD-eq-default (stateOf t .entries) (entry [] [] 0 0) {n = i} l
 
--- a number of a row, by where it stands
-field-is : (f : Entry → ℕ) (t : List ℕ) (i o r : ℕ) → ((a : ℕ) → f (entryOf t a) ≡ be8 t (a + o)) → f (entry [] [] 0 0) ≡ 0 → NumberAt t i o r
-    → r ≡ f (entryAt t i)
-field-is f t i o r h z n =
-    ⊎-elim
-    (λ l. let g = held-row t i l in n .held l ∙ sym (ap f (entry-is t (g .0) i (g .1)) ∙ h (rowAt t i)))
-    (λ l. n .none l ∙ sym (ap f (no-row t i l) ∙ z))
-    (lt-or-ge i (length (stateOf t .entries)))
+-- a number of the header, and one that it has not
+module _ (t : List ℕ) (i : ℕ) where
+  pub header-in : length t ≡ size → i < headCount → headerNumber t i ≡ numberOf t i
+  unfolding headerNumber
+  header-in h l = rw (eq-eqb (length t) size h, lt-ltb i headCount l)
 
-pub version-at : (t : List ℕ) (i r : ℕ) → NumberAt t i 0 r → r ≡ entryAt t i .version
-unfolding entryOf entry
-version-at t i r n = field-is (λ (e : Entry). e .version) t i 0 r (λ a. ap (be8 t) (omega arith)) refl n
+  pub header-other : (length t ≡ size → ⊥) → headerNumber t i ≡ 0
+  unfolding headerNumber
+  header-other h = rw (ne-eqb (length t) size h)
 
-pub deadline-at : (t : List ℕ) (i r : ℕ) → NumberAt t i 8 r → r ≡ entryAt t i .deadline
-unfolding entryOf entry
-deadline-at t i r n = field-is (λ (e : Entry). e .deadline) t i 8 r (λ a. refl) refl n
+  pub header-out : headCount ≤ i → headerNumber t i ≡ 0
+  unfolding headerNumber
+  header-out l = rw (le-ltb i headCount l, and-false)
+
+-- a number of a row, and one that is not there
+module _ (t : List ℕ) (i o : ℕ) where
+  pub number-in : length t ≡ size → i < mostKeys → o + 8 ≤ rowWidth → rowNumber t i o ≡ be8 t (rowAt t i + o)
+  unfolding rowNumber
+  number-in h l b = rw (and (eq-eqb (length t) size h) (and (lt-ltb i mostKeys l) (le-leb (o + 8) rowWidth b)))
+
+  pub number-other : (length t ≡ size → ⊥) → rowNumber t i o ≡ 0
+  unfolding rowNumber
+  number-other h = rw (ne-eqb (length t) size h)
+
+  pub number-none : mostKeys ≤ i → rowNumber t i o ≡ 0
+  unfolding rowNumber
+  number-none l = rw (le-ltb i mostKeys l, and-false)
+
+  pub number-out : rowWidth < o + 8 → rowNumber t i o ≡ 0
+  unfolding rowNumber
+  number-out b = rw (lt-leb (o + 8) rowWidth b) (simp and-false)
+
+  -- that of an entry that is held
+  pub number-held : i < length (stateOf t .entries) → o + 8 ≤ rowWidth → rowNumber t i o ≡ be8 t (rowAt t i + o)
+  number-held l b = let g = held-row t i l in number-in (g .0) (omega (arith, g .1, count-most t)) b
+
+-- the version and the deadline of an entry that is held, by the number that each is held as; and those of one that is not
+module _ (t : List ℕ) (i : ℕ) where
+  pub version-at : i < length (stateOf t .entries) → rowNumber t i 0 ≡ entryAt t i .version
+  unfolding entryOf entry
+  version-at l =
+      let g = held-row t i l in
+      number-held t i 0 l (omega arith) ∙ ap (be8 t) (omega arith) ∙ sym (ap (λ (e : Entry). e .version) (entry-is t (g .0) i (g .1)))
+
+  pub deadline-at : i < length (stateOf t .entries) → rowNumber t i deadlineStart ≡ entryAt t i .deadline
+  unfolding entryOf entry
+  deadline-at l =
+      let g = held-row t i l in
+      number-held t i deadlineStart l (omega arith) ∙ sym (ap (λ (e : Entry). e .deadline) (entry-is t (g .0) i (g .1)))
+
+  pub version-none : length (stateOf t .entries) ≤ i → 0 ≡ entryAt t i .version
+  unfolding entry
+  version-none l = sym (ap (λ (e : Entry). e .version) (no-row t i l))
+
+  pub deadline-none : length (stateOf t .entries) ≤ i → 0 ≡ entryAt t i .deadline
+  unfolding entry
+  deadline-none l = sym (ap (λ (e : Entry). e .deadline) (no-row t i l))
 
 -- what a writer answers
 pub taken : (old u : List ℕ) {new : List ℕ} (b : Bool) → b ≡ true → new ≡ u → Answers old (cond b (some u) none) true new

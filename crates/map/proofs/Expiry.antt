@@ -157,7 +157,7 @@ latest-run (x ∷ xs) st =
     let o = step (x .0) (x .1) st in
     latest-run xs (stateAfter st o) ∙ ap (λ (n : ℕ). greatest n xs (run xs (stateAfter st o))) (latest-after (x .0) (x .1) st o refl)
 
--- "that of the first call served", by whether one was before; nothing behind it moves it
+-- by whether a call was served before: nothing behind the first one moves it
 first-none : (h : Option ℕ) → h ≡ firstServed h [] []
 unfolding firstServed
 first-none none = refl
@@ -172,6 +172,7 @@ first-after none c r st (answered a t) q e xs ts = rw (first-step c r st a t e, 
 first-after (some n) c r st (refused k) q e xs ts = rw q
 first-after (some n) c r st (answered a t) q e xs ts = rw (first-step c r st a t e, q)
 
+-- "that of the first call served": what is left by a run
 pub first-run : (xs : List (Context × Request)) (st : State) → ends st (run xs st) .history .first ≡ firstServed (st .history .first) xs (run xs st)
 unfolding run ends
 first-run [] st = first-none (st .history .first)

@@ -40,30 +40,30 @@ module _ {c : Context} {input table lent : List ℕ} {d : Done} (x : Serves inpu
       omega (arith, length-drop (d .size) (d .buffer), ap length (x .does .buffer) ∙ length-sets lent 0 (flat (effectOf (x .ok) input table (at c lent) .sent)))
 
 -- A stream has room for any reply, or it does not make the calls that would be refused 12.
-abbrev Roomy : Bool → List ℕ → Type 0
-Roomy used lent = (used ≡ true) ⊎ (bulkRoom ≤ length lent)
+abbrev Ample : Bool → List ℕ → Type 0
+Ample used lent = (used ≡ true) ⊎ (bulkRoom ≤ length lent)
 
 module _ {c : Context} {used : Bool} {input table lent : List ℕ} {d : Done} (x : Serves input table (at c lent) d) where
-  made : Roomy used lent → (isShort (d .answer .verdict) && used) ≡ false → isShort (d .answer .verdict) ≡ false
+  made : Ample used lent → (isShort (d .answer .verdict) && used) ≡ false → isShort (d .answer .verdict) ≡ false
   made (inl u) e = rw (u, and-true) at e
   made (inr h) e = roomy-call x h
 
-  roomy-behind : Roomy used lent → Roomy (used || ltb 0 (d .size)) (drop (d .size) (d .buffer))
-  roomy-behind (inl u) = inl (rw u)
-  roomy-behind (inr h) = go (ltb 0 (d .size)) refl
+  ample-behind : Ample used lent → Ample (used || ltb 0 (d .size)) (drop (d .size) (d .buffer))
+  ample-behind (inl u) = inl (rw u)
+  ample-behind (inr h) = go (ltb 0 (d .size)) refl
     where
-      go : (b : Bool) → ltb 0 (d .size) ≡ b → Roomy (used || b) (drop (d .size) (d .buffer))
+      go : (b : Bool) → ltb 0 (d .size) ≡ b → Ample (used || b) (drop (d .size) (d .buffer))
       go true e = inl (or-true used)
       go false e = inr (rw (left-long x (omega (arith, ltb-false 0 (d .size) e))) h)
 
-roomy-stream : {c : Context} {used : Bool} {input table lent : List ℕ} {t : Total} → Roomy used lent → (s : Streams c used input table lent t) → NeverShort s
-roomy-stream h (waits x e) = tt
-roomy-stream h (last x e f) = made x h e
-roomy-stream h (then x e f s) = (made x h e, roomy-stream (roomy-behind x h) s)
+ample-stream : {c : Context} {used : Bool} {input table lent : List ℕ} {t : Total} → Ample used lent → (s : Streams c used input table lent t) → NeverShort s
+ample-stream h (waits x e) = tt
+ample-stream h (last x e f) = made x h e
+ample-stream h (then x e f s) = (made x h e, ample-stream (ample-behind x h) s)
 
 -- With room for any reply a stream makes no call that is refused 12, however full the buffer is by then.
 pub never-filled : {c : Context} {input table lent : List ℕ} {t : Total} → bulkRoom ≤ length lent → (s : Streams c false input table lent t) → NeverShort s
-never-filled h s = roomy-stream (inr h) s
+never-filled h s = ample-stream (inr h) s
 
 -- a call does not end as a full stream
 abbrev isFull : Verdict → Bool

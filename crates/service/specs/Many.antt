@@ -54,7 +54,8 @@ abbrev pub nothing : List ℕ → List ℕ → Total
 nothing buffer table = record { taken = 0; size = 0; calls = 0; verdict = full; buffer = buffer; table = table }
 
 -- What the function `serve_stream` ensures, literally. used: something is sent already. A call that would be refused 12 then is not made, and the stream
--- is full: the caller empties the buffer and calls again. So a call is refused 12 only where the whole buffer lent is too short.
+-- is full: the caller empties the buffer and calls again (`full-took`). So a call is refused 12 only where the whole buffer lent is too short
+-- (`never-filled`).
 pub data Streams (c : Context) : Bool → List ℕ → List ℕ → List ℕ → Total → Type 0 where
   waits : {used : Bool} {input table lent : List ℕ} {d : Done} → Serves input table (at c lent) d → isShort (d .answer .verdict) && used ≡ true
       → Streams c used input table lent (nothing lent table)

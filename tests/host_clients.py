@@ -1,4 +1,5 @@
 """Part 3: clients that behave badly: one that never reads, a slow one, too many, idle ones, and connections one after another."""
+import re
 import resource
 import socket
 import statistics
@@ -7,7 +8,7 @@ import threading
 import time
 
 from board_frames import BULK_GET, GET, PING, PUT, frame, key_name
-from host_run import Bench, Host, SECONDS, demand, run_part, short, until
+from host_run import Bench, Host, SECONDS, demand, read_file, run_part, short, until
 
 ROW = 10_000  # connections one after another
 VALUE = bytes(range(256))
@@ -83,6 +84,47 @@ def never_reads_bulk(bench):
 def files_of(connections):
     """Files that a server has with so many connections: three, and folder, two polls, signals and listener."""
     return 8 + connections
+
+
+def queues(host, caller):
+    """Of the server's end of a connection: whether it sends, and how many bytes wait to be read by the server, as the system tells."""
+    ends = '%04X' % host.port, '%04X' % caller.socket.getsockname()[1]
+    for line in read_file('/proc/net/tcp').decode().splitlines()[1:]:
+        words = line.split()
+        if (words[1][-4:], words[2][-4:]) == ends:
+            return int(words[3], 16) == ESTABLISHED, int(words[4].split(':')[1], 16)
+    return False, 0
+
+
+def is_stuck(host, caller):
+    """Whether the server does not read on for a while."""
+    return all(queues(host, caller)[1] > 0 and time.sleep(0.002) is None for _ in range(100))
+
+
+ESTABLISHED, BURST, LAST = 1, 50, 230  # gets sent at a time, and at the end, whose replies have less than the 64 KB that the server keeps
+
+
+def slow_behind_refusal(bench):
+    """One that takes its replies late, behind a refusal and with more of them than the system keeps, gets all of them and the error reply. How many the system
+    keeps is seen at a connection before it."""
+    with Host(bench.table('late')) as host, host.connect() as good, host.connect(4096) as first, host.connect(4096) as late:
+        good.call(PUT, key=b'k', value=VALUE)
+        one, wanted, bursts = frame(GET, key=b'k'), b'\xa1\x01\x04\x00\x00\x80\x02' + VALUE, 0
+        while not is_stuck(host, first):
+            first.send(one * BURST)
+            bursts += 1
+        for _ in range(bursts - 4):
+            late.send(one * BURST)
+            until(lambda: queues(host, late)[1] == 0, 'a slow client', 'it is not read from')
+        late.send(one * LAST + b'\xff')
+        time.sleep(0.5)
+        demand(queues(host, late) == (True, 0), 'a slow client', f'nothing is shown: {queues(host, late)}, where the server has all requests and keeps some replies')
+        time.sleep(3.5)
+        count = (bursts - 4) * BURST + LAST
+        came = late.rest('a slow client behind a refusal')
+        demand(came == wanted * count + b'\xa1\x00\x50\x81\x00\x09bad magic', 'a slow client behind a refusal',
+               f'{len(came)} bytes came to {count} requests, {short(came[-300:])} at the end')
+    return count
 
 
 def greedy(bench, operation):
@@ -170,6 +212,26 @@ def too_many(bench):
     return 103
 
 
+def lingering(bench):
+    """A connection that has got its last reply counts no more; the number that is told is that of the others, and one is not told as many."""
+    for limit in (1, 2):
+        with Host(bench.table(f'linger{limit}'), '--connections', str(limit)) as host:
+            gone = [host.connect() for _ in range(limit)]
+            for caller in gone:
+                caller.send(b'\xff')
+                caller.reply(PING)
+            callers = [host.connect() for _ in range(limit)]
+            for caller in callers:
+                demand(caller.call(PING).operation == PING + 1, 'beside one that leaves', 'no place is free')
+            more = host.connect()
+            demand(more.reply(PING).text == b'too many connections', 'too many', 'it is served')
+            told = ('1 connection is open', '2 connections are open')[limit - 1] + ', which is the limit (--connections)'
+            until(lambda: told in host.words(), 'too many', f'it says {host.words()}')
+            for caller in [*gone, *callers, more]:
+                caller.socket.close()
+    return 3
+
+
 def no_files(bench):
     """The system gives no more files: callers wait without being lost, and get the places that become free."""
     limit = (files_of(6), files_of(6))
@@ -199,7 +261,7 @@ def idle(bench):
             for caller in (quiet, cut):
                 demand(caller.rest('idle') == b'', 'idle', 'a byte came')
             demand(busy.call(PING).status == 0, 'idle', 'the busy one is not served')
-            until(lambda: 'connections were closed' in host.words(), 'idle', 'nothing is said')
+            until(lambda: re.search('2 connections were closed|(1 connection was closed.*\n.*){2}', host.words()), 'idle', f'it says {host.words()}')
     return 2
 
 
@@ -223,7 +285,7 @@ def in_a_row(bench):
 
 def part():
     with Bench() as bench:
-        return (f'{never_reads(bench) + never_reads_bulk(bench)} requests of clients that do not read, {greedy(bench, GET) + greedy(bench, BULK_GET)} beside greedy ones, {gone(bench)} gone in the middle, {too_many(bench)} too many, '
+        return (f'{never_reads(bench) + never_reads_bulk(bench)} requests of clients that do not read, {slow_behind_refusal(bench)} of one that reads late, {greedy(bench, GET) + greedy(bench, BULK_GET)} beside greedy ones, {gone(bench)} gone in the middle, {too_many(bench)} too many, {lingering(bench)} beside one that leaves, '
                 f'{no_files(bench)} without a file, {idle(bench)} idle, {in_a_row(bench)} in a row')
 
 

@@ -2,6 +2,7 @@
 
 The expected bytes come from the second program or from the papers, never from HOST.
 """
+import concurrent.futures
 import os
 import re
 import shutil
@@ -110,8 +111,8 @@ class Host:
         except subprocess.TimeoutExpired as error:
             raise Difference(f'signal {number}: it does not end; it says {self.words()}') from error
 
-    def connect(self):
-        return Caller(self.port)
+    def connect(self, room=None):
+        return Caller(self.port, room)
 
     def memory(self):
         """Kilobytes of memory that it has."""
@@ -128,10 +129,14 @@ class Host:
 
 
 class Caller:
-    """A connection."""
+    """A connection; with a room the system keeps no more than about so many bytes for it that it did not read."""
 
-    def __init__(self, port):
-        self.socket = socket.create_connection(('127.0.0.1', port), timeout=SECONDS)
+    def __init__(self, port, room=None):
+        self.socket = socket.socket()
+        self.socket.settimeout(SECONDS)
+        if room:
+            self.socket.setsockopt(socket.SOL_SOCKET, socket.SO_RCVBUF, room)
+        self.socket.connect(('127.0.0.1', port))
         self.socket.setsockopt(socket.IPPROTO_TCP, socket.TCP_NODELAY, 1)
         self.bytes = b''
 
@@ -307,6 +312,12 @@ class Bench:
         if data is not None:
             write_file(path, data)
         return path
+
+
+def together(*parts):
+    """What these give, which mostly wait and so run at the same time."""
+    with concurrent.futures.ThreadPoolExecutor(len(parts)) as pool:
+        return [one.result() for one in [pool.submit(part) for part in parts]]
 
 
 def run_part(name, part):

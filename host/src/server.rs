@@ -29,7 +29,7 @@ const ACCEPTS: usize = 64;
 const TOLD: usize = 16;
 /// How often connections that are late are looked for.
 const TICK: Duration = Duration::from_secs(1);
-/// How often a limit that is met is told.
+/// How often it is told that nobody is taken.
 const TELL_EVERY: Duration = Duration::from_secs(60);
 
 pub struct Limits {
@@ -52,8 +52,10 @@ pub struct Server {
     next_tick: Instant,
     /// Whether the listener waits for the next tick.
     deaf: bool,
-    /// When a limit that is met may be told again.
-    tell_at: Instant,
+    /// When it may be told again that the limit is met.
+    tell_full_at: Instant,
+    /// When it may be told again that callers wait.
+    tell_deaf_at: Instant,
 }
 
 /// The system's UNIX time, as far as the library's seconds go.
@@ -89,7 +91,8 @@ impl Server {
             saver,
             next_tick: now,
             deaf: false,
-            tell_at: now,
+            tell_full_at: now,
+            tell_deaf_at: now,
         })
     }
 
@@ -113,7 +116,7 @@ impl Server {
         if !self.queue.is_empty() {
             return Some(Duration::ZERO);
         }
-        let tick = (self.places.count() > 0 || self.deaf).then_some(self.next_tick);
+        let tick = (self.places.taken() > 0 || self.deaf).then_some(self.next_tick);
         let due = [tick, self.saver.due()].into_iter().flatten().min()?;
         Some(due.saturating_duration_since(now))
     }
@@ -155,18 +158,18 @@ impl Server {
             moved = connection.receive(now);
         }
         match moved {
-            Ok(()) => self.settle(index),
+            Ok(()) => self.settle(index, now),
             Err(_) => self.places.close(index),
         }
     }
 
     /// Sees to what a connection needs next: to be served, to be waited for, or
     /// to be closed.
-    fn settle(&mut self, index: usize) {
+    fn settle(&mut self, index: usize, now: Instant) {
+        self.places.shut(index, now);
         let Some(connection) = self.places.get_mut(index) else {
             return;
         };
-        connection.shut();
         if connection.is_over() {
             self.places.close(index);
             return;
@@ -239,10 +242,10 @@ impl Server {
                 sent = connection.send(self.batch.replies_of(share), now);
             }
             if share.rest == Rest::Ended {
-                connection.leave(now);
+                connection.leave();
             }
             match sent {
-                Ok(()) => self.settle(share.connection),
+                Ok(()) => self.settle(share.connection, now),
                 Err(_) => self.places.close(share.connection),
             }
         }
@@ -257,7 +260,9 @@ impl Server {
                 Err(error) if error.kind() == io::ErrorKind::ConnectionAborted => {}
                 Err(error) if is_later(&error) => return,
                 Err(error) => {
-                    self.tell_limit(now, &plain(&error));
+                    if is_due(&mut self.tell_deaf_at, now) {
+                        say(because("callers wait, since none can be taken", error));
+                    }
                     self.listen(false);
                     return;
                 }
@@ -275,11 +280,11 @@ impl Server {
 
     /// Takes one connection; above the limit it is told so, or closed.
     fn take_in(&mut self, stream: TcpStream, now: Instant) {
-        let full = self.places.count() >= self.limits.connections;
+        let full = self.places.open() >= self.limits.connections;
         if full {
-            self.tell_limit(now, "--connections");
+            self.tell_full(now);
         }
-        if self.places.count() >= self.limits.connections + TOLD {
+        if self.places.taken() >= self.limits.connections + TOLD {
             return;
         }
         let mut connection = Connection::new(stream, now);
@@ -292,18 +297,20 @@ impl Server {
             ready = ready.and(self.poll.add(&connection.stream, index + FIRST, READABLE));
         }
         match ready {
-            Ok(()) => self.settle(index),
+            Ok(()) => self.settle(index, now),
             Err(_) => self.places.close(index),
         }
     }
 
-    /// Tells that a limit is met, at most once a minute.
-    fn tell_limit(&mut self, now: Instant, limit: &str) {
-        if now >= self.tell_at {
-            self.tell_at = now + TELL_EVERY;
+    /// Tells that the limit is met.
+    fn tell_full(&mut self, now: Instant) {
+        if is_due(&mut self.tell_full_at, now) {
+            let are = match self.places.open() {
+                1 => "1 connection is".to_string(),
+                count => format!("{count} connections are"),
+            };
             say(format!(
-                "{} connections are open, which is the limit ({limit}); others wait or are turned away",
-                self.places.count()
+                "{are} open, which is the limit (--connections); others are turned away"
             ));
         }
     }
@@ -315,11 +322,14 @@ impl Server {
             self.listen(true);
         }
         let idle = self.places.close_late(now, self.limits.idle);
-        if idle > 0 {
-            say(format!(
-                "{idle} connections were closed, since nothing moved there for the time of --idle"
-            ));
-        }
+        let were = match idle {
+            0 => return,
+            1 => "1 connection was".to_string(),
+            _ => format!("{idle} connections were"),
+        };
+        say(format!(
+            "{were} closed, since nothing moved there for the time of --idle"
+        ));
     }
 }
 
@@ -332,7 +342,16 @@ fn turn_away(connection: &mut Connection, now: Instant) {
     if let Ok(size) = write_error(&mut reply, PING, &numbers, b"too many connections") {
         let _ = connection.send(&reply[..size], now);
     }
-    connection.leave(now);
+    connection.leave();
+}
+
+/// Whether something is to be told, which it then is not for a while.
+fn is_due(at: &mut Instant, now: Instant) -> bool {
+    let due = now >= *at;
+    if due {
+        *at = now + TELL_EVERY;
+    }
+    due
 }
 
 /// Listens at an address; answers also which one it is.

@@ -4,11 +4,12 @@ import resource
 import socket
 import statistics
 import struct
+import subprocess
 import threading
 import time
 
 from board_frames import BULK_GET, GET, PING, PUT, frame, key_name
-from host_run import Bench, Host, SECONDS, demand, read_file, run_part, short, until
+from host_run import Bench, Host, PROGRAM, SECONDS, demand, read_file, run_part, short, until
 
 ROW = 10_000  # connections one after another
 VALUE = bytes(range(256))
@@ -98,24 +99,37 @@ def queues(host, caller):
 
 def is_stuck(host, caller):
     """Whether the server does not read on for a while."""
-    return all(queues(host, caller)[1] > 0 and time.sleep(0.002) is None for _ in range(100))
+    return all(queues(host, caller)[1] > 0 and time.sleep(0.002) is None for _ in range(25))
 
 
 ESTABLISHED, BURST, LAST = 1, 50, 230  # gets sent at a time, and at the end, whose replies have less than the 64 KB that the server keeps
 
 
+def burst(caller, good, count):
+    """Sends so many bursts of gets, and waits until the server has seen them: it answers the other connection behind them."""
+    for _ in range(count):
+        caller.send(frame(GET, key=b'k') * BURST)
+        good.call(PING)
+
+
+def bursts_taken(host, good, first, step):
+    """How many bursts are sent to a client that does not read until the server reads no more of them."""
+    with host.connect(4096) as caller:
+        burst(caller, good, first)
+        while not is_stuck(host, caller):
+            burst(caller, good, step)
+            first += step
+    return first
+
+
 def slow_behind_refusal(bench):
     """One that takes its replies late, behind a refusal and with more of them than the system keeps, gets all of them and the error reply. How many the system
-    keeps is seen at a connection before it."""
-    with Host(bench.table('late')) as host, host.connect() as good, host.connect(4096) as first, host.connect(4096) as late:
+    keeps is seen at connections before it."""
+    with Host(bench.table('late')) as host, host.connect() as good, host.connect(4096) as late:
         good.call(PUT, key=b'k', value=VALUE)
-        one, wanted, bursts = frame(GET, key=b'k'), b'\xa1\x01\x04\x00\x00\x80\x02' + VALUE, 0
-        while not is_stuck(host, first):
-            first.send(one * BURST)
-            bursts += 1
-        for _ in range(bursts - 4):
-            late.send(one * BURST)
-            until(lambda: queues(host, late)[1] == 0, 'a slow client', 'it is not read from')
+        one, wanted = frame(GET, key=b'k'), b'\xa1\x01\x04\x00\x00\x80\x02' + VALUE
+        bursts = bursts_taken(host, good, max(0, bursts_taken(host, good, 0, 16) - 24), 1)
+        burst(late, good, bursts - 4)
         late.send(one * LAST + b'\xff')
         time.sleep(0.5)
         demand(queues(host, late) == (True, 0), 'a slow client', f'nothing is shown: {queues(host, late)}, where the server has all requests and keeps some replies')
@@ -232,10 +246,38 @@ def lingering(bench):
     return 3
 
 
+def limit_files(soft, hard):
+    """In the child: so many files may be open, and as many more as it may raise that to."""
+    return lambda: resource.setrlimit(resource.RLIMIT_NOFILE, (soft, hard))
+
+
+def few_files(bench):
+    """The system permits few files: there are fewer connections, which is said, and a change is stored in both ways however many call. Where it permits more than
+    it gives at first, these are taken; where it permits none, it does not start."""
+    for sync in ('always', 'second'):
+        most = files_of(6) + 16 + 2  # those that are told that there are too many, one that is closed at once, and the file that becomes the table
+        with Host(bench.table(f'few-{sync}'), '--sync', sync, preexec_fn=limit_files(most, most)) as host:
+            demand(f'the system permits {most} open files, so --connections is 6, and not 1000' in host.words(), 'few files', f'it says {host.words()}')
+            callers = [host.connect() for _ in range(60)]
+            for at, caller in enumerate(callers[:6]):
+                demand(caller.call(PUT, key=key_name(at)).operation == PUT + 1, 'few files', 'a put within the limit is not served')
+            until(lambda: read_file(host.table).count(b'\n') == 7, f'few files, --sync {sync}', 'the puts are not stored', 5)
+            demand_rest(host, 'few files')
+            for caller in callers:
+                caller.socket.close()
+    with Host(bench.table('raised'), preexec_fn=limit_files(20, 200)) as host:
+        for caller in [host.connect() for _ in range(60)]:
+            demand(caller.call(PING).operation == PING + 1, 'files that may be taken', 'one is not served')
+            caller.socket.close()
+    done = subprocess.run([PROGRAM, 'serve', bench.table('none'), '--listen', '127.0.0.1:0'], preexec_fn=limit_files(20, 20), capture_output=True, timeout=SECONDS, check=False)
+    demand(done.returncode == 1 and b'permits 20 open files, and 27 are needed' in done.stderr, 'no files', f'{done}')
+    return 3 * 60
+
+
 def no_files(bench):
     """The system gives no more files: callers wait without being lost, and get the places that become free."""
-    limit = (files_of(6), files_of(6))
-    with Host(bench.table('files'), preexec_fn=lambda: resource.setrlimit(resource.RLIMIT_NOFILE, limit)) as host:
+    with Host(bench.table('files')) as host:
+        resource.prlimit(host.run.pid, resource.RLIMIT_NOFILE, (files_of(6), resource.prlimit(host.run.pid, resource.RLIMIT_NOFILE)[1]))
         callers = [host.connect() for _ in range(10)]
         for caller in callers:
             caller.send(frame(PING))
@@ -248,7 +290,7 @@ def no_files(bench):
         for caller in callers[6:]:
             caller.reply(PING)
             caller.socket.close()
-        demand(host.words().count('Too many open files') == 1, 'no files left', f'it says {host.words()}')
+        demand(host.words().count('callers wait, since none can be taken: Too many open files') == 1, 'no files left', f'it says {host.words()}')
     return 4
 
 
@@ -286,7 +328,7 @@ def in_a_row(bench):
 def part():
     with Bench() as bench:
         return (f'{never_reads(bench) + never_reads_bulk(bench)} requests of clients that do not read, {slow_behind_refusal(bench)} of one that reads late, {greedy(bench, GET) + greedy(bench, BULK_GET)} beside greedy ones, {gone(bench)} gone in the middle, {too_many(bench)} too many, {lingering(bench)} beside one that leaves, '
-                f'{no_files(bench)} without a file, {idle(bench)} idle, {in_a_row(bench)} in a row')
+                f'{few_files(bench) + no_files(bench)} with few files or none, {idle(bench)} idle, {in_a_row(bench)} in a row')
 
 
 if __name__ == '__main__':

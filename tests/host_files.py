@@ -53,7 +53,7 @@ def names(bench):
     os.symlink('loop', os.path.join(folder, 'loop'))
     for name, words in (('fifo', 'is not a file'), ('.', 'is not a file'), ('none/table', "can't open the folder"), ('loop', 'too many links')):
         refuses(os.path.join(folder, name), f'a table {name}', words)
-    for options, words in ((('--sync', 'never'), 'second or always'), (('--idle', 'x'), 'has to be a number'), (('--what',), 'no option --what'),
+    for options, words in ((('--sync', 'never'), 'second or always'), (('--idle', 'x'), 'has to be a number'), (('--connections', '0'), 'has to be a number from 1 to'), (('--idle', '+5'), 'has to be a number'), (('--what',), 'no option --what'),
                            (('more',), 'followed by TABLE')):
         refuses(table, f'options {options}', words, *options)
     with Host(bench.table('other')) as host:
@@ -61,7 +61,7 @@ def names(bench):
             refuses(name, 'an address in use', "can't listen", '--listen', f'127.0.0.1:{host.port}')
     os.chmod(table, 0o444)
     refuses(table, 'a read-only table', 'is read-only')
-    return 11
+    return 13
 
 
 def loads(bench):

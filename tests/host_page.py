@@ -212,7 +212,8 @@ def never_read(bench):
 
 def away(bench):
     """Where the server takes no client, the page is there and its data say so; an address in use is told, and no table is made."""
-    with Shown(bench.table('away'), '--connections', '0') as host:
+    with Shown(bench.table('away'), '--connections', '1') as host, host.connect() as only:
+        only.call(PING)
         demand(host.ask('/')[0] == 200, 'a server that is away', 'the page is not there')
         status, _, body = host.ask('/data')
         demand(status == 503 and body == b'{}', 'a server that is away', f'{status} {body}')

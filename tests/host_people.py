@@ -26,7 +26,7 @@ TALK = [('ping', 'the server answers', 0), ('put b1 Ida --lifespan 100', 'stored
         ('keys', 'b1\n--key', 0), ('clear', 'cleared', 0), ('list', 'there are no entries', 0), ('keys', 'there are no entries', 0), ('get b1', 'there is no such key', 2)]
 WRONG = [('nothing b1', 'there is no command'), ('get', 'is followed by KEY'), ('get a b', 'is followed by KEY'), ('put a', 'is followed by KEY VALUE'),
          ('ping x', 'is followed by no words'), ('get a --lifespan 5', 'no option --lifespan'), ('put a b --lifespan', 'needs a value'),
-         ('put a b --lifespan 4294967296', 'has to be a number from 0 to 4294967295'), ('put a b --lifespan -1', 'has to be a number'),
+         ('put a b --lifespan 4294967296', 'has to be a number from 0 to 4294967295'), ('put a b --lifespan -1', 'has to be a number'), ('put a b --lifespan +5', 'has to be a number'), ('put a b --lifespan ', 'needs a value'),
          ('removeifunmodified a', 'needs --version N'), ('put ' + 'k' * 65 + ' v', 'refused 16'), ('put k ' + 'v' * 257, 'refused 16'),
          ('list x', 'is followed by no words'), ('keys --count 1', 'no option --count'), ('list --count 4294967296', 'has to be a number'),
          ('show', 'is followed by TABLE'), ('show /nowhere', 'there is no table /nowhere'), ('show /dev/null', 'is not a file'), ('encode get', 'is followed by KEY'), ('decode', 'is followed by REQUESTS'), ('decode /nowhere', "can't open /nowhere")]

@@ -149,22 +149,22 @@ impl Command {
         };
         let words = Words::part(&given[1..], &options, bare)?;
         let (key, value) = parts(operation, words.words())?;
-        let version = words.number("version", u64::MAX)?;
+        let version = words.number("version", 0..=u64::MAX)?;
         if operation.sends_version() && version.is_none() {
             return Err(format!(
                 "{word} needs --version N, as getwithversion tells it"
             ));
         }
-        let most = u64::from(u32::MAX);
+        let small = || 0..=u64::from(u32::MAX);
         let command = Command {
             operation,
             previous: words.has("previous"),
             key,
             value,
-            lifespan: words.number("lifespan", most)?.unwrap_or(0),
-            max_idle: words.number("max-idle", most)?.unwrap_or(0),
+            lifespan: words.number("lifespan", small())?.unwrap_or(0),
+            max_idle: words.number("max-idle", small())?.unwrap_or(0),
             entry_version: version.unwrap_or(0),
-            count: words.number("count", most)?.unwrap_or(0),
+            count: words.number("count", small())?.unwrap_or(0),
         };
         Ok((command, words))
     }

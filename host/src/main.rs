@@ -12,6 +12,7 @@ use feyqoolad::border::system::Signals;
 use feyqoolad::client::call;
 use feyqoolad::command::Command;
 use feyqoolad::failure::{because, say, Failure};
+use feyqoolad::files::fitting;
 use feyqoolad::keeper::Keeper;
 use feyqoolad::lines::{decode, encode};
 use feyqoolad::options::Words;
@@ -134,10 +135,12 @@ fn sync(words: &Words) -> Result<Sync, Failure> {
 }
 
 fn limits(words: &Words) -> Result<Limits, Failure> {
-    let idle = words.number("idle", u64::from(u32::MAX))?.unwrap_or(600);
-    let connections = words.number("connections", 100_000)?.unwrap_or(1000);
+    let idle = words
+        .number("idle", 0..=u64::from(u32::MAX))?
+        .unwrap_or(600);
+    let wanted = words.number("connections", 1..=100_000)?.unwrap_or(1000);
     Ok(Limits {
-        connections: connections as usize,
+        connections: fitting(wanted, words.text("page")?.is_some())? as usize,
         idle: (idle > 0).then_some(Duration::from_secs(idle)),
     })
 }

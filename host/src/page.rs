@@ -23,6 +23,9 @@ use visitor::Visitor;
 
 /// Visitors at a time; others wait.
 const VISITORS: usize = 64;
+/// Files of a page at most: visitors, listener, poll, and the connection to the
+/// server.
+pub const FILES: u64 = VISITORS as u64 + 3;
 /// How often visitors that are late are looked for.
 const TICK: Duration = Duration::from_millis(500);
 /// The number under which the poll knows the listener.

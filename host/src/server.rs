@@ -26,7 +26,7 @@ const EVENTS: usize = 256;
 /// Connections taken in one turn.
 const ACCEPTS: usize = 64;
 /// Connections above the limit that are told so; further ones are closed.
-const TOLD: usize = 16;
+pub const TOLD: usize = 16;
 /// How often connections that are late are looked for.
 const TICK: Duration = Duration::from_secs(1);
 /// How often it is told that nobody is taken.

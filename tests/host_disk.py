@@ -9,7 +9,7 @@ import subprocess
 import time
 
 from board_frames import GET, PUT, entry_line, frame, head_line
-from host_run import Bench, Host, SECONDS, TOP, demand, read_file, run_part, short, until, write_file
+from host_run import Bench, Host, SECONDS, demand, preloaded, read_file, run_part, short, until, write_file
 
 OLD = head_line(4) + entry_line(4, b'k', b'old')
 NEW = head_line(5) + entry_line(5, b'k', b'new')
@@ -100,11 +100,10 @@ def ends(bench):
 
 def slow(bench):
     """A store takes 1.4 seconds. Without --sync always nobody waits for it, and no write is lost at the end; with it the reply comes behind the store."""
-    library = os.path.join(bench.top, 'slow_disk.so')
-    subprocess.run(['gcc', '-O1', '-Wall', '-Wextra', '-shared', '-fPIC', '-o', library, os.path.join(TOP, 'tests/slow_disk.c')], check=True)
+    environment = preloaded(bench, 'slow_disk')
     for sync in ('second', 'always'):
         case = f'--sync {sync}, a slow disk'
-        with Host(bench.table(f'slow-{sync}', OLD), '--sync', sync, env={**os.environ, 'LD_PRELOAD': library}) as host, host.connect() as caller:
+        with Host(bench.table(f'slow-{sync}', OLD), '--sync', sync, env=environment) as host, host.connect() as caller:
             times, end = [], time.monotonic() + (3 if sync == 'second' else 0)
             while not times or time.monotonic() < end:
                 begin = time.monotonic()

@@ -7,8 +7,8 @@ import subprocess
 import threading
 import time
 
-from board_frames import GET, GET_WITH_VERSION, PING, PUT, entry_line, frame, head_line
-from host_run import BOARD, Bench, HOST, Host, PROGRAM, SECONDS, can_trace, demand, read_file, reference, run_part, short, write_file
+from board_frames import GET, GET_WITH_VERSION, LARGEST_SECOND, PING, PUT, entry_line, frame, head_line
+from host_run import BOARD, Bench, HOST, Host, PROGRAM, SECONDS, can_trace, demand, preloaded, read_file, reference, run_part, short, write_file
 
 OLD = head_line(4) + entry_line(4, b'old', b'value')
 BROKEN = [(b'', 1), (b'\n', 1), (OLD[:-1], 2), (b'02' + OLD[2:], 1), (OLD + b'\n', 3), (OLD + OLD.split(b'\n')[1] + b'\n', 3), (head_line(3) + entry_line(4), 2),
@@ -93,6 +93,29 @@ def seconds(bench):
             demand(before + 1000 <= deadline <= after + 1000, 'the second', f'the deadline is {deadline}, and it is {before} to {after}')
             time.sleep(0.7)
     return count + 1
+
+
+def other_clocks(bench):
+    """A UNIX time that is above the greatest second or below the least one is taken for that one."""
+    clocks = {-5: 0, 2 ** 32 + 5: LARGEST_SECOND}
+    for clock, second in clocks.items():
+        with Host(bench.table(f'clock{clock}'), '--sync', 'always', env=preloaded(bench, 'other_clock', OTHER_CLOCK=str(clock))) as host, host.connect() as caller:
+            caller.call(PUT, lifespan=1000)
+            wanted = head_line(1) + entry_line(1, deadline=second + 1000)
+            demand(read_file(host.table) == wanted, f'the UNIX time {clock}', f'the file is {short(read_file(host.table))}, wanted {short(wanted)}')
+    return len(clocks)
+
+
+def fails(bench):
+    """Where connections can't be waited for any more, it ends with a word, and what was answered is stored."""
+    sign = os.path.join(bench.top, 'sign')
+    with Host(bench.table('fails', OLD), env=preloaded(bench, 'fail_wait', FAIL_WAIT=sign)) as host, host.connect() as caller:
+        caller.call(PUT, key=b'late')
+        write_file(sign, b'')
+        caller.send(frame(PING))
+        demand(host.run.wait(timeout=SECONDS) == 1 and "can't wait for connections" in host.words(), 'a wait that fails', f'{host.run.returncode} {host.words()}')
+        demand(read_file(host.table).endswith(entry_line(5, b'late')), 'a wait that fails', f'the file is {short(read_file(host.table))}')
+    return 1
 
 
 def soon(bench):
@@ -237,7 +260,7 @@ def order(bench):
 
 def part():
     with Bench() as bench:
-        return (f'{loads(bench)} tables loaded, {seconds(bench)} deadlines, {broken(bench)} broken, {names(bench)} wrong names and options, {soon(bench)} changes in a second, {steady(bench)} under a steady load, '
+        return (f'{loads(bench)} tables loaded, {seconds(bench)} deadlines, {other_clocks(bench)} other clocks, {fails(bench)} wait that fails, {broken(bench)} broken, {names(bench)} wrong names and options, {soon(bench)} changes in a second, {steady(bench)} under a steady load, '
                 f'{signals(bench)} signals, {locked(bench)} locks, {rights(bench)} rights, {order(bench)} order of calls')
 
 

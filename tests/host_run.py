@@ -294,6 +294,13 @@ def can_trace():
     return subprocess.run([os.environ['KILL_AT'], 'list', shutil.which('true')], stdout=subprocess.DEVNULL, check=False).returncode == 0
 
 
+def preloaded(bench, name, **more):
+    """The environment of a server before whose libraries one of ours is loaded (tests/NAME.c)."""
+    library = os.path.join(bench.top, f'{name}.so')
+    subprocess.run(['gcc', '-O1', '-Wall', '-Wextra', '-shared', '-fPIC', '-o', library, os.path.join(TOP, f'tests/{name}.c')], check=True)
+    return {**os.environ, 'LD_PRELOAD': library, **more}
+
+
 class Bench:
     """A folder for a served table."""
 

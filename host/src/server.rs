@@ -8,7 +8,7 @@ use std::time::{Duration, Instant, SystemTime, UNIX_EPOCH};
 use crate::batch::{Batch, Rest};
 use crate::border::library::{write_error, Table};
 use crate::border::system::{Event, Poll, Signals, READABLE};
-use crate::command::PING;
+use crate::command::{ERROR, PING};
 use crate::connection::{is_later, Connection};
 use crate::failure::{because, plain, say, Failure};
 use crate::limits::REPLY_ROOM;
@@ -96,8 +96,18 @@ impl Server {
         })
     }
 
-    /// Serves until a signal comes; then the table is stored.
+    /// Serves until a signal comes, or something fails without which nothing can
+    /// be served; then the table is stored.
     pub fn run(mut self) -> Result<(), Failure> {
+        let served = self.serve_all();
+        let stored = self.saver.finish(&self.table, &mut self.signals);
+        match (served, stored) {
+            (Err(one), Err(other)) => Err(format!("{one}\n{other}")),
+            (served, stored) => served.and(stored),
+        }
+    }
+
+    fn serve_all(&mut self) -> Result<(), Failure> {
         let mut events = [Event::NONE; EVENTS];
         loop {
             let wait = self.waits(Instant::now());
@@ -105,8 +115,8 @@ impl Server {
                 .poll
                 .wait(&mut events, wait)
                 .map_err(|error| because("can't wait for connections", error))?;
-            if !self.turn(&events[..count]) {
-                return self.saver.finish(&self.table, &mut self.signals);
+            if !self.turn(&events[..count])? {
+                return Ok(());
             }
         }
     }
@@ -123,7 +133,7 @@ impl Server {
 
     /// One turn: what has come is read, served, stored where that is due, and
     /// answered. False where a signal came.
-    fn turn(&mut self, events: &[Event]) -> bool {
+    fn turn(&mut self, events: &[Event]) -> Result<bool, Failure> {
         let now = Instant::now();
         let (mut ended, mut callers) = (false, false);
         for event in events {
@@ -141,8 +151,8 @@ impl Server {
         if now >= self.next_tick {
             self.tick(now);
         }
-        self.saver.look(&self.table, now);
-        !ended
+        self.saver.look(&self.table, now)?;
+        Ok(!ended)
     }
 
     /// Reads from a connection and writes to it, as it is ready.
@@ -336,9 +346,8 @@ impl Server {
 /// Tells a client that there are too many, in an error reply of the library.
 fn turn_away(connection: &mut Connection, now: Instant) {
     const SERVER_ERROR: u64 = 0x85;
-    const ERROR: u64 = 0x50;
     let mut reply = [0; REPLY_ROOM];
-    let numbers = [0, ERROR, SERVER_ERROR, 0];
+    let numbers = [0, u64::from(ERROR), SERVER_ERROR, 0];
     if let Ok(size) = write_error(&mut reply, PING, &numbers, b"too many connections") {
         let _ = connection.send(&reply[..size], now);
     }

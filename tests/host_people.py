@@ -189,7 +189,7 @@ def address(bench):
     return 2
 
 
-TOOLS = ('bash', 'cat', 'find', 'flock', 'mkdir', 'readlink', 'touch')
+TOOLS = ('awk', 'bash', 'cat', 'find', 'flock', 'mkdir', 'readlink', 'tee', 'touch')
 
 
 def script(bench):
@@ -204,11 +204,14 @@ def script(bench):
     os.makedirs(os.path.join(at, 'crates/exports/src'))
     os.makedirs(os.path.join(at, 'bin'))
     shutil.copy(HOST, at)
+    write_file(os.path.join(at, 'crates.txt'), b'wire:\ntext: wire\nboard: wire text io\nexports: text wire bytes\n')
     shutil.copy(os.path.join(TOP, 'host/src/usage.txt'), os.path.join(at, 'host/src'))
     for tool in TOOLS:
         os.symlink(shutil.which(tool), os.path.join(at, 'bin', tool))
+    proved = 'echo "rt: wire proved (1 s)"; echo "more"; echo "rt: text proved (2 s)" >&2; '
     steps = [('help', None, b''), ('ping', None, b'the Rattle toolchain (rt) is not there'), ('ping', ('rt', 'exit 1'), b'the library was not built'),
-             ('ping', ('rt', 'mkdir -p target/staticlib && touch target/staticlib/libexports.a'), b'the Rust compiler (cargo) is not there'),
+             ('ping', ('rt', proved + 'exit 1'), b'feyqoolad: 1 of 3: wire proved (1 s)\nfeyqoolad: 2 of 3: text proved (2 s)\nfeyqoolad: the library was not built'),
+             ('ping', ('rt', proved + 'mkdir -p target/staticlib && touch target/staticlib/libexports.a'), b'2 of 3: text proved (2 s)\nfeyqoolad: the Rust compiler (cargo) is not there'),
              ('ping', ('cargo', 'exit 1'), b'the program was not built')]
     for word, tool, wanted in steps:
         if tool:

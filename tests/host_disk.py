@@ -1,6 +1,6 @@
 """Part 6: storing fails since the disk is full, or takes long. The file stays whole; it is said in words, once; and it is stored when there is room again.
 
-A limit on the size of files stands for a full disk, and can be lifted while the server runs; a small tmpfs is filled where mounting is permitted.
+A limit on the size of files stands for a full disk, and can be lifted while the server runs; a small tmpfs is filled too.
 """
 import os
 import resource
@@ -9,7 +9,7 @@ import subprocess
 import time
 
 from board_frames import GET, PUT, entry_line, frame, head_line
-from host_run import Bench, Host, SECONDS, demand, preloaded, read_file, run_part, short, until, write_file
+from host_run import Bench, Host, SECONDS, demand, is_permitted, preloaded, read_file, run_part, short, until, write_file
 
 OLD = head_line(4) + entry_line(4, b'k', b'old')
 NEW = head_line(5) + entry_line(5, b'k', b'new')
@@ -118,11 +118,12 @@ def slow(bench):
 
 
 def pages(bench):
-    """A file system without room, and then with some; nothing where mounting is refused."""
+    """A file system without room, and then with some."""
     folder = os.path.join(bench.top, 'disk')
     os.mkdir(folder)
-    if subprocess.run(['mount', '-t', 'tmpfs', '-o', 'size=16384', 'host', folder], stderr=subprocess.DEVNULL, check=False).returncode != 0:
-        return 'mounting is refused here'
+    mounted = subprocess.run(['mount', '-t', 'tmpfs', '-o', 'size=16384', 'host', folder], stderr=subprocess.DEVNULL, check=False)
+    if not is_permitted(mounted.returncode == 0, 'mounting a file system'):
+        return 'no full file system, since mounting is refused here'
     table, filler = os.path.join(folder, 'table'), os.path.join(folder, 'filler')
     try:
         write_file(table, OLD)

@@ -289,9 +289,19 @@ def reference(frames, table=None, second=0):
         return [one if one.startswith(b'refused') else bytes.fromhex(one.decode()) for one in lines], read_file(path)
 
 
+def is_permitted(works, what):
+    """Whether something works here that a test needs. Where it does not, the test fails, unless HOST_SKIPS=yes lets it be passed over."""
+    demand(works or os.environ.get('HOST_SKIPS') == 'yes', what, 'this is refused here, so a test can not run; HOST_SKIPS=yes passes it over')
+    return works
+
+
 def can_trace():
     """Whether system calls can be traced here (tests/kill_at.c)."""
-    return subprocess.run([os.environ['KILL_AT'], 'list', shutil.which('true')], stdout=subprocess.DEVNULL, check=False).returncode == 0
+    done = subprocess.run([os.environ['KILL_AT'], 'list', shutil.which('true')], stdout=subprocess.DEVNULL, check=False)
+    return is_permitted(done.returncode == 0, 'tracing system calls')
+
+
+MARGIN = 2  # how many seconds a loaded machine may take longer for what is due
 
 
 def preloaded(bench, name, **more):

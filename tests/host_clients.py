@@ -9,7 +9,7 @@ import threading
 import time
 
 from board_frames import BULK_GET, GET, PING, PUT, frame, key_name
-from host_run import Bench, Host, PROGRAM, SECONDS, demand, read_file, run_part, short, until
+from host_run import Bench, Host, PROGRAM, SECONDS, demand, read_file, run_part, short, together, until
 
 ROW = 10_000  # connections one after another
 VALUE = bytes(range(256))
@@ -327,8 +327,9 @@ def in_a_row(bench):
 
 def part():
     with Bench() as bench:
-        return (f'{never_reads(bench) + never_reads_bulk(bench)} requests of clients that do not read, {slow_behind_refusal(bench)} of one that reads late, {greedy(bench, GET) + greedy(bench, BULK_GET)} beside greedy ones, {gone(bench)} gone in the middle, {too_many(bench)} too many, {lingering(bench)} beside one that leaves, '
-                f'{few_files(bench) + no_files(bench)} with few files or none, {idle(bench)} idle, {in_a_row(bench)} in a row')
+        late, few, idles = together(lambda: slow_behind_refusal(bench), lambda: few_files(bench) + no_files(bench), lambda: idle(bench))
+        return (f'{never_reads(bench) + never_reads_bulk(bench)} requests of clients that do not read, {late} of one that reads late, {greedy(bench, GET) + greedy(bench, BULK_GET)} beside greedy ones, '
+                f'{gone(bench)} gone in the middle, {too_many(bench)} too many, {lingering(bench)} beside one that leaves, {few} with few files or none, {idles} idle, {in_a_row(bench)} in a row')
 
 
 if __name__ == '__main__':

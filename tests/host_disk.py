@@ -9,7 +9,7 @@ import subprocess
 import time
 
 from board_frames import GET, PUT, entry_line, frame, head_line
-from host_run import Bench, Host, SECONDS, demand, is_permitted, preloaded, read_file, run_part, short, until, write_file
+from host_run import Bench, Host, SECONDS, demand, is_permitted, preloaded, read_file, run_part, short, together, until, write_file
 
 OLD = head_line(4) + entry_line(4, b'k', b'old')
 NEW = head_line(5) + entry_line(5, b'k', b'new')
@@ -143,7 +143,8 @@ def pages(bench):
 
 def part():
     with Bench() as bench:
-        return f'{second(bench)} served on, {always(bench)} held until there is room, {ends(bench)} ended on a full disk, {slow(bench)} on a slow one, {pages(bench)}'
+        served, held, ended, slowly, full = together(*(lambda one=one: one(bench) for one in (second, always, ends, slow, pages)))
+        return f'{served} served on, {held} held until there is room, {ended} ended on a full disk, {slowly} on a slow one, {full}'
 
 
 if __name__ == '__main__':

@@ -263,8 +263,10 @@ def order(bench):
 
 def part():
     with Bench() as bench:
-        return (f'{loads(bench)} tables loaded, {seconds(bench)} deadlines, {other_clocks(bench)} other clocks, {fails(bench)} wait that fails, {broken(bench)} broken, {names(bench)} wrong names and options, {soon(bench)} changes in a second, {steady(bench)} under a steady load, '
-                f'{signals(bench)} signals, {locked(bench)} locks, {rights(bench)} rights, {order(bench)} order of calls')
+        deadlines, changes, load = together(lambda: seconds(bench), lambda: soon(bench), lambda: steady(bench))
+        return (f'{loads(bench)} tables loaded, {deadlines} deadlines, {other_clocks(bench)} other clocks, {fails(bench)} wait that fails, {broken(bench)} broken, '
+                f'{names(bench)} wrong names and options, {changes} changes in a second, {load} under a steady load, {signals(bench)} signals, {locked(bench)} locks, '
+                f'{rights(bench)} rights, {order(bench)} order of calls')
 
 
 if __name__ == '__main__':

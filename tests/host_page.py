@@ -8,7 +8,7 @@ import time
 
 from board_frames import GET, PING, PUT, REMOVE, entry_line, frame, head_line, key_name
 from host_disk import limit_size
-from host_run import Bench, HOST, Host, SECONDS, demand, read_file, run_part, short, until
+from host_run import Bench, HOST, Host, SECONDS, demand, read_file, run_part, short, together, until
 
 POLICY = ("default-src 'none'; script-src 'self'; style-src 'self'; connect-src 'self'; base-uri 'none'; form-action 'none'; frame-ancestors 'none'")
 # Keys and values with what a page must not take for markup, script, a string's end or an order of writing.
@@ -248,8 +248,9 @@ def slow_server(bench):
 
 def part():
     with Bench() as bench:
+        gone, slow = together(lambda: away(bench), lambda: slow_server(bench))
         return (f'{documents(bench)} documents, {hostile(bench)} hostile entries, {full(bench)} entries of a full table, {requests(bench)} requests, '
-                f'{crowd(bench)} at once, {never_read(bench)} that do not read, {away(bench)} away, {slow_server(bench)} of a slow server')
+                f'{crowd(bench)} at once, {never_read(bench)} that do not read, {gone} away, {slow} of a slow server')
 
 
 if __name__ == '__main__':

@@ -339,8 +339,9 @@ def together(*parts):
 
 def run_part(name, part):
     """Runs a part and prints its line; ends the program at the first difference."""
+    begin = time.monotonic()
     try:
-        print(f'host: {name}: {part()}', flush=True)
+        print(f'host: {name}: {part()}, {time.monotonic() - begin:.0f} s', flush=True)
     except (Difference, ConnectionError, TimeoutError, subprocess.TimeoutExpired) as found:
         print(f'host: {name}: DIFFERENT\n  {type(found).__name__}: {found}\n  HOST={HOST}', flush=True)
         sys.exit(1)

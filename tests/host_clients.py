@@ -193,6 +193,21 @@ def gone(bench):
     return 200
 
 
+def rests(bench):
+    """Behind many quick calls the server rests, and beside one that calls now and then it rests for the most part."""
+    with Host(bench.table('rests')) as host, host.connect() as caller:
+        for _ in range(5000):
+            caller.call(PING)
+        demand_rest(host, 'behind quick calls')
+        before, begin, count = host.busy(), time.monotonic(), 0
+        while time.monotonic() < begin + 1:
+            caller.call(PING)
+            time.sleep(0.005)
+            count += 1
+        demand(host.busy() - before < 0.1, 'beside rare calls', f'it is busy for {host.busy() - before} seconds with {count} calls')
+    return 5000 + count
+
+
 def reset(caller):
     caller.socket.setsockopt(socket.SOL_SOCKET, socket.SO_LINGER, struct.pack('ii', 1, 0))
     caller.socket.close()
@@ -327,9 +342,9 @@ def in_a_row(bench):
 
 def part():
     with Bench() as bench:
-        late, few, idles = together(lambda: slow_behind_refusal(bench), lambda: few_files(bench) + no_files(bench), lambda: idle(bench))
+        late, rest, few, idles = together(lambda: slow_behind_refusal(bench), lambda: rests(bench), lambda: few_files(bench) + no_files(bench), lambda: idle(bench))
         return (f'{never_reads(bench) + never_reads_bulk(bench)} requests of clients that do not read, {late} of one that reads late, {greedy(bench, GET) + greedy(bench, BULK_GET)} beside greedy ones, '
-                f'{gone(bench)} gone in the middle, {too_many(bench)} too many, {lingering(bench)} beside one that leaves, {few} with few files or none, {idles} idle, {in_a_row(bench)} in a row')
+                f'{gone(bench)} gone in the middle, {too_many(bench)} too many, {lingering(bench)} beside one that leaves, {few} with few files or none, {idles} idle, {rest} before a rest, {in_a_row(bench)} in a row')
 
 
 if __name__ == '__main__':

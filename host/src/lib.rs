@@ -15,6 +15,7 @@ pub mod connection;
 pub mod date;
 pub mod failure;
 pub mod files;
+pub mod haste;
 pub mod hex;
 pub mod keeper;
 pub mod limits;

@@ -120,6 +120,11 @@ impl Saver {
         Ok(Saver { way, due: None })
     }
 
+    /// Whether replies wait until the table is stored.
+    pub fn delays(&self) -> bool {
+        matches!(self.way, Way::Here(_))
+    }
+
     /// When something is to be done next.
     pub fn due(&self) -> Option<Instant> {
         self.due

@@ -11,6 +11,7 @@ use crate::border::system::{Event, Poll, Signals, READABLE};
 use crate::command::{ERROR, PING};
 use crate::connection::{is_later, Connection};
 use crate::failure::{because, plain, say, Failure};
+use crate::haste::{Haste, LOOK};
 use crate::limits::REPLY_ROOM;
 use crate::places::Places;
 use crate::saver::Saver;
@@ -46,6 +47,9 @@ pub struct Server {
     places: Places,
     /// The connections that are to be served next.
     queue: Vec<usize>,
+    haste: Haste,
+    /// Whether to look for further requests before it sleeps.
+    looks: bool,
     batch: Batch,
     table: Table,
     saver: Saver,
@@ -86,6 +90,8 @@ impl Server {
             listener,
             places: Places::default(),
             queue: Vec::new(),
+            haste: Haste::new(now),
+            looks: false,
             batch: Batch::default(),
             table,
             saver,
@@ -109,16 +115,31 @@ impl Server {
 
     fn serve_all(&mut self) -> Result<(), Failure> {
         let mut events = [Event::NONE; EVENTS];
+        let mut now = Instant::now();
         loop {
-            let wait = self.waits(Instant::now());
             let count = self
-                .poll
-                .wait(&mut events, wait)
+                .wait(&mut events, now)
                 .map_err(|error| because("can't wait for connections", error))?;
-            if !self.turn(&events[..count])? {
+            now = Instant::now();
+            if !self.turn(&events[..count], now)? {
                 return Ok(());
             }
         }
+    }
+
+    /// Waits until something happens or has to be done; answers how many events
+    /// there are. The time is that at which the turn began.
+    fn wait(&mut self, events: &mut [Event], now: Instant) -> io::Result<usize> {
+        if self.looks && self.queue.is_empty() {
+            let begin = Instant::now();
+            while begin.elapsed() < LOOK {
+                let count = self.poll.wait(events, Some(Duration::ZERO))?;
+                if count > 0 {
+                    return Ok(count);
+                }
+            }
+        }
+        self.poll.wait(events, self.waits(now))
     }
 
     /// How long nothing has to be done unless something happens.
@@ -133,8 +154,7 @@ impl Server {
 
     /// One turn: what has come is read, served, stored where that is due, and
     /// answered. False where a signal came.
-    fn turn(&mut self, events: &[Event]) -> Result<bool, Failure> {
-        let now = Instant::now();
+    fn turn(&mut self, events: &[Event], now: Instant) -> Result<bool, Failure> {
         let (mut ended, mut callers) = (false, false);
         for event in events {
             match event.token() {
@@ -201,14 +221,19 @@ impl Server {
     /// Serves the queue in one call, and sends the replies when they may go
     /// out. False where a signal came before.
     fn serve(&mut self, now: Instant) -> bool {
+        self.looks = false;
         if self.queue.is_empty() {
             return true;
         }
+        self.looks = self.haste.served(self.queue.len(), now);
         self.serve_queue();
         if !self.saver.served(&self.table, &mut self.signals, now) {
             return false;
         }
-        let sent = Instant::now();
+        let mut sent = now;
+        if self.saver.delays() {
+            sent = Instant::now();
+        }
         if sent.duration_since(now) >= TICK {
             // Storing was waited for, which is nobody's idleness.
             self.places.begin_anew(sent);
@@ -219,20 +244,18 @@ impl Server {
 
     fn serve_queue(&mut self) {
         let second = second();
-        self.batch.begin();
         for index in &self.queue {
             if let Some(connection) = self.places.get_mut(*index) {
                 connection.queued = false;
             }
         }
         let places = &self.places;
-        let input = |index: &usize| Some((*index, places.get(*index)?.input.held()));
-        let mut inputs = self.queue.iter().filter_map(input);
-        if self.queue.len() > 1 {
-            self.batch.serve_together(inputs, &mut self.table, second);
-        } else if let Some((index, input)) = inputs.next() {
-            self.batch
-                .serve_alone(index, input, &mut self.table, second);
+        let input = |index: usize| Some(places.get(index)?.input.held());
+        let (batch, table) = (&mut self.batch, &mut self.table);
+        batch.begin();
+        match self.queue[..] {
+            [index] => batch.serve_alone(index, input(index).unwrap_or(&[]), table, second),
+            _ => batch.serve_together(&self.queue, input, table, second),
         }
         self.queue.clear();
     }

@@ -49,7 +49,7 @@ def never_reads(bench):
         demand_rest(host, 'never reads')
         for _ in range(100):
             demand(good.call(GET, key=b'k').value == VALUE, 'beside one that never reads', 'another value')
-        # Now it reads, slowly first.
+        # It reads at last, slowly first.
         wanted = b'\xa1\x01\x04\x00\x00\x80\x02' + VALUE
         count = sent // len(one)
         for at in range(50):
@@ -194,7 +194,7 @@ def gone(bench):
 
 
 def rests(bench):
-    """Behind many quick calls the server rests, and beside one that calls now and then it rests for the most part."""
+    """Behind many quick calls the server rests, and beside one that calls rarely it rests for the most part."""
     with Host(bench.table('rests')) as host, host.connect() as caller:
         for _ in range(5000):
             caller.call(PING)

@@ -1,4 +1,5 @@
 """Part 3: clients that behave badly: one that never reads, a slow one, too many, idle ones, and connections one after another."""
+import os
 import re
 import resource
 import socket
@@ -284,8 +285,11 @@ def few_files(bench):
         for caller in [host.connect() for _ in range(60)]:
             demand(caller.call(PING).operation == PING + 1, 'files that may be taken', 'one is not served')
             caller.socket.close()
-    done = subprocess.run([PROGRAM, 'serve', bench.table('none'), '--listen', '127.0.0.1:0'], preexec_fn=limit_files(20, 20), capture_output=True, timeout=SECONDS, check=False)
-    demand(done.returncode == 1 and b'permits 20 open files, and 27 are needed' in done.stderr, 'no files', f'{done}')
+    for more, needed in ((), 27), (('--page', '127.0.0.1:0'), 27 + 67):  # a page has 64 visitors, listener, poll and a connection
+        words = [PROGRAM, 'serve', bench.table('none'), '--listen', '127.0.0.1:0', *more]
+        done = subprocess.run(words, preexec_fn=limit_files(needed - 1, needed - 1), capture_output=True, timeout=SECONDS, check=False)
+        demand(done.returncode == 1 and b'permits %d open files, and %d are needed' % (needed - 1, needed) in done.stderr, 'no files', f'{done}')
+        demand(not os.listdir(os.path.dirname(words[2])), 'no files', 'a table was made')
     return 3 * 60
 
 

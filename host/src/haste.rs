@@ -97,6 +97,6 @@ mod tests {
         assert_eq!(looks(50, 30), TRIALS - 1);
         assert_eq!(looks(30, 50), 1);
         assert_eq!(looks(50, 48), 1);
-        assert_eq!(looks(1_000_000, 900_000), 1);
+        assert_eq!(looks(1_000_000, 500_000), 1);
     }
 }

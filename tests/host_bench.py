@@ -1,4 +1,4 @@
-"""Measures the server beside memcached and redis-server, each on loopback with one thread and the same load generator (host/src/bin/load.rs).
+"""Measures the server beside memcached and redis-server, each on loopback with one thread that serves, and the same load generator (host/src/bin/load.rs).
 
 BENCH_SECONDS and BENCH_ROUNDS set the length of a measurement and how many there are; the servers take turns within a round.
 """
@@ -62,9 +62,10 @@ def measure(kind, port, what, connections, depth):
 
 def table(ports):
     names = list(ports)
-    print(f'Medians of {ROUNDS} runs of {TIME} s: requests a second, and the 99th percentile of the time to a reply in microseconds. One thread each, on')
-    print('loopback, the load from another process: 128 keys of 32 bytes, 24 of them the same, values of 256 bytes; mix is nine gets to a put. Of the')
-    print('requests of a connection so many are on their way at a time as `depth` says. hotrod stores its table every second, the others never.\n')
+    print(f'Medians of {ROUNDS} runs of {TIME} s: requests a second, and the 99th percentile of the time to a reply in microseconds. One thread of each serves,')
+    print('on loopback, the load from another process: 128 keys of 32 bytes, 24 of them the same, values of 256 bytes; mix is nine gets to a put. Of the')
+    print('requests of a connection so many are on their way at a time as `depth` says. Another thread of hotrod stores the table each half second in which')
+    print('it changed; the others never store theirs.\n')
     print(f"{'what':5}{'connections':>12}{'depth':>6}" + ''.join(f'{name:>22}' for name in names))
     print(' ' * 23 + ''.join(f"{'requests/s':>13}{'99th':>9}" for _ in names))
     for what in WHAT:

@@ -1,6 +1,6 @@
 """Part 6: storing fails since the disk is full, or takes long. The file stays whole; it is said in words, once; and it is stored when there is room again.
 
-A limit on the size of files stands for a full disk, and can be lifted while the server runs; a small tmpfs is filled where mounting is permitted.
+A limit on the size of files stands for a full disk, and can be lifted while the server runs; a small tmpfs is filled too.
 """
 import os
 import resource
@@ -9,7 +9,7 @@ import subprocess
 import time
 
 from board_frames import GET, PUT, entry_line, frame, head_line
-from host_run import Bench, Host, SECONDS, TOP, demand, read_file, run_part, short, until, write_file
+from host_run import Bench, Host, SECONDS, demand, is_permitted, preloaded, read_file, run_part, short, together, until, write_file
 
 OLD = head_line(4) + entry_line(4, b'k', b'old')
 NEW = head_line(5) + entry_line(5, b'k', b'new')
@@ -100,11 +100,10 @@ def ends(bench):
 
 def slow(bench):
     """A store takes 1.4 seconds. Without --sync always nobody waits for it, and no write is lost at the end; with it the reply comes behind the store."""
-    library = os.path.join(bench.top, 'slow_disk.so')
-    subprocess.run(['gcc', '-O1', '-Wall', '-Wextra', '-shared', '-fPIC', '-o', library, os.path.join(TOP, 'tests/slow_disk.c')], check=True)
+    environment = preloaded(bench, 'slow_disk')
     for sync in ('second', 'always'):
         case = f'--sync {sync}, a slow disk'
-        with Host(bench.table(f'slow-{sync}', OLD), '--sync', sync, env={**os.environ, 'LD_PRELOAD': library}) as host, host.connect() as caller:
+        with Host(bench.table(f'slow-{sync}', OLD), '--sync', sync, env=environment) as host, host.connect() as caller:
             times, end = [], time.monotonic() + (3 if sync == 'second' else 0)
             while not times or time.monotonic() < end:
                 begin = time.monotonic()
@@ -119,11 +118,12 @@ def slow(bench):
 
 
 def pages(bench):
-    """A file system without room, and then with some; nothing where mounting is refused."""
+    """A file system without room, and then with some."""
     folder = os.path.join(bench.top, 'disk')
     os.mkdir(folder)
-    if subprocess.run(['mount', '-t', 'tmpfs', '-o', 'size=16384', 'host', folder], stderr=subprocess.DEVNULL, check=False).returncode != 0:
-        return 'mounting is refused here'
+    mounted = subprocess.run(['mount', '-t', 'tmpfs', '-o', 'size=16384', 'host', folder], stderr=subprocess.DEVNULL, check=False)
+    if not is_permitted(mounted.returncode == 0, 'mounting a file system'):
+        return 'no full file system, since mounting is refused here'
     table, filler = os.path.join(folder, 'table'), os.path.join(folder, 'filler')
     try:
         write_file(table, OLD)
@@ -143,7 +143,8 @@ def pages(bench):
 
 def part():
     with Bench() as bench:
-        return f'{second(bench)} served on, {always(bench)} held until there is room, {ends(bench)} ended on a full disk, {slow(bench)} on a slow one, {pages(bench)}'
+        served, held, ended, slowly, full = together(*(lambda one=one: one(bench) for one in (second, always, ends, slow, pages)))
+        return f'{served} served on, {held} held until there is room, {ended} ended on a full disk, {slowly} on a slow one, {full}'
 
 
 if __name__ == '__main__':

@@ -3,6 +3,7 @@
 Each connection puts its own keys, each with a count that ascends, and remembers the order of its puts and how many were answered. The file has to be what some
 beginning of each connection's puts leaves. The kills come at random moments, and at every system call between a request and its reply (tests/kill_at.c).
 """
+import bisect
 import os
 import random
 import subprocess
@@ -10,7 +11,8 @@ import threading
 import time
 
 from board_frames import GET, PUT, entry_line, frame, head_line
-from host_run import Bench, Difference, Host, LONG, PROGRAM, SECONDS, can_trace, demand, read_file, read_sized, reference, run_part, short
+from host_run import (Bench, Difference, Host, LONG, MARGIN, PROGRAM, SECONDS, can_trace, demand, read_file, read_sized, reference, run_part, short,
+                      together)
 
 CONNECTIONS, KEYS = 6, 4
 ROUNDS = 60 if LONG else 12
@@ -24,7 +26,7 @@ class Writer(threading.Thread):
         self.caller, self.number = host.connect(), number
         self.counts = dict(start)
         self.sent = []
-        self.answered = 0
+        self.answers = []  # when each was answered
         self.fault = None
 
     def run(self):
@@ -39,7 +41,7 @@ class Writer(threading.Thread):
                 self.caller.send(b''.join(frame(PUT, key=key, value=b'%d' % count) for key, count in burst))
                 for _ in burst:
                     demand(self.caller.reply(PUT).status == 0, 'a put', 'it is not stored')
-                    self.answered += 1
+                    self.answers.append(time.monotonic())
         except (ConnectionError, Difference):
             pass  # the server is gone
         except Exception as fault:  # shown by the caller
@@ -61,31 +63,50 @@ def entries(data, case):
     return held
 
 
+def kill(table, sync, held, seconds, case):
+    """Kills a server after so many seconds of writes to a table that holds this, and checks the file: gives what it holds, and how many writes were answered."""
+    with Host(table, '--sync', sync) as host:
+        own = [of_writer(number, held) for number in range(CONNECTIONS)]
+        writers = [Writer(host, number, own[number]) for number in range(CONNECTIONS)]
+        for writer in writers:
+            writer.start()
+        time.sleep(seconds)
+        host.run.kill()
+        killed = time.monotonic()
+        host.run.wait()
+        for writer in writers:
+            writer.join(SECONDS)
+            demand(writer.fault is None and not writer.is_alive(), case, f'{writer.fault}')
+    held = entries(read_file(table), case)
+    # With --sync always all that was answered is there, else what was answered more than a second ago.
+    latest = killed + SECONDS if sync == 'always' else killed - 1 - MARGIN
+    for writer, start in zip(writers, own):
+        least = bisect.bisect(writer.answers, latest)
+        place = place_of(writer, start, of_writer(writer.number, held))
+        demand(place is not None, case, f'connection {writer.number}: no beginning of its puts leaves {of_writer(writer.number, held)}')
+        demand(place >= least, case, f'connection {writer.number}: {place} of its puts are stored, and {least} were to be')
+    return held, sum(len(writer.answers) for writer in writers)
+
+
 def random_kills(bench, sync):
     """Kills at random moments; the next server goes on from the file."""
     random.seed(13)
     table, held, answered = bench.table(sync), {}, 0
     for at in range(ROUNDS):
-        case = f'--sync {sync}, kill {at}'
-        with Host(table, '--sync', sync) as host:
-            own = [of_writer(number, held) for number in range(CONNECTIONS)]
-            writers = [Writer(host, number, own[number]) for number in range(CONNECTIONS)]
-            for writer in writers:
-                writer.start()
-            time.sleep(random.uniform(0.005, 0.15) if sync == 'always' else random.choice((0.03, random.uniform(0.4, 0.7))))
-            host.run.kill()
-            host.run.wait()
-            for writer in writers:
-                writer.join(SECONDS)
-                demand(writer.fault is None and not writer.is_alive(), case, f'{writer.fault}')
-        held = entries(read_file(table), case)
-        for writer, start in zip(writers, own):
-            least = writer.answered if sync == 'always' else 0
-            place = place_of(writer, start, of_writer(writer.number, held))
-            demand(place is not None, case, f'connection {writer.number}: no beginning of its puts leaves {of_writer(writer.number, held)}')
-            demand(place >= least, case, f'connection {writer.number}: {place} of its puts are stored, and {least} were answered')
-            answered += writer.answered
+        seconds = random.uniform(0.005, 0.15) if sync == 'always' else random.choice((0.03, random.uniform(0.4, 0.7)))
+        held, count = kill(table, sync, held, seconds, f'--sync {sync}, kill {at}')
+        answered += count
     demand(answered > 100, f'--sync {sync}', f'only {answered} writes were answered')
+    return answered
+
+
+LATE = 1 + MARGIN + 1.5  # seconds of writes of which some have to be stored
+
+
+def late_kill(bench):
+    """Without --sync always, killed after some seconds of writes: what was answered more than a second before is there."""
+    held, answered = kill(bench.table('late'), 'second', {}, LATE, 'a late kill')
+    demand(len(held) > CONNECTIONS, 'a late kill', f'only {held} is held')
     return answered
 
 
@@ -112,7 +133,7 @@ NEW = head_line(5) + entry_line(5, b'k', b'new')
 
 def every_call(bench):
     """With --sync always, killed at each stop from the request on, until it is answered before: the file is the old or the new table, and the new one where
-    the reply came. Nothing is tried where tracing is refused."""
+    the reply came."""
     if not can_trace():
         return 0
     seen = {OLD: 0, NEW: 0}
@@ -163,8 +184,8 @@ def started(bench, environment, stop):
 
 def part():
     with Bench() as bench:
-        always, second = random_kills(bench, 'always'), random_kills(bench, 'second')
-        return (f'{2 * ROUNDS} at random moments, {always} writes answered with --sync always and all there, {second} without; '
+        always, second, late = together(lambda: random_kills(bench, 'always'), lambda: random_kills(bench, 'second'), lambda: late_kill(bench))
+        return (f'{2 * ROUNDS} at random moments, {always} writes answered with --sync always and all there, {second} without; {late} before a late one; '
                 f'{every_call(bench)} at each system call of a put')
 
 

@@ -4,12 +4,17 @@ Each connection puts a key of its own and asks for its version right behind, and
 write is known: from the reply behind it, or since the write that came next on that key had to name it. The writes stand in the order of their versions,
 and every other call has to find a place between them that fits its reply and is not before the place of the connection's call before it. Nothing is
 removed, so a bulk reply stands at the place of its highest version. Values are long, so that few bulk replies fit into one buffer.
+
+Calls of all operations, with removes, clears and statistics, are made by the second program's own reader and writer (reference/src/bin/caller.rs): a few of 64
+connections make them at a time, and all orders of these are tried on its map.
 """
 import bisect
+import os
 import random
+import subprocess
 
 from board_frames import BULK_GET, CONTAINS_KEY, GET, GET_WITH_VERSION, PUT, PUT_IF_ABSENT, REPLACE_IF_UNMODIFIED, frame
-from host_run import Bench, Host, LONG, demand, read_file, run_part
+from host_run import Bench, Host, LONG, REFERENCE, SECONDS, demand, read_file, run_part, short
 
 CONNECTIONS, SHARED = 64, 4
 ROUNDS = 200 if LONG else 40
@@ -181,9 +186,21 @@ def check(clients, last, stored):
     return len(writes.by_version)
 
 
-def part():
+def second_program(bench):
+    """The second program calls the server; the table that is left is its own. Gives how many rounds there were."""
+    rounds = 2000 if LONG else 400
+    for sync in ('second', 'always'):
+        with Host(bench.table(f'caller-{sync}'), '--sync', sync) as host:
+            words = [os.path.join(os.path.dirname(REFERENCE), 'caller'), str(host.port), str(rounds), str(rounds)]
+            done = subprocess.run(words, capture_output=True, timeout=10 * SECONDS, check=False)
+            demand(done.returncode == 0, f'the second program, --sync {sync}', short(done.stderr, 3000))
+            demand(host.stop() == 0 and read_file(host.table) == done.stdout, f'the table left, --sync {sync}', f'{short(read_file(host.table))}, wanted {short(done.stdout)}')
+    return 2 * rounds
+
+
+def own_calls(bench):
     random.seed(11)
-    with Bench() as bench, Host(bench.table('many')) as host:
+    with Host(bench.table('many')) as host:
         clients = [Client(host, number) for number in range(CONNECTIONS)]
         for shared in range(SHARED):
             clients[0].call(PUT_IF_ABSENT, b's%d' % shared, b'first %d' % shared)
@@ -201,6 +218,11 @@ def part():
         refused = sum(call.operation == REPLACE_IF_UNMODIFIED and call.version is None for call in calls)
         demand(min(replaced, refused) > 50, 'many', f'{replaced} replaced and {refused} did not, so little was tried')
         return f'{len(calls)} calls of {CONNECTIONS} connections have one order; {written} versions, {replaced} replaced in turn, {refused} came too late'
+
+
+def part():
+    with Bench() as bench:
+        return f'{own_calls(bench)}; {second_program(bench)} rounds of the second program'
 
 
 if __name__ == '__main__':

@@ -6,8 +6,9 @@ import socket
 import subprocess
 import time
 
-from board_frames import GET, PING, PUT, REMOVE, entry_line, head_line, key_name
-from host_run import Bench, HOST, Host, SECONDS, demand, read_file, run_part, short, until
+from board_frames import GET, PING, PUT, REMOVE, entry_line, frame, head_line, key_name
+from host_disk import limit_size
+from host_run import Bench, HOST, Host, SECONDS, demand, read_file, run_part, short, together, until
 
 POLICY = ("default-src 'none'; script-src 'self'; style-src 'self'; connect-src 'self'; base-uri 'none'; form-action 'none'; frame-ancestors 'none'")
 # Keys and values with what a page must not take for markup, script, a string's end or an order of writing.
@@ -19,8 +20,8 @@ HOSTILE = [b'<script>alert(1)</script>', b'</script><b>', b'"', b"'", b'\\', b'\
 class Shown(Host):
     """A server with a page."""
 
-    def __init__(self, table, *options):
-        super().__init__(table, '--page', '127.0.0.1:0', *options)
+    def __init__(self, table, *options, **more):
+        super().__init__(table, '--page', '127.0.0.1:0', *options, **more)
         self.page = None
         until(self.shows, 'starting', 'no page is told')
 
@@ -212,7 +213,8 @@ def never_read(bench):
 
 def away(bench):
     """Where the server takes no client, the page is there and its data say so; an address in use is told, and no table is made."""
-    with Shown(bench.table('away'), '--connections', '0') as host:
+    with Shown(bench.table('away'), '--connections', '1') as host, host.connect() as only:
+        only.call(PING)
         demand(host.ask('/')[0] == 200, 'a server that is away', 'the page is not there')
         status, _, body = host.ask('/data')
         demand(status == 503 and body == b'{}', 'a server that is away', f'{status} {body}')
@@ -226,10 +228,29 @@ def away(bench):
     return 4
 
 
+def slow_server(bench):
+    """While the server does not answer, since its disk is full, a visitor waits for the data, and another one that comes meanwhile has its whole time to ask."""
+    with Shown(bench.table('slow'), '--sync', 'always', preexec_fn=limit_size(20), restore_signals=False) as host, host.connect() as caller:
+        caller.send(frame(PUT))
+        until(lambda: "can't store the table" in host.words(), 'a full disk', 'nothing is said')
+        with socket.create_connection(('127.0.0.1', host.page), timeout=SECONDS) as first, socket.socket() as second:
+            first.sendall(b'GET /data HTTP/1.1\r\n\r\n')
+            time.sleep(0.3)
+            second.settimeout(SECONDS)
+            second.connect(('127.0.0.1', host.page))
+            second.sendall(b'GET / HTTP')
+            demand(parts(rest(first), 'a server that does not answer')[0] == 503, 'a server that does not answer', 'another status')
+            time.sleep(2)
+            second.sendall(b'/1.1\r\n\r\n')
+            demand(parts(rest(second), 'beside one that waits')[0] == 200, 'beside one that waits', 'another status')
+    return 2
+
+
 def part():
     with Bench() as bench:
+        gone, slow = together(lambda: away(bench), lambda: slow_server(bench))
         return (f'{documents(bench)} documents, {hostile(bench)} hostile entries, {full(bench)} entries of a full table, {requests(bench)} requests, '
-                f'{crowd(bench)} at once, {never_read(bench)} that do not read, {away(bench)} away')
+                f'{crowd(bench)} at once, {never_read(bench)} that do not read, {gone} away, {slow} of a slow server')
 
 
 if __name__ == '__main__':

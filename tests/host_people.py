@@ -26,10 +26,14 @@ TALK = [('ping', 'the server answers', 0), ('put b1 Ida --lifespan 100', 'stored
         ('keys', 'b1\n--key', 0), ('clear', 'cleared', 0), ('list', 'there are no entries', 0), ('keys', 'there are no entries', 0), ('get b1', 'there is no such key', 2)]
 WRONG = [('nothing b1', 'there is no command'), ('get', 'is followed by KEY'), ('get a b', 'is followed by KEY'), ('put a', 'is followed by KEY VALUE'),
          ('ping x', 'is followed by no words'), ('get a --lifespan 5', 'no option --lifespan'), ('put a b --lifespan', 'needs a value'),
-         ('put a b --lifespan 4294967296', 'has to be a number from 0 to 4294967295'), ('put a b --lifespan -1', 'has to be a number'),
+         ('put a b --lifespan 4294967296', 'has to be a number from 0 to 4294967295'), ('put a b --lifespan -1', 'has to be a number'), ('put a b --lifespan +5', 'has to be a number'), ('put a b --lifespan ', 'needs a value'),
          ('removeifunmodified a', 'needs --version N'), ('put ' + 'k' * 65 + ' v', 'refused 16'), ('put k ' + 'v' * 257, 'refused 16'),
          ('list x', 'is followed by no words'), ('keys --count 1', 'no option --count'), ('list --count 4294967296', 'has to be a number'),
-         ('show', 'is followed by TABLE'), ('show /nowhere', 'there is no table /nowhere'), ('show /dev/null', 'is not a file'), ('encode get', 'is followed by KEY'), ('decode', 'is followed by REQUESTS'), ('decode /nowhere', "can't open /nowhere")]
+         ('show', 'is followed by TABLE'), ('show /nowhere', 'there is no table /nowhere'), ('show /dev/null', 'is not a file'), ('encode get', 'is followed by KEY'), ('decode', 'is followed by REQUESTS'), ('decode /nowhere', "can't open /nowhere"),
+         ('decode -', "can't both be standard input"), ('decode - -', "can't both be standard input"), ('encode', 'a command is missing'), ('encode put', 'is followed by KEY VALUE'),
+         (b'\xff b1', 'there is no command'), (b'encode \xff', 'there is no command'), ('serve', 'is followed by TABLE'), ('serve table --what', 'no option --what'),
+         ('serve table --connections 0', 'has to be a number from 1 to 100000')]
+HINT = "'feyqoolad help' shows what is understood. Nothing was done."
 
 
 def run(words, **more):
@@ -56,9 +60,13 @@ def talk(bench):
     for words, wanted in WRONG:
         done = run(words.split())
         demand(done.returncode == 1 and wanted in done.stderr.decode() and not done.stdout, words, f'{done}, wanted {wanted!r}')
+        understood = 'refused' in wanted or 'nowhere' in wanted or 'not a file' in wanted
+        demand(understood or HINT in done.stderr.decode(), words, f'{done}, wanted {HINT!r}')
+    done = run([''])
+    demand(done.returncode == 1 and b'there is no command' in done.stderr, 'an empty word', f'{done}')
     done = run(['ping', '--to', f'127.0.0.1:{gone}'])
     demand(done.returncode == 1 and b"can't reach a server" in done.stderr, 'no server', f'{done}')
-    return len(TALK) + len(WRONG) + 7
+    return len(TALK) + len(WRONG) + 8
 
 
 COUNTED = '''entries: 2
@@ -88,7 +96,8 @@ def statistics(bench):
 def strange_servers():
     """Servers that answer with something else: each is told in words."""
     answers = [(b'', 'was closed before the reply'), (b'\xa1\x01', 'was closed before the reply'), (b'HTTP/1.1 400', 'is not a reply'),
-               (b'\xa1\x02\x18\x00\x00', 'is to another request'), (b'\xa1\x01\x18\x01\x00', 'is not a reply')]
+               (b'\xa1\x02\x18\x00\x00', 'is to another request'), (b'\xa1\x00\x18\x00\x00', 'is to another request'),
+               (b'\xa1\x02\x50\x85\x00\x04full', 'is to another request'), (b'\xa1\x00\x50\x85\x00\x04full', 'the server refuses: full'), (b'\xa1\x01\x18\x01\x00', 'is not a reply')]
     with socket.create_server(('127.0.0.1', 0)) as server:
         for answer, wanted in answers:
             def serve():
@@ -180,7 +189,7 @@ def address(bench):
     return 2
 
 
-TOOLS = ('bash', 'cat', 'find', 'flock', 'mkdir', 'readlink', 'touch')
+TOOLS = ('awk', 'bash', 'cat', 'find', 'flock', 'mkdir', 'readlink', 'tee', 'touch')
 
 
 def script(bench):
@@ -195,11 +204,14 @@ def script(bench):
     os.makedirs(os.path.join(at, 'crates/exports/src'))
     os.makedirs(os.path.join(at, 'bin'))
     shutil.copy(HOST, at)
+    write_file(os.path.join(at, 'crates.txt'), b'wire:\ntext: wire\nboard: wire text io\nexports: text wire bytes\n')
     shutil.copy(os.path.join(TOP, 'host/src/usage.txt'), os.path.join(at, 'host/src'))
     for tool in TOOLS:
         os.symlink(shutil.which(tool), os.path.join(at, 'bin', tool))
+    proved = 'echo "rt: wire proved (1 s)"; echo "more"; echo "rt: text proved (2 s)" >&2; '
     steps = [('help', None, b''), ('ping', None, b'the Rattle toolchain (rt) is not there'), ('ping', ('rt', 'exit 1'), b'the library was not built'),
-             ('ping', ('rt', 'mkdir -p target/staticlib && touch target/staticlib/libexports.a'), b'the Rust compiler (cargo) is not there'),
+             ('ping', ('rt', proved + 'exit 1'), b'feyqoolad: 1 of 3: wire proved (1 s)\nfeyqoolad: 2 of 3: text proved (2 s)\nfeyqoolad: the library was not built'),
+             ('ping', ('rt', proved + 'mkdir -p target/staticlib && touch target/staticlib/libexports.a'), b'2 of 3: text proved (2 s)\nfeyqoolad: the Rust compiler (cargo) is not there'),
              ('ping', ('cargo', 'exit 1'), b'the program was not built')]
     for word, tool, wanted in steps:
         if tool:

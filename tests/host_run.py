@@ -2,6 +2,7 @@
 
 The expected bytes come from the second program or from the papers, never from HOST.
 """
+import concurrent.futures
 import os
 import re
 import shutil
@@ -110,8 +111,8 @@ class Host:
         except subprocess.TimeoutExpired as error:
             raise Difference(f'signal {number}: it does not end; it says {self.words()}') from error
 
-    def connect(self):
-        return Caller(self.port)
+    def connect(self, room=None):
+        return Caller(self.port, room)
 
     def memory(self):
         """Kilobytes of memory that it has."""
@@ -128,10 +129,14 @@ class Host:
 
 
 class Caller:
-    """A connection."""
+    """A connection; with a room the system keeps no more than about so many bytes for it that it did not read."""
 
-    def __init__(self, port):
-        self.socket = socket.create_connection(('127.0.0.1', port), timeout=SECONDS)
+    def __init__(self, port, room=None):
+        self.socket = socket.socket()
+        self.socket.settimeout(SECONDS)
+        if room:
+            self.socket.setsockopt(socket.SOL_SOCKET, socket.SO_RCVBUF, room)
+        self.socket.connect(('127.0.0.1', port))
         self.socket.setsockopt(socket.IPPROTO_TCP, socket.TCP_NODELAY, 1)
         self.bytes = b''
 
@@ -284,9 +289,26 @@ def reference(frames, table=None, second=0):
         return [one if one.startswith(b'refused') else bytes.fromhex(one.decode()) for one in lines], read_file(path)
 
 
+def is_permitted(works, what):
+    """Whether something works here that a test needs. Where it does not, the test fails, unless HOST_SKIPS=yes lets it be passed over."""
+    demand(works or os.environ.get('HOST_SKIPS') == 'yes', what, 'this is refused here, so a test can not run; HOST_SKIPS=yes passes it over')
+    return works
+
+
 def can_trace():
     """Whether system calls can be traced here (tests/kill_at.c)."""
-    return subprocess.run([os.environ['KILL_AT'], 'list', shutil.which('true')], stdout=subprocess.DEVNULL, check=False).returncode == 0
+    done = subprocess.run([os.environ['KILL_AT'], 'list', shutil.which('true')], stdout=subprocess.DEVNULL, check=False)
+    return is_permitted(done.returncode == 0, 'tracing system calls')
+
+
+MARGIN = 2  # how many seconds a loaded machine may take longer for what is due
+
+
+def preloaded(bench, name, **more):
+    """The environment of a server before whose libraries one of ours is loaded (tests/NAME.c)."""
+    library = os.path.join(bench.top, f'{name}.so')
+    subprocess.run(['gcc', '-O1', '-Wall', '-Wextra', '-shared', '-fPIC', '-o', library, os.path.join(TOP, f'tests/{name}.c')], check=True)
+    return {**os.environ, 'LD_PRELOAD': library, **more}
 
 
 class Bench:
@@ -309,10 +331,17 @@ class Bench:
         return path
 
 
+def together(*parts):
+    """What these give, which mostly wait and so run at the same time."""
+    with concurrent.futures.ThreadPoolExecutor(len(parts)) as pool:
+        return [one.result() for one in [pool.submit(part) for part in parts]]
+
+
 def run_part(name, part):
     """Runs a part and prints its line; ends the program at the first difference."""
+    begin = time.monotonic()
     try:
-        print(f'host: {name}: {part()}', flush=True)
+        print(f'host: {name}: {part()}, {time.monotonic() - begin:.0f} s', flush=True)
     except (Difference, ConnectionError, TimeoutError, subprocess.TimeoutExpired) as found:
         print(f'host: {name}: DIFFERENT\n  {type(found).__name__}: {found}\n  HOST={HOST}', flush=True)
         sys.exit(1)

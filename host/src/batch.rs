@@ -19,8 +19,9 @@ use crate::limits::{BULK_ROOM, REPLY_ROOM};
 /// Bytes of the requests served in one call.
 const REQUESTS: usize = 65536;
 /// Requests served in one call. Those that are left without room for their
-/// replies are gathered again, so there are not many more than can be served.
-const MOST: usize = 256;
+/// replies are gathered again, so there are about as many as the longest replies
+/// of gets leave room for.
+const MOST: usize = 208;
 /// Bytes of the replies given in one turn.
 pub const REPLIES: usize = 65536;
 /// Bytes of them that are kept for those that are refused, each alone.
@@ -61,6 +62,10 @@ struct Waiting {
 pub struct Batch {
     requests: Vec<u8>,
     waiting: Vec<Waiting>,
+    /// The connections whose requests wait: how many, and what is left of each.
+    gathered: Vec<(usize, usize, Rest)>,
+    /// Those whose input begins with bytes that are refused.
+    refused: Vec<usize>,
     replies: Box<[u8]>,
     used: usize,
     pub shares: Vec<Share>,
@@ -70,7 +75,9 @@ impl Default for Batch {
     fn default() -> Batch {
         Batch {
             requests: Vec::with_capacity(REQUESTS),
-            waiting: Vec::new(),
+            waiting: Vec::with_capacity(MOST),
+            gathered: Vec::new(),
+            refused: Vec::new(),
             replies: vec![0; REPLIES].into_boxed_slice(),
             used: 0,
             shares: Vec::new(),
@@ -130,20 +137,22 @@ impl Batch {
     /// and then those that begin with bytes that are refused, each alone.
     pub fn serve_together<'a>(
         &mut self,
-        inputs: impl Iterator<Item = (usize, &'a [u8])>,
+        connections: &[usize],
+        input: impl Fn(usize) -> Option<&'a [u8]>,
         table: &mut Table,
         second: u32,
     ) {
         self.requests.clear();
         self.waiting.clear();
-        let mut gathered = Vec::new();
-        let mut refused = Vec::new();
-        for (connection, input) in inputs {
-            let (count, rest) = self.gather(input);
-            if count == 0 && rest == Rest::Ended {
-                refused.push((connection, input));
-            } else {
-                gathered.push((connection, count, rest));
+        self.gathered.clear();
+        self.refused.clear();
+        for &connection in connections {
+            let Some(input) = input(connection) else {
+                continue;
+            };
+            match self.gather(input) {
+                (0, Rest::Ended) => self.refused.push(connection),
+                (count, rest) => self.gathered.push((connection, count, rest)),
             }
         }
         let mut calls = 0;
@@ -151,9 +160,10 @@ impl Batch {
             let served = table.serve_stream(&self.requests, second, &mut self.replies[..SHARED]);
             (self.used, calls) = (served.replied, served.calls);
         }
-        self.share_out(&gathered, calls);
-        for (connection, input) in refused {
-            self.serve_alone(connection, input, table, second);
+        self.share_out(calls);
+        for at in 0..self.refused.len() {
+            let connection = self.refused[at];
+            self.serve_alone(connection, input(connection).unwrap_or(&[]), table, second);
         }
     }
 
@@ -161,14 +171,14 @@ impl Batch {
     /// room; answers how many, and what stands behind them.
     fn gather(&mut self, input: &[u8]) -> (usize, Rest) {
         let (mut at, mut count) = (0, 0);
-        loop {
+        while self.waiting.len() < MOST {
             let request = match read_request(&input[at..]) {
                 Found::Whole(request) => request,
                 Found::More => return (count, Rest::More),
                 Found::Refused(_) => return (count, Rest::Ended),
             };
-            if self.waiting.len() == MOST || self.requests.len() + request.size > REQUESTS {
-                return (count, Rest::Again);
+            if self.requests.len() + request.size > REQUESTS {
+                break;
             }
             let end = at + request.size;
             self.requests.extend_from_slice(&input[at..end]);
@@ -179,13 +189,17 @@ impl Batch {
             });
             (at, count) = (end, count + 1);
         }
+        if at == input.len() {
+            return (count, Rest::More);
+        }
+        (count, Rest::Again)
     }
 
     /// Gives each connection the replies to its requests, of which the first
     /// ones, so many in all, were served.
-    fn share_out(&mut self, gathered: &[(usize, usize, Rest)], calls: usize) {
+    fn share_out(&mut self, calls: usize) {
         let (mut at, mut first) = (0, 0);
-        for &(connection, count, rest) in gathered {
+        for &(connection, count, rest) in &self.gathered {
             let last = first + count;
             let (start, mut taken) = (at, 0);
             for one in &self.waiting[first.min(calls)..last.min(calls)] {
@@ -291,6 +305,8 @@ mod tests {
         match share.rest {
             Rest::More => assert!(matches!(left, Found::More)),
             Rest::Ended => assert!(matches!(left, Found::Refused(_))),
+            // What is behind the last request of a full batch is not looked at.
+            Rest::Again if batch.waiting.len() == MOST => {}
             Rest::Again => assert!(!matches!(left, Found::More)),
         }
     }
@@ -303,9 +319,10 @@ mod tests {
         let mut seen = [0; 3];
         for _ in 0..200 {
             let inputs: Vec<Vec<u8>> = (0..chance.below(20)).map(|_| chance.input()).collect();
-            let lent = inputs.iter().map(Vec::as_slice).enumerate();
+            let all: Vec<usize> = (0..inputs.len()).collect();
+            let lent = |at: usize| inputs.get(at).map(Vec::as_slice);
             batch.begin();
-            batch.serve_together(lent, &mut table, 5);
+            batch.serve_together(&all, lent, &mut table, 5);
             assert_eq!(batch.shares.len(), inputs.len());
             for share in &batch.shares {
                 check(&batch, share, &inputs[share.connection], &mut other);
@@ -343,9 +360,9 @@ mod tests {
         let mut queue: Vec<usize> = (0..inputs.len()).collect();
         let (mut batch, mut given, mut waits) = (Batch::default(), [0; 9], [0; 9]);
         while !queue.is_empty() {
-            let lent = queue.iter().map(|at| (*at, inputs[*at].as_slice()));
+            let lent = |at: usize| inputs.get(at).map(Vec::as_slice);
             batch.begin();
-            batch.serve_together(lent, &mut table, 5);
+            batch.serve_together(&queue, lent, &mut table, 5);
             batch.put_waiting_first();
             queue.clear();
             for share in &batch.shares {

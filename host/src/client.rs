@@ -1,11 +1,11 @@
 //! A client for one request. The reply is read by the library.
 
-use std::io::{Read, Write};
-use std::net::{TcpStream, ToSocketAddrs};
+use std::io::{self, Read, Write};
+use std::net::{SocketAddr, TcpStream, ToSocketAddrs};
 use std::time::Duration;
 
 use crate::border::library::{read_reply, Found, Reply};
-use crate::command::{Command, ID};
+use crate::command::{Command, ERROR, ID};
 use crate::failure::{because, Failure};
 use crate::limits::LONGEST_BULK;
 use crate::words::{of_reply, Asked, Went};
@@ -16,7 +16,7 @@ const PATIENCE: Duration = Duration::from_secs(10);
 /// Sends the command's request to an address; answers the words for its reply.
 pub fn call(command: &Command, to: &str) -> Result<(Went, String), Failure> {
     let request = command.request()?;
-    let mut stream = connect(to)?;
+    let mut stream = reach(to)?;
     stream
         .write_all(&request)
         .map_err(|error| because(format!("can't send to {to}"), error))?;
@@ -28,25 +28,33 @@ pub fn call(command: &Command, to: &str) -> Result<(Went, String), Failure> {
 }
 
 /// Connects to the first address that answers.
-fn connect(to: &str) -> Result<TcpStream, Failure> {
+fn reach(to: &str) -> Result<TcpStream, Failure> {
     let what = || format!("can't reach a server at {to}");
     let addresses = to
         .to_socket_addrs()
         .map_err(|error| because(what(), error))?;
     let mut failure = what();
     for address in addresses {
-        match TcpStream::connect_timeout(&address, PATIENCE) {
-            Ok(stream) => {
-                return stream
-                    .set_read_timeout(Some(PATIENCE))
-                    .and_then(|()| stream.set_write_timeout(Some(PATIENCE)))
-                    .map(|()| stream)
-                    .map_err(|error| because(what(), error));
-            }
+        match connect(&address, PATIENCE) {
+            Ok(stream) => return Ok(stream),
             Err(error) => failure = because(what(), error),
         }
     }
     Err(failure)
+}
+
+/// Connects to a server that may take so long for each step.
+pub fn connect(to: &SocketAddr, patience: Duration) -> io::Result<TcpStream> {
+    let stream = TcpStream::connect_timeout(to, patience)?;
+    stream.set_read_timeout(Some(patience))?;
+    stream.set_write_timeout(Some(patience))?;
+    Ok(stream)
+}
+
+/// Whether the reply is to the request that was sent: an error reply to one
+/// whose id was not read has the id 0.
+fn is_awaited(reply: &Reply) -> bool {
+    reply.id == ID || reply.id == 0 && reply.operation == ERROR
 }
 
 /// Reads on until the reply is whole.
@@ -54,7 +62,7 @@ pub fn receive(stream: &mut TcpStream, asked: Asked, bytes: &mut [u8]) -> Result
     let mut held = 0;
     loop {
         match read_reply(&bytes[..held], asked.operation, asked.previous) {
-            Found::Whole(reply) if reply.id == ID || reply.id == 0 => return Ok(reply),
+            Found::Whole(reply) if is_awaited(&reply) => return Ok(reply),
             Found::Whole(_) => return Err("the reply is to another request".to_string()),
             Found::Refused(number) => {
                 return Err(format!("refused {number}: what came is not a reply"))

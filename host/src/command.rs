@@ -8,7 +8,7 @@ use crate::border::library::write_request;
 use crate::failure::Failure;
 use crate::limits::{KEY_LIMIT, LONGEST_REQUEST, VALUE_LIMIT};
 use crate::options::Words;
-use crate::words::Asked;
+use crate::words::{shown, Asked};
 
 pub const PUT: u8 = 0x01;
 pub const GET: u8 = 0x03;
@@ -24,6 +24,8 @@ pub const STATS: u8 = 0x15;
 pub const PING: u8 = 0x17;
 pub const BULK_GET: u8 = 0x19;
 pub const BULK_GET_KEYS: u8 = 0x1d;
+/// The operation code of an error reply.
+pub const ERROR: u8 = 0x50;
 
 /// What a command has to be told.
 #[derive(Clone, Copy, Debug, PartialEq, Eq)]
@@ -138,8 +140,10 @@ impl Command {
     /// Reads a command's words; `others` are options that have another meaning
     /// for the caller.
     pub fn parse(given: &[OsString], others: &[&str]) -> Result<(Command, Words), Failure> {
-        let word = given.first().and_then(|word| word.to_str()).unwrap_or("");
-        let operation = Operation::of_word(word).ok_or(format!("there is no command '{word}'"))?;
+        let word = given.first().ok_or("a command is missing")?;
+        let word = word.to_string_lossy();
+        let operation = Operation::of_word(&word)
+            .ok_or_else(|| format!("there is no command '{}'", shown(word.as_bytes())))?;
         let mut options = operation.options();
         options.extend(others);
         let bare: &[&str] = if operation.has_previous() {
@@ -149,22 +153,22 @@ impl Command {
         };
         let words = Words::part(&given[1..], &options, bare)?;
         let (key, value) = parts(operation, words.words())?;
-        let version = words.number("version", u64::MAX)?;
+        let version = words.number("version", 0..=u64::MAX)?;
         if operation.sends_version() && version.is_none() {
             return Err(format!(
                 "{word} needs --version N, as getwithversion tells it"
             ));
         }
-        let most = u64::from(u32::MAX);
+        let small = || 0..=u64::from(u32::MAX);
         let command = Command {
             operation,
             previous: words.has("previous"),
             key,
             value,
-            lifespan: words.number("lifespan", most)?.unwrap_or(0),
-            max_idle: words.number("max-idle", most)?.unwrap_or(0),
+            lifespan: words.number("lifespan", small())?.unwrap_or(0),
+            max_idle: words.number("max-idle", small())?.unwrap_or(0),
             entry_version: version.unwrap_or(0),
-            count: words.number("count", most)?.unwrap_or(0),
+            count: words.number("count", small())?.unwrap_or(0),
         };
         Ok((command, words))
     }

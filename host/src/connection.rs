@@ -26,10 +26,11 @@ pub struct Connection {
     pub queued: bool,
     /// The client sends no more.
     ended: bool,
-    /// The last reply was given; until then what comes is passed over.
-    leaving: Option<Instant>,
-    /// The last reply was sent, and the client told that none follows.
-    shut: bool,
+    /// The last reply was given; what comes behind it is passed over.
+    leaving: bool,
+    /// The last reply was sent, and the client told that none follows: when it
+    /// is closed.
+    until: Option<Instant>,
     /// When a byte last went to the client or came from it.
     pub moved: Instant,
     /// What is waited for.
@@ -45,8 +46,8 @@ impl Connection {
             pending: false,
             queued: false,
             ended: false,
-            leaving: None,
-            shut: false,
+            leaving: false,
+            until: None,
             moved: now,
             interest: READABLE,
         }
@@ -61,7 +62,7 @@ impl Connection {
     /// Reads what has come, as far as there is room. What was read before is
     /// served first, so that a client that sends much waits for its turn.
     pub fn receive(&mut self, now: Instant) -> io::Result<()> {
-        if self.leaving.is_some() {
+        if self.leaving {
             self.input.clear();
         } else if self.ended || self.pending || !self.output.is_empty() {
             return Ok(());
@@ -73,21 +74,19 @@ impl Connection {
         };
         self.input.added(count);
         self.ended = count == 0;
-        self.pending = count > 0 && self.leaving.is_none();
+        self.pending = count > 0 && !self.leaving;
         self.moved = now;
         Ok(())
     }
 
-    /// Sends these replies, and keeps what the client does not take.
+    /// Sends these replies, and keeps what the client does not take. Those
+    /// before were taken, since nothing is served until then.
     pub fn send(&mut self, replies: &[u8], now: Instant) -> io::Result<()> {
-        self.flush(now)?;
-        let mut sent = 0;
-        if self.output.is_empty() {
-            sent = self.write(replies, now)?;
-        }
+        let sent = write_some(&self.stream, replies)?;
         if sent < replies.len() {
             self.output.add(&replies[sent..]);
         }
+        self.moved = now;
         Ok(())
     }
 
@@ -101,32 +100,29 @@ impl Connection {
         Ok(())
     }
 
-    fn write(&mut self, bytes: &[u8], now: Instant) -> io::Result<usize> {
-        self.moved = now;
-        write_some(&self.stream, bytes)
-    }
-
     /// The stream ends behind the replies given so far.
-    pub fn leave(&mut self, now: Instant) {
-        self.leaving = Some(now + LEAVING);
+    pub fn leave(&mut self) {
+        self.leaving = true;
         self.pending = false;
     }
 
-    pub fn is_leaving(&self) -> bool {
-        self.leaving.is_some()
+    /// Whether the client was told that no reply follows.
+    pub fn is_shut(&self) -> bool {
+        self.until.is_some()
     }
 
-    /// Tells the client that no reply follows, once the last one was sent.
-    pub fn shut(&mut self) {
-        if self.leaving.is_some() && self.output.is_empty() && !self.shut {
-            self.shut = true;
+    /// Tells the client that no reply follows, once the last one was sent. It
+    /// may take its time for that as any other client.
+    pub fn shut(&mut self, now: Instant) {
+        if self.leaving && self.output.is_empty() && !self.is_shut() {
+            self.until = Some(now + LEAVING);
             let _ = self.stream.shutdown(Shutdown::Write);
         }
     }
 
     /// Whether there is something to serve and room for its replies.
     pub fn can_be_served(&self) -> bool {
-        self.pending && self.leaving.is_none() && self.output.is_empty()
+        self.pending && self.output.is_empty()
     }
 
     /// Whether nothing is left to be done. The client's end is read when all
@@ -137,7 +133,7 @@ impl Connection {
 
     /// Whether it has to go: nothing moved for so long, or it was left.
     pub fn is_late(&self, now: Instant, idle: Option<Duration>) -> bool {
-        match (self.leaving, idle) {
+        match (self.until, idle) {
             (Some(until), _) => now >= until,
             (None, Some(idle)) => now.duration_since(self.moved) >= idle,
             (None, None) => false,

@@ -50,12 +50,11 @@ impl Keeper {
 
     fn load(&mut self) -> Result<Table, Failure> {
         let shown = self.path.display();
-        let mut bytes = Vec::new();
-        OpenOptions::new()
+        let bytes = OpenOptions::new()
             .read(true)
             .write(true)
             .open(&self.path)
-            .and_then(|file| file.take(LONGEST_FILE as u64 + 1).read_to_end(&mut bytes))
+            .and_then(read_table)
             .map_err(|error| because(format!("can't read and write the table {shown}"), error))?;
         let table = Table::load(&bytes).ok_or_else(|| {
             format!(
@@ -236,6 +235,14 @@ fn give_rights(file: &File, rights: &Metadata) -> std::io::Result<()> {
     fchown(file, Some(rights.uid()), Some(rights.gid()))
         .or_else(|_| fchown(file, None, Some(rights.gid())))?;
     file.set_permissions(fs::Permissions::from_mode(rights.mode() & RIGHTS))
+}
+
+/// The bytes of a table's file, and one more than a stored table has at most
+/// where there are more.
+pub fn read_table(file: File) -> std::io::Result<Vec<u8>> {
+    let mut bytes = Vec::new();
+    file.take(LONGEST_FILE as u64 + 1).read_to_end(&mut bytes)?;
+    Ok(bytes)
 }
 
 /// Says which line of a file is not good: the first one with which its

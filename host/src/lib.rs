@@ -14,6 +14,8 @@ pub mod command;
 pub mod connection;
 pub mod date;
 pub mod failure;
+pub mod files;
+pub mod haste;
 pub mod hex;
 pub mod keeper;
 pub mod limits;

@@ -14,7 +14,7 @@ use crate::words::{of_reply, shown, Asked};
 /// `encode COMMAND ..`: the request line of a command.
 pub fn encode(given: &[OsString]) -> Result<String, Failure> {
     let (command, words) = Command::parse(given, &["second"])?;
-    let second = match words.number("second", u64::from(u32::MAX))? {
+    let second = match words.number("second", 0..=u64::from(u32::MAX))? {
         Some(number) => number as u32,
         None => second(),
     };

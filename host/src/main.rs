@@ -3,8 +3,9 @@
 #![forbid(unsafe_code)]
 
 use std::ffi::OsString;
+use std::fmt::Display;
 use std::io::{self, Write};
-use std::path::Path;
+use std::path::{Path, PathBuf};
 use std::process::ExitCode;
 use std::time::Duration;
 
@@ -12,6 +13,7 @@ use feyqoolad::border::system::Signals;
 use feyqoolad::client::call;
 use feyqoolad::command::Command;
 use feyqoolad::failure::{because, say, Failure};
+use feyqoolad::files::fitting;
 use feyqoolad::keeper::Keeper;
 use feyqoolad::lines::{decode, encode};
 use feyqoolad::options::Words;
@@ -39,16 +41,23 @@ fn main() -> ExitCode {
 }
 
 fn run(given: &[OsString]) -> Result<ExitCode, Failure> {
-    let word = given.first().and_then(|word| word.to_str()).unwrap_or("");
-    match word {
-        "" | "help" | "-h" | "--help" => print(USAGE),
-        "--version" => print(VERSION),
-        "serve" => serve(&given[1..]),
-        "encode" => print(&format!("{}\n", encode(&given[1..])?)),
-        "decode" => run_decode(&given[1..]),
-        "show" => run_show(&given[1..]),
+    let Some(word) = given.first() else {
+        return print(USAGE);
+    };
+    match word.to_str() {
+        Some("help" | "-h" | "--help") => print(USAGE),
+        Some("--version") => print(VERSION),
+        Some("serve") => serve(&given[1..]),
+        Some("encode") => run_encode(&given[1..]),
+        Some("decode") => run_decode(&given[1..]),
+        Some("show") => run_show(&given[1..]),
         _ => run_call(given),
     }
+}
+
+/// A failure to understand the words that were given.
+fn not_understood(failure: impl Display) -> Failure {
+    format!("{failure}\n'feyqoolad help' shows what is understood. Nothing was done.")
 }
 
 fn print(text: &str) -> Result<ExitCode, Failure> {
@@ -59,10 +68,9 @@ fn print(text: &str) -> Result<ExitCode, Failure> {
 }
 
 fn run_call(given: &[OsString]) -> Result<ExitCode, Failure> {
-    let (command, words) = Command::parse(given, &["to"]).map_err(|failure| {
-        format!("{failure}\n'feyqoolad help' shows what is understood. Nothing was done.")
-    })?;
-    let (went, text) = call(&command, words.text("to")?.unwrap_or(ADDRESS))?;
+    let (command, words) = Command::parse(given, &["to"]).map_err(not_understood)?;
+    let to = words.text("to").map_err(not_understood)?;
+    let (went, text) = call(&command, to.unwrap_or(ADDRESS))?;
     if went == Went::Failed {
         return Err(text);
     }
@@ -73,17 +81,27 @@ fn run_call(given: &[OsString]) -> Result<ExitCode, Failure> {
     })
 }
 
+fn run_encode(given: &[OsString]) -> Result<ExitCode, Failure> {
+    let line = encode(given).map_err(not_understood)?;
+    print(&format!("{line}\n"))
+}
+
 fn run_decode(given: &[OsString]) -> Result<ExitCode, Failure> {
     let standard = OsString::from("-");
     let (requests, replies) = match given {
         [requests] => (requests, &standard),
         [requests, replies] => (requests, replies),
         _ => {
-            return Err(
-                "decode is followed by REQUESTS and, if not standard input, REPLIES".to_string(),
-            )
+            return Err(not_understood(
+                "decode is followed by REQUESTS and, if not standard input, REPLIES",
+            ))
         }
     };
+    if requests == "-" && replies == "-" {
+        return Err(not_understood(
+            "REQUESTS and REPLIES can't both be standard input; one has to be a file",
+        ));
+    }
     decode(requests, replies, &mut io::stdout().lock())?;
     Ok(ExitCode::SUCCESS)
 }
@@ -91,31 +109,66 @@ fn run_decode(given: &[OsString]) -> Result<ExitCode, Failure> {
 fn run_show(given: &[OsString]) -> Result<ExitCode, Failure> {
     match given {
         [table] => print(&show(Path::new(table))?),
-        _ => Err("show is followed by TABLE".to_string()),
+        _ => Err(not_understood("show is followed by TABLE")),
+    }
+}
+
+/// What `serve` is told.
+struct Told {
+    table: PathBuf,
+    address: String,
+    page: Option<String>,
+    sync: Sync,
+    connections: u64,
+    idle: u64,
+}
+
+impl Told {
+    fn parse(given: &[OsString]) -> Result<Told, Failure> {
+        let options = ["listen", "page", "sync", "connections", "idle"];
+        let words = Words::part(given, &options, &[])?;
+        let [table] = words.words() else {
+            return Err("serve is followed by TABLE and options".to_string());
+        };
+        let sync = match words.text("sync")? {
+            None | Some("second") => Sync::Second,
+            Some("always") => Sync::Always,
+            Some(_) => return Err("--sync is second or always".to_string()),
+        };
+        let most = u64::from(u32::MAX);
+        Ok(Told {
+            table: PathBuf::from(table),
+            address: words.text("listen")?.unwrap_or(ADDRESS).to_string(),
+            page: words.text("page")?.map(str::to_string),
+            sync,
+            connections: words.number("connections", 1..=100_000)?.unwrap_or(1000),
+            idle: words.number("idle", 0..=most)?.unwrap_or(600),
+        })
+    }
+
+    fn limits(&self) -> Result<Limits, Failure> {
+        Ok(Limits {
+            connections: fitting(self.connections, self.page.is_some())? as usize,
+            idle: (self.idle > 0).then_some(Duration::from_secs(self.idle)),
+        })
     }
 }
 
 fn serve(given: &[OsString]) -> Result<ExitCode, Failure> {
-    let options = ["listen", "page", "sync", "connections", "idle"];
-    let words = Words::part(given, &options, &[])?;
-    let [table] = words.words() else {
-        return Err("serve is followed by TABLE and options".to_string());
-    };
-    let sync = sync(&words)?;
-    let limits = limits(&words)?;
-    let address = words.text("listen")?.unwrap_or(ADDRESS);
+    let told = Told::parse(given).map_err(not_understood)?;
+    let limits = told.limits()?;
     // The address first, so that no fresh table is left where it is in use.
-    let (listener, at) = listen(address)?;
-    let page = words.text("page")?.map(listen).transpose()?;
-    let (keeper, loaded) = Keeper::open(Path::new(table))?;
+    let (listener, at) = listen(&told.address)?;
+    let page = told.page.as_deref().map(listen).transpose()?;
+    let (keeper, loaded) = Keeper::open(&told.table)?;
     // Signals are blocked before any thread begins, so that they come to the server.
     let server = Signals::new()
         .and_then(|signals| {
-            let saver = Saver::new(keeper, sync)?;
+            let saver = Saver::new(keeper, told.sync)?;
             Server::new(listener, signals, loaded, saver, limits)
         })
         .map_err(|error| because("can't serve", error))?;
-    say(format!("serves {} on {at}", table.to_string_lossy()));
+    say(format!("serves {} on {at}", told.table.display()));
     if let Some((listener, shown)) = page {
         begin(listener, at)?;
         say(format!("shows it on http://{shown}/"));
@@ -123,21 +176,4 @@ fn serve(given: &[OsString]) -> Result<ExitCode, Failure> {
     server.run()?;
     say("ended; the table is stored");
     Ok(ExitCode::SUCCESS)
-}
-
-fn sync(words: &Words) -> Result<Sync, Failure> {
-    match words.text("sync")? {
-        None | Some("second") => Ok(Sync::Second),
-        Some("always") => Ok(Sync::Always),
-        Some(_) => Err("--sync is second or always".to_string()),
-    }
-}
-
-fn limits(words: &Words) -> Result<Limits, Failure> {
-    let idle = words.number("idle", u64::from(u32::MAX))?.unwrap_or(600);
-    let connections = words.number("connections", 100_000)?.unwrap_or(1000);
-    Ok(Limits {
-        connections: connections as usize,
-        idle: (idle > 0).then_some(Duration::from_secs(idle)),
-    })
 }

@@ -1,6 +1,7 @@
 //! The words of a command line: words in order, and options by name.
 
 use std::ffi::OsString;
+use std::ops::RangeInclusive;
 
 use crate::failure::Failure;
 
@@ -54,14 +55,19 @@ impl Words {
         Ok(Some(text))
     }
 
-    /// The option's value as a number up to the greatest.
-    pub fn number(&self, name: &str, most: u64) -> Result<Option<u64>, Failure> {
+    /// The option's value as a number of this range, in digits alone.
+    pub fn number(&self, name: &str, range: RangeInclusive<u64>) -> Result<Option<u64>, Failure> {
         let Some(text) = self.text(name)? else {
             return Ok(None);
         };
+        let digits = text.bytes().all(|byte| byte.is_ascii_digit());
         match text.parse() {
-            Ok(number) if number <= most => Ok(Some(number)),
-            _ => Err(format!("--{name} has to be a number from 0 to {most}")),
+            Ok(number) if digits && range.contains(&number) => Ok(Some(number)),
+            _ => Err(format!(
+                "--{name} has to be a number from {} to {}",
+                range.start(),
+                range.end()
+            )),
         }
     }
 }

@@ -23,6 +23,9 @@ use visitor::Visitor;
 
 /// Visitors at a time; others wait.
 const VISITORS: usize = 64;
+/// Files of a page at most: visitors, listener, poll, and the connection to the
+/// server.
+pub const FILES: u64 = VISITORS as u64 + 3;
 /// How often visitors that are late are looked for.
 const TICK: Duration = Duration::from_millis(500);
 /// The number under which the poll knows the listener.
@@ -74,12 +77,13 @@ impl Page {
         loop {
             let idle = self.listens && self.visitors.iter().all(Option::is_none);
             let count = self.poll.wait(&mut events, (!idle).then_some(TICK))?;
-            let now = Instant::now();
             for event in &events[..count] {
                 if event.token() != LISTENER {
-                    self.attend(event.token(), now);
+                    self.attend(event.token());
                 }
             }
+            // The server may have been waited for.
+            let now = Instant::now();
             self.close_late(now);
             self.accept(now)?;
         }
@@ -119,16 +123,16 @@ impl Page {
     }
 
     /// Reads from a visitor and writes to it.
-    fn attend(&mut self, place: usize, now: Instant) {
+    fn attend(&mut self, place: usize) {
         let Some(visitor) = &mut self.visitors[place] else {
             return;
         };
         let mut over = visitor.receive().is_err();
         if let Some(wanted) = visitor.wants() {
             let (head, body) = answer(wanted, &mut self.source);
-            visitor.answer(head, body, now);
+            visitor.answer(head, body, Instant::now());
         }
-        over = over || visitor.send(now).is_err() || visitor.is_over();
+        over = over || visitor.send(Instant::now()).is_err() || visitor.is_over();
         let interest = visitor.interest();
         over = over || self.poll.change(visitor.stream(), place, interest).is_err();
         if over {

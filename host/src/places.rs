@@ -8,12 +8,20 @@ use crate::connection::Connection;
 pub struct Places {
     connections: Vec<Option<Connection>>,
     free: Vec<usize>,
+    /// How many were told that no reply follows.
+    shut: usize,
 }
 
 impl Places {
-    /// How many connections are open.
-    pub fn count(&self) -> usize {
+    /// How many places are taken.
+    pub fn taken(&self) -> usize {
         self.connections.len() - self.free.len()
+    }
+
+    /// How many connections are open: those that get no reply any more only
+    /// linger for a moment.
+    pub fn open(&self) -> usize {
+        self.taken() - self.shut
     }
 
     pub fn get(&self, index: usize) -> Option<&Connection> {
@@ -40,8 +48,19 @@ impl Places {
 
     /// Closes the connection at a place, if there is one.
     pub fn close(&mut self, index: usize) {
-        if self.connections[index].take().is_some() {
+        if let Some(connection) = self.connections[index].take() {
+            self.shut -= usize::from(connection.is_shut());
             self.free.push(index);
+        }
+    }
+
+    /// Tells the client at a place that no reply follows, if its last one was
+    /// sent.
+    pub fn shut(&mut self, index: usize, now: Instant) {
+        if let Some(connection) = &mut self.connections[index] {
+            let before = connection.is_shut();
+            connection.shut(now);
+            self.shut += usize::from(connection.is_shut() && !before);
         }
     }
 
@@ -53,14 +72,14 @@ impl Places {
                 .get(index)
                 .filter(|connection| connection.is_late(now, idle));
             if let Some(connection) = late {
-                count += usize::from(!connection.is_leaving());
+                count += usize::from(!connection.is_shut());
                 self.close(index);
             }
         }
         count
     }
 
-    /// Counts the idle time of all from now on.
+    /// Counts the idle time of all from here on.
     pub fn begin_anew(&mut self, now: Instant) {
         for connection in self.connections.iter_mut().flatten() {
             connection.moved = now;

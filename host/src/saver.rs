@@ -120,6 +120,11 @@ impl Saver {
         Ok(Saver { way, due: None })
     }
 
+    /// Whether replies wait until the table is stored.
+    pub fn delays(&self) -> bool {
+        matches!(self.way, Way::Here(_))
+    }
+
     /// When something is to be done next.
     pub fn due(&self) -> Option<Instant> {
         self.due
@@ -139,17 +144,20 @@ impl Saver {
 
     /// Has the table stored if that is due. Where the one before still waits
     /// for the disk, it is due again.
-    pub fn look(&mut self, table: &Table, now: Instant) {
+    pub fn look(&mut self, table: &Table, now: Instant) -> Result<(), Failure> {
         let Way::Beside(sender, _) = &self.way else {
-            return;
+            return Ok(());
         };
         if self.due.is_some_and(|due| now >= due) {
             self.due = match sender.try_send(table.store()) {
                 Ok(()) => None,
                 Err(TrySendError::Full(_)) => Some(now + STORE_AFTER),
-                Err(TrySendError::Disconnected(_)) => panic!("nobody stores the table"),
+                Err(TrySendError::Disconnected(_)) => {
+                    return Err("can't serve on, since nobody stores the table".to_string())
+                }
             };
         }
+        Ok(())
     }
 
     /// Stores the table at the end.
@@ -158,18 +166,48 @@ impl Saver {
             Way::Here(storer) => storer,
             Way::Beside(sender, thread) => {
                 drop(sender);
-                thread.join().expect("nobody stores the table")
+                thread.join().map_err(|_| unstored(Sync::Second))?
             }
         };
         if storer.insist(table, signals) {
             return Ok(());
         }
-        let lost = match storer.sync {
-            Sync::Always => "Every write that was answered is in the file.",
-            Sync::Second => "The changes since the last store are lost.",
+        Err(unstored(storer.sync))
+    }
+}
+
+/// Says that the table was not stored at the end.
+fn unstored(sync: Sync) -> Failure {
+    let lost = match sync {
+        Sync::Always => "Every write that was answered is in the file.",
+        Sync::Second => "The changes since the last store are lost.",
+    };
+    format!("ended before the table could be stored; the file is one whole table.\n{lost}")
+}
+
+#[cfg(test)]
+mod tests {
+    use super::*;
+
+    #[test]
+    fn a_store_thread_that_is_gone_is_told() {
+        let (sender, files) = sync_channel(1);
+        let thread = thread::spawn(move || {
+            drop(files);
+            std::panic::resume_unwind(Box::new("gone"))
+        });
+        while !thread.is_finished() {
+            thread::yield_now();
+        }
+        let (table, now) = (Table::fresh(), Instant::now());
+        let mut saver = Saver {
+            way: Way::Beside(sender, thread),
+            due: Some(now),
         };
-        Err(format!(
-            "ended before the table could be stored; the file is one whole table.\n{lost}"
-        ))
+        let told = saver.look(&table, now).unwrap_err();
+        assert!(told.contains("nobody stores the table"), "{told}");
+        let mut signals = Signals::new().unwrap();
+        let told = saver.finish(&table, &mut signals).unwrap_err();
+        assert!(told.contains("since the last store are lost"), "{told}");
     }
 }

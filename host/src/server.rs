@@ -8,9 +8,10 @@ use std::time::{Duration, Instant, SystemTime, UNIX_EPOCH};
 use crate::batch::{Batch, Rest};
 use crate::border::library::{write_error, Table};
 use crate::border::system::{Event, Poll, Signals, READABLE};
-use crate::command::PING;
+use crate::command::{ERROR, PING};
 use crate::connection::{is_later, Connection};
 use crate::failure::{because, plain, say, Failure};
+use crate::haste::{Haste, LOOK};
 use crate::limits::REPLY_ROOM;
 use crate::places::Places;
 use crate::saver::Saver;
@@ -26,10 +27,10 @@ const EVENTS: usize = 256;
 /// Connections taken in one turn.
 const ACCEPTS: usize = 64;
 /// Connections above the limit that are told so; further ones are closed.
-const TOLD: usize = 16;
+pub const TOLD: usize = 16;
 /// How often connections that are late are looked for.
 const TICK: Duration = Duration::from_secs(1);
-/// How often a limit that is met is told.
+/// How often it is told that nobody is taken.
 const TELL_EVERY: Duration = Duration::from_secs(60);
 
 pub struct Limits {
@@ -46,14 +47,19 @@ pub struct Server {
     places: Places,
     /// The connections that are to be served next.
     queue: Vec<usize>,
+    haste: Haste,
+    /// Whether to look for further requests before it sleeps.
+    looks: bool,
     batch: Batch,
     table: Table,
     saver: Saver,
     next_tick: Instant,
     /// Whether the listener waits for the next tick.
     deaf: bool,
-    /// When a limit that is met may be told again.
-    tell_at: Instant,
+    /// When it may be told again that the limit is met.
+    tell_full_at: Instant,
+    /// When it may be told again that callers wait.
+    tell_deaf_at: Instant,
 }
 
 /// The system's UNIX time, as far as the library's seconds go.
@@ -84,28 +90,56 @@ impl Server {
             listener,
             places: Places::default(),
             queue: Vec::new(),
+            haste: Haste::new(now),
+            looks: false,
             batch: Batch::default(),
             table,
             saver,
             next_tick: now,
             deaf: false,
-            tell_at: now,
+            tell_full_at: now,
+            tell_deaf_at: now,
         })
     }
 
-    /// Serves until a signal comes; then the table is stored.
+    /// Serves until a signal comes, or something fails without which nothing can
+    /// be served; then the table is stored.
     pub fn run(mut self) -> Result<(), Failure> {
+        let served = self.serve_all();
+        let stored = self.saver.finish(&self.table, &mut self.signals);
+        match (served, stored) {
+            (Err(one), Err(other)) => Err(format!("{one}\n{other}")),
+            (served, stored) => served.and(stored),
+        }
+    }
+
+    fn serve_all(&mut self) -> Result<(), Failure> {
         let mut events = [Event::NONE; EVENTS];
+        let mut now = Instant::now();
         loop {
-            let wait = self.waits(Instant::now());
             let count = self
-                .poll
-                .wait(&mut events, wait)
+                .wait(&mut events, now)
                 .map_err(|error| because("can't wait for connections", error))?;
-            if !self.turn(&events[..count]) {
-                return self.saver.finish(&self.table, &mut self.signals);
+            now = Instant::now();
+            if !self.turn(&events[..count], now)? {
+                return Ok(());
             }
         }
+    }
+
+    /// Waits until something happens or has to be done; answers how many events
+    /// there are. The time is that at which the turn began.
+    fn wait(&mut self, events: &mut [Event], now: Instant) -> io::Result<usize> {
+        if self.looks && self.queue.is_empty() {
+            let begin = Instant::now();
+            while begin.elapsed() < LOOK {
+                let count = self.poll.wait(events, Some(Duration::ZERO))?;
+                if count > 0 {
+                    return Ok(count);
+                }
+            }
+        }
+        self.poll.wait(events, self.waits(now))
     }
 
     /// How long nothing has to be done unless something happens.
@@ -113,15 +147,14 @@ impl Server {
         if !self.queue.is_empty() {
             return Some(Duration::ZERO);
         }
-        let tick = (self.places.count() > 0 || self.deaf).then_some(self.next_tick);
+        let tick = (self.places.taken() > 0 || self.deaf).then_some(self.next_tick);
         let due = [tick, self.saver.due()].into_iter().flatten().min()?;
         Some(due.saturating_duration_since(now))
     }
 
     /// One turn: what has come is read, served, stored where that is due, and
     /// answered. False where a signal came.
-    fn turn(&mut self, events: &[Event]) -> bool {
-        let now = Instant::now();
+    fn turn(&mut self, events: &[Event], now: Instant) -> Result<bool, Failure> {
         let (mut ended, mut callers) = (false, false);
         for event in events {
             match event.token() {
@@ -138,8 +171,8 @@ impl Server {
         if now >= self.next_tick {
             self.tick(now);
         }
-        self.saver.look(&self.table, now);
-        !ended
+        self.saver.look(&self.table, now)?;
+        Ok(!ended)
     }
 
     /// Reads from a connection and writes to it, as it is ready.
@@ -155,18 +188,18 @@ impl Server {
             moved = connection.receive(now);
         }
         match moved {
-            Ok(()) => self.settle(index),
+            Ok(()) => self.settle(index, now),
             Err(_) => self.places.close(index),
         }
     }
 
     /// Sees to what a connection needs next: to be served, to be waited for, or
     /// to be closed.
-    fn settle(&mut self, index: usize) {
+    fn settle(&mut self, index: usize, now: Instant) {
+        self.places.shut(index, now);
         let Some(connection) = self.places.get_mut(index) else {
             return;
         };
-        connection.shut();
         if connection.is_over() {
             self.places.close(index);
             return;
@@ -188,14 +221,19 @@ impl Server {
     /// Serves the queue in one call, and sends the replies when they may go
     /// out. False where a signal came before.
     fn serve(&mut self, now: Instant) -> bool {
+        self.looks = false;
         if self.queue.is_empty() {
             return true;
         }
+        self.looks = self.haste.served(self.queue.len(), now);
         self.serve_queue();
         if !self.saver.served(&self.table, &mut self.signals, now) {
             return false;
         }
-        let sent = Instant::now();
+        let mut sent = now;
+        if self.saver.delays() {
+            sent = Instant::now();
+        }
         if sent.duration_since(now) >= TICK {
             // Storing was waited for, which is nobody's idleness.
             self.places.begin_anew(sent);
@@ -206,20 +244,18 @@ impl Server {
 
     fn serve_queue(&mut self) {
         let second = second();
-        self.batch.begin();
         for index in &self.queue {
             if let Some(connection) = self.places.get_mut(*index) {
                 connection.queued = false;
             }
         }
         let places = &self.places;
-        let input = |index: &usize| Some((*index, places.get(*index)?.input.held()));
-        let mut inputs = self.queue.iter().filter_map(input);
-        if self.queue.len() > 1 {
-            self.batch.serve_together(inputs, &mut self.table, second);
-        } else if let Some((index, input)) = inputs.next() {
-            self.batch
-                .serve_alone(index, input, &mut self.table, second);
+        let input = |index: usize| Some(places.get(index)?.input.held());
+        let (batch, table) = (&mut self.batch, &mut self.table);
+        batch.begin();
+        match self.queue[..] {
+            [index] => batch.serve_alone(index, input(index).unwrap_or(&[]), table, second),
+            _ => batch.serve_together(&self.queue, input, table, second),
         }
         self.queue.clear();
     }
@@ -239,10 +275,10 @@ impl Server {
                 sent = connection.send(self.batch.replies_of(share), now);
             }
             if share.rest == Rest::Ended {
-                connection.leave(now);
+                connection.leave();
             }
             match sent {
-                Ok(()) => self.settle(share.connection),
+                Ok(()) => self.settle(share.connection, now),
                 Err(_) => self.places.close(share.connection),
             }
         }
@@ -257,7 +293,9 @@ impl Server {
                 Err(error) if error.kind() == io::ErrorKind::ConnectionAborted => {}
                 Err(error) if is_later(&error) => return,
                 Err(error) => {
-                    self.tell_limit(now, &plain(&error));
+                    if is_due(&mut self.tell_deaf_at, now) {
+                        say(because("callers wait, since none can be taken", error));
+                    }
                     self.listen(false);
                     return;
                 }
@@ -275,11 +313,11 @@ impl Server {
 
     /// Takes one connection; above the limit it is told so, or closed.
     fn take_in(&mut self, stream: TcpStream, now: Instant) {
-        let full = self.places.count() >= self.limits.connections;
+        let full = self.places.open() >= self.limits.connections;
         if full {
-            self.tell_limit(now, "--connections");
+            self.tell_full(now);
         }
-        if self.places.count() >= self.limits.connections + TOLD {
+        if self.places.taken() >= self.limits.connections + TOLD {
             return;
         }
         let mut connection = Connection::new(stream, now);
@@ -292,18 +330,20 @@ impl Server {
             ready = ready.and(self.poll.add(&connection.stream, index + FIRST, READABLE));
         }
         match ready {
-            Ok(()) => self.settle(index),
+            Ok(()) => self.settle(index, now),
             Err(_) => self.places.close(index),
         }
     }
 
-    /// Tells that a limit is met, at most once a minute.
-    fn tell_limit(&mut self, now: Instant, limit: &str) {
-        if now >= self.tell_at {
-            self.tell_at = now + TELL_EVERY;
+    /// Tells that the limit is met.
+    fn tell_full(&mut self, now: Instant) {
+        if is_due(&mut self.tell_full_at, now) {
+            let are = match self.places.open() {
+                1 => "1 connection is".to_string(),
+                count => format!("{count} connections are"),
+            };
             say(format!(
-                "{} connections are open, which is the limit ({limit}); others wait or are turned away",
-                self.places.count()
+                "{are} open, which is the limit (--connections); others are turned away"
             ));
         }
     }
@@ -315,24 +355,35 @@ impl Server {
             self.listen(true);
         }
         let idle = self.places.close_late(now, self.limits.idle);
-        if idle > 0 {
-            say(format!(
-                "{idle} connections were closed, since nothing moved there for the time of --idle"
-            ));
-        }
+        let were = match idle {
+            0 => return,
+            1 => "1 connection was".to_string(),
+            _ => format!("{idle} connections were"),
+        };
+        say(format!(
+            "{were} closed, since nothing moved there for the time of --idle"
+        ));
     }
 }
 
 /// Tells a client that there are too many, in an error reply of the library.
 fn turn_away(connection: &mut Connection, now: Instant) {
     const SERVER_ERROR: u64 = 0x85;
-    const ERROR: u64 = 0x50;
     let mut reply = [0; REPLY_ROOM];
-    let numbers = [0, ERROR, SERVER_ERROR, 0];
+    let numbers = [0, u64::from(ERROR), SERVER_ERROR, 0];
     if let Ok(size) = write_error(&mut reply, PING, &numbers, b"too many connections") {
         let _ = connection.send(&reply[..size], now);
     }
-    connection.leave(now);
+    connection.leave();
+}
+
+/// Whether something is to be told, which it then is not for a while.
+fn is_due(at: &mut Instant, now: Instant) -> bool {
+    let due = now >= *at;
+    if due {
+        *at = now + TELL_EVERY;
+    }
+    due
 }
 
 /// Listens at an address; answers also which one it is.

@@ -3,15 +3,15 @@
 //! entries.
 
 use std::fs::{self, File};
-use std::io::{ErrorKind, Read};
+use std::io::ErrorKind;
 use std::path::Path;
 
 use crate::border::library::{entries, read_reply, Found, Reply, Table};
 use crate::command::Command;
 use crate::date::date;
 use crate::failure::{because, Failure};
-use crate::keeper::broken;
-use crate::limits::{BULK_ROOM, LONGEST_FILE};
+use crate::keeper::{broken, read_table};
+use crate::limits::BULK_ROOM;
 use crate::server::second;
 use crate::words::{of_entry, NO_ENTRIES};
 
@@ -51,8 +51,6 @@ fn number(digits: &[u8]) -> u64 {
     u64::from_str_radix(digits, 16).expect("fq_load takes a line without numbers")
 }
 
-/// The bytes of the file, and one more than a stored table has at most where
-/// there are more.
 fn read(path: &Path) -> Result<Vec<u8>, Failure> {
     let shown = path.display();
     let kind = fs::metadata(path).map_err(|error| match error.kind() {
@@ -62,11 +60,9 @@ fn read(path: &Path) -> Result<Vec<u8>, Failure> {
     if !kind.is_file() {
         return Err(format!("the table {shown} is not a file"));
     }
-    let mut bytes = Vec::new();
     File::open(path)
-        .and_then(|file| file.take(LONGEST_FILE as u64 + 1).read_to_end(&mut bytes))
-        .map_err(|error| because(format!("can't read the table {shown}"), error))?;
-    Ok(bytes)
+        .and_then(read_table)
+        .map_err(|error| because(format!("can't read the table {shown}"), error))
 }
 
 /// The reply that lists all entries, in the order of their lines, and its bytes.

@@ -2,14 +2,11 @@
 
 use crate::border::library::{entries, Entry, Reply};
 use crate::command::{
-    BULK_GET, BULK_GET_KEYS, CLEAR, CONTAINS_KEY, GET, GET_WITH_VERSION, PING, PUT_IF_ABSENT,
-    REMOVE, REMOVE_IF_UNMODIFIED, REPLACE, STATS,
+    BULK_GET, BULK_GET_KEYS, CLEAR, CONTAINS_KEY, ERROR, GET, GET_WITH_VERSION, PING,
+    PUT_IF_ABSENT, REMOVE, REMOVE_IF_UNMODIFIED, REPLACE, STATS,
 };
 use crate::hex::to_digits;
 use crate::limits::STATISTICS;
-
-/// The operation code of an error reply.
-const ERROR: u8 = 0x50;
 
 /// How a call went.
 #[derive(Clone, Copy, Debug, PartialEq, Eq)]

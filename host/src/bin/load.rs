@@ -35,11 +35,6 @@ fn key(index: usize) -> Vec<u8> {
     format!("harbour/arrivals/berth-/{index:08}").into_bytes()
 }
 
-/// What is put before, between and behind a key and a value.
-fn joined(parts: &[&[u8]]) -> Vec<u8> {
-    parts.concat()
-}
-
 fn hot_rod(operation: u8, key: &[u8], value: &[u8]) -> Vec<u8> {
     let mut out = vec![0; LONGEST_REQUEST];
     let numbers = [1, 12, u64::from(operation), 0, 1, 0, 0, 0, 0, 0];
@@ -52,17 +47,18 @@ fn put(kind: &str, key: &[u8]) -> Pair {
     let (request, reply) = match kind {
         "hotrod" => (hot_rod(PUT, key, &VALUE), vec![0xa1, 1, 2, 0, 0]),
         "memcached" => (
-            joined(&[b"set ", key, b" 0 0 256\r\n", &VALUE, b"\r\n"]),
+            [&b"set "[..], key, b" 0 0 256\r\n", &VALUE, b"\r\n"].concat(),
             b"STORED\r\n".to_vec(),
         ),
         _ => (
-            joined(&[
-                b"*3\r\n$3\r\nSET\r\n$32\r\n",
+            [
+                &b"*3\r\n$3\r\nSET\r\n$32\r\n"[..],
                 key,
                 b"\r\n$256\r\n",
                 &VALUE,
                 b"\r\n",
-            ]),
+            ]
+            .concat(),
             b"+OK\r\n".to_vec(),
         ),
     };
@@ -73,15 +69,15 @@ fn get(kind: &str, key: &[u8]) -> Pair {
     let (request, reply) = match kind {
         "hotrod" => (
             hot_rod(GET, key, &[]),
-            joined(&[&[0xa1, 1, 4, 0, 0, 0x80, 2], &VALUE]),
+            [&[0xa1, 1, 4, 0, 0, 0x80, 2][..], &VALUE].concat(),
         ),
         "memcached" => (
-            joined(&[b"get ", key, b"\r\n"]),
-            joined(&[b"VALUE ", key, b" 0 256\r\n", &VALUE, b"\r\nEND\r\n"]),
+            [&b"get "[..], key, b"\r\n"].concat(),
+            [&b"VALUE "[..], key, b" 0 256\r\n", &VALUE, b"\r\nEND\r\n"].concat(),
         ),
         _ => (
-            joined(&[b"*2\r\n$3\r\nGET\r\n$32\r\n", key, b"\r\n"]),
-            joined(&[b"$256\r\n", &VALUE, b"\r\n"]),
+            [&b"*2\r\n$3\r\nGET\r\n$32\r\n"[..], key, b"\r\n"].concat(),
+            [&b"$256\r\n"[..], &VALUE, b"\r\n"].concat(),
         ),
     };
     Pair { request, reply }

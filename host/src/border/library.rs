@@ -271,7 +271,7 @@ pub struct Served {
     pub taken: usize,
     /// Bytes of the replies.
     pub replied: usize,
-    /// How many requests were answered.
+    /// How many calls were made.
     pub calls: usize,
 }
 

@@ -1,7 +1,7 @@
-//! The system calls that the standard library lacks: epoll, and signals as a
-//! file that becomes readable.
+//! The system calls that the standard library lacks: epoll, signals as a file
+//! that becomes readable, and how many files may be open.
 
-use std::ffi::c_int;
+use std::ffi::{c_int, c_ulong};
 use std::fs::File;
 use std::io::{self, Read};
 use std::os::fd::{AsFd, AsRawFd, BorrowedFd, FromRawFd, OwnedFd};
@@ -19,6 +19,8 @@ const MODIFY: c_int = 3;
 const BLOCK: c_int = 0;
 const INTERRUPT: c_int = 2;
 const TERMINATE: c_int = 15;
+/// The number of the limit on open files.
+const FILES: c_int = 7;
 
 /// An event as the system writes it: what happened, and where.
 #[derive(Clone, Copy)]
@@ -51,6 +53,14 @@ impl Event {
     }
 }
 
+/// A limit as the system writes it: the one that holds, and how far it may be
+/// raised.
+#[repr(C)]
+struct Bound {
+    holds: c_ulong,
+    most: c_ulong,
+}
+
 /// A set of signals, as large as the system's libraries have it.
 type SignalSet = [u64; 16];
 
@@ -62,6 +72,8 @@ extern "C" {
     fn sigaddset(set: *mut SignalSet, signal: c_int) -> c_int;
     fn pthread_sigmask(how: c_int, set: *const SignalSet, old: *mut SignalSet) -> c_int;
     fn signalfd(fd: c_int, set: *const SignalSet, flags: c_int) -> c_int;
+    fn getrlimit(which: c_int, bound: *mut Bound) -> c_int;
+    fn setrlimit(which: c_int, bound: *const Bound) -> c_int;
 }
 
 /// A result of the system: below 0 is an error.
@@ -72,11 +84,37 @@ fn checked(result: c_int) -> io::Result<c_int> {
     Ok(result)
 }
 
+/// Changes which signals this thread and those that it begins leave waiting.
+fn mask(how: c_int, set: &SignalSet) -> io::Result<()> {
+    // SAFETY: the set is lent for the call.
+    match unsafe { pthread_sigmask(how, set, std::ptr::null_mut()) } {
+        0 => Ok(()),
+        error => Err(io::Error::from_raw_os_error(error)),
+    }
+}
+
 /// Takes a file that the system has just opened for us.
 fn owned(result: c_int) -> io::Result<OwnedFd> {
     let fd = checked(result)?;
     // SAFETY: the file is open, and nobody else has it.
     Ok(unsafe { OwnedFd::from_raw_fd(fd) })
+}
+
+/// Lets as many files be open as the system permits; answers how many that are.
+pub fn raise_files() -> io::Result<u64> {
+    let mut bound = Bound { holds: 0, most: 0 };
+    // SAFETY: the bound is lent for each call.
+    unsafe {
+        checked(getrlimit(FILES, &mut bound))?;
+        let raised = Bound {
+            holds: bound.most,
+            most: bound.most,
+        };
+        if checked(setrlimit(FILES, &raised)).is_ok() {
+            bound = raised;
+        }
+    }
+    Ok(bound.holds)
 }
 
 /// Files that are waited for together.
@@ -152,7 +190,7 @@ impl Signals {
             checked(sigemptyset(&mut set))?;
             checked(sigaddset(&mut set, INTERRUPT))?;
             checked(sigaddset(&mut set, TERMINATE))?;
-            checked(pthread_sigmask(BLOCK, &set, std::ptr::null_mut()))?;
+            mask(BLOCK, &set)?;
             owned(signalfd(-1, &set, CLOEXEC | NONBLOCK))?
         };
         let poll = Poll::new()?;
@@ -179,5 +217,16 @@ impl Signals {
 impl AsFd for Signals {
     fn as_fd(&self) -> BorrowedFd<'_> {
         self.file.as_fd()
+    }
+}
+
+#[cfg(test)]
+mod tests {
+    use super::*;
+
+    #[test]
+    fn a_mask_that_is_refused_is_an_error() {
+        let refused = mask(99, &[0; 16]).map_err(|error| error.kind());
+        assert_eq!(refused, Err(io::ErrorKind::InvalidInput));
     }
 }

@@ -8,7 +8,7 @@ use std::time::{Duration, Instant};
 
 use super::json::of_entries;
 use crate::border::library::entries;
-use crate::client::receive;
+use crate::client::{connect, receive};
 use crate::command::Command;
 use crate::failure::{because, Failure};
 use crate::limits::LONGEST_BULK;
@@ -67,7 +67,8 @@ impl Source {
     fn ask(&mut self) -> Result<String, Failure> {
         let mut stream = match self.stream.take() {
             Some(stream) => stream,
-            None => connect(&self.server)?,
+            None => connect(&self.server, PATIENCE)
+                .map_err(|error| because("can't reach the server", error))?,
         };
         let command = Command::list();
         stream
@@ -80,14 +81,4 @@ impl Source {
         self.stream = Some(stream);
         Ok(of_entries(entries(&self.bytes, &reply, true)))
     }
-}
-
-fn connect(server: &SocketAddr) -> Result<TcpStream, Failure> {
-    TcpStream::connect_timeout(server, PATIENCE)
-        .and_then(|stream| {
-            stream.set_read_timeout(Some(PATIENCE))?;
-            stream.set_write_timeout(Some(PATIENCE))?;
-            Ok(stream)
-        })
-        .map_err(|error| because("can't reach the server", error))
 }

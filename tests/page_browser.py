@@ -9,7 +9,7 @@ import tempfile
 import threading
 import time
 
-from board_frames import GET, PUT, REMOVE
+from board_frames import GET, PING, PUT, REMOVE
 from host_page import HOSTILE, Shown, is_text, rest
 from host_run import Bench, SECONDS, demand, run_part
 
@@ -168,7 +168,8 @@ def views(bench, browser):
         for size in ('wall', 'upright'):
             same(browser.look(host, f'full-{size}', size), (rows_of(full), '', 'Live, 128 entries'), f'a full table, {size}')
         browser.look(host, 'full-later', milliseconds=12_000)
-    with Shown(bench.table('away'), '--connections', '0') as host:
+    with Shown(bench.table('away'), '--connections', '1') as host, host.connect() as only:
+        only.call(PING)
         same(browser.look(host, 'away', steps={1: lambda: True}), ([], 'The server does not answer.', 'It is asked again each second.'), 'a server that is away')
     return browser.count
 

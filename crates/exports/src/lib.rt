@@ -172,7 +172,7 @@ pub extern "C" fn fq_write_statistics(out: &mut [u8], id: u64, numbers: &[u64]) 
 pub extern "C" fn fq_is_table(table: &[u8]) -> bool
     ensures { λ r. ⌜ Says r (Sound (now (table .entry))) ⌝ }
 {
-    table::is_table(table)
+    soundness::is_table(table)
 }
 
 // Makes the memory a fresh table.

@@ -205,7 +205,7 @@ pub fn store_next(table: &[u8], out: &mut [u8], line: usize) -> NextStore
     if out.len() < NextStore::ROOM {
         return NextStore::Refused(12);
     }
-    if !table::is_table(table) {
+    if !soundness::is_table(table) {
         return NextStore::Refused(13);
     }
     let count = table::count(table);

@@ -41,7 +41,7 @@ pub fn serve(input: &[u8], table: &mut [u8], second: u32, reply: &mut [u8]) -> A
     if reply.len() < Answer::ROOM {
         return act::unsent(0, Verdict::Refused(12));
     }
-    if !table::is_table(table) {
+    if !soundness::is_table(table) {
         return act::unsent(0, Verdict::Refused(13));
     }
     call_at(input, 0, table, second, reply, 0)
@@ -107,7 +107,7 @@ pub fn serve_stream(input: &[u8], table: &mut [u8], second: u32, reply: &mut [u8
     if reply.len() < Answer::ROOM {
         return all_calls(0, 0, 1, Verdict::Refused(12));
     }
-    if !table::is_table(table) {
+    if !soundness::is_table(table) {
         return all_calls(0, 0, 1, Verdict::Refused(13));
     }
     let mut taken: usize = 0;
@@ -162,7 +162,7 @@ pub fn serve_line(line: &[u8], table: &mut [u8], out: &mut [u8]) -> Lined
     if out.len() < Fed::ROOM {
         return Lined::Refused(12);
     }
-    if !table::is_table(table) {
+    if !soundness::is_table(table) {
         return Lined::Refused(13);
     }
     Lined::Written(lines::line_sound(line, table, out, 0))
@@ -182,7 +182,7 @@ pub fn serve_lines(
     if out.len() < Fed::ROOM {
         return Served::Refused(12);
     }
-    if !table::is_table(table) {
+    if !soundness::is_table(table) {
         return Served::Refused(13);
     }
     Served::Fed(lines::feed(input, table, out, passing, last))

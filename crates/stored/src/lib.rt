@@ -102,7 +102,7 @@ fn write_file(t: &[u8], out: &mut [u8]) -> usize
 pub fn store(t: &[u8], out: &mut [u8]) -> Sent
     ensures { λ r. ⌜ Storing form1 (now (t .entry)) (now (out .entry)) (asSent r) (now (out .exit)) ⌝ }
 {
-    if !table::is_table(t) {
+    if !soundness::is_table(t) {
         return Sent::Refused(13);
     }
     if out.len() < file_len(t) {

@@ -3,7 +3,6 @@ pub mod Parts
 pub mod RowLaws
 pub mod Regions
 pub mod Places
-pub mod Seen
 pub mod Order
 pub mod Writes
 pub mod Bounds
@@ -14,8 +13,6 @@ pub mod Changes
 pub mod Answers
 pub mod Compare
 pub mod Keys
-pub mod Marks
-pub mod SoundLaws
 pub mod Behind
 pub mod Restores
 pub mod HasForm

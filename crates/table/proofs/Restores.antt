@@ -25,7 +25,6 @@ use Rattle.table.specs.Sweep.{noBound}
 use Rattle.map.proofs.Each.{each-map, each-add, pairs-add}
 use Rattle.table.proofs.Order.{each-at}
 use Rattle.table.proofs.RowLaws.{length-entries}
-use Rattle.table.proofs.SoundLaws.{version-is}
 use Rattle.table.proofs.Answers.{taken, left, row-fits, room-is}
 use Rattle.table.proofs.Writes.{entry-long}
 use Rattle.table.proofs.Bounds.{lowered-long}
@@ -66,20 +65,16 @@ module _ (x : ℕ) (t : List ℕ) where
   unfolding started
   started-large l = left t bare may-start (rw (lt-leb x lastVersion l, and-false))
 
--- the version of the last row
-module _ (t : List ℕ) (h : length t ≡ size) where
-  pub newest-none : countOf t ≡ 0 → 0 ≡ newest (stateOf t .entries)
+-- the version of the last entry
+module _ (t : List ℕ) where
+  pub newest-none : length (stateOf t .entries) ≡ 0 → 0 ≡ newest (stateOf t .entries)
   unfolding newest entry
   newest-none e =
-      sym
-      (ap (λ (x : Entry). x .version)
-      (List·getD-eq-default (stateOf t .entries) (entry [] [] 0 0) {n = length (stateOf t .entries) - 1} (omega (arith, length-entries t h))))
+      sym (ap (λ (x : Entry). x .version) (List·getD-eq-default (stateOf t .entries) (entry [] [] 0 0) {n = length (stateOf t .entries) - 1} (omega arith)))
 
-  pub newest-row : (n : ℕ) → n ≡ countOf t → 0 < n → be8 t (rowAt t (n - 1)) ≡ newest (stateOf t .entries)
+  pub newest-last : (n : ℕ) → n ≡ length (stateOf t .entries) → entryAt t (n - 1) .version ≡ newest (stateOf t .entries)
   unfolding newest entryAt
-  newest-row n e l =
-      sym (version-is t h (n - 1) (omega arith))
-      ∙ ap (λ (i : ℕ). entryAt t i .version) (omega (arith, length-entries t h))
+  newest-last n e = ap (λ (i : ℕ). entryAt t (i - 1) .version) e
 
 -- the tests of `restore`
 module _ (k v : List ℕ) (d : ℕ) where

@@ -5,6 +5,4 @@ pub mod Compare
 pub mod Change
 pub mod Write
 pub mod Sweep
-pub mod Mark
-pub mod Check
 pub mod Form

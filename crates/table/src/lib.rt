@@ -1,8 +1,7 @@
 // The table in memory that the caller lends. Every function takes memory of any length and any bytes.
-mod check;
 mod expiry;
+mod fits;
 mod history;
-mod mark;
 mod number;
 mod rows;
 
@@ -12,14 +11,13 @@ use message::Operation;
 use statistics::Statistics;
 ghost use mathlib.Core.Path.{_≡_};
 ghost use mathlib.Core.Bool.{not};
-ghost use Prim.Native.Nat.{_+_, _≤_};
 ghost use lib.ListN.{length};
-ghost use Rattle.table.specs.Memory.{rowWidth, stateOf, Sound};
+ghost use Rattle.table.specs.Memory.{stateOf};
 ghost use Rattle.map.specs.Step as map;
 ghost use Rattle.map.specs.Deadline.{expired, standing};
 ghost use Rattle.statistics.specs.Statistics.{listOf};
 ghost use Rattle.table.specs.Compare.{compared};
-ghost use Rattle.table.specs.Found.{entryAt, FoundIs, NumberAt, Tells};
+ghost use Rattle.table.specs.Found.{entryAt, FoundIs, headerNumber, rowNumber};
 ghost use Rattle.table.specs.Sweep.{isDue};
 ghost use Rattle.table.specs.Change.{doneOr, Answers, AnswersBy, made, started, added, restored, renewed, removed, cleared, arrived};
 
@@ -184,35 +182,17 @@ pub fn start(t: &mut [u8], last: EntryVersion) -> bool
     true
 }
 
-// Whether the memory is a sound table.
-pub fn is_table(t: &[u8]) -> bool
-    ensures { λ r. ⌜ Tells r (Sound (now (t .entry))) ⌝ }
+// Number i of the header; 0 where it has none, and in memory of another length.
+pub fn header(t: &[u8], i: usize) -> u64
+    ensures { λ r. ⌜ r ≡ headerNumber (now (t .entry)) i ⌝ }
 {
     if t.len() != Table::SIZE {
-        return false;
+        return 0;
     }
-    if rows::header(t, Table::COUNT) > Table::KEYS as u64 {
-        return false;
+    if i > Table::BOUND {
+        return 0;
     }
-    if rows::header(t, Table::LAST) > Table::LAST_VERSION {
-        return false;
-    }
-    if !check::seconds_within(t) {
-        return false;
-    }
-    if !check::counts_within(t) {
-        return false;
-    }
-    if !check::is_permutation(t) {
-        return false;
-    }
-    if !check::all_within(t) {
-        return false;
-    }
-    if !check::rising(t) {
-        return false;
-    }
-    check::differ(t)
+    rows::header(t, i)
 }
 
 // How many entries are held.
@@ -286,29 +266,41 @@ pub fn value_at(t: &[u8], i: usize) -> &[u8]
     &t[0..0]
 }
 
-// The number at offset o of the row of entry i; that of one that is not held is 0.
-fn number_at(t: &[u8], i: usize, o: usize) -> u64
-    requires { ⌜ o + 8 ≤ rowWidth ⌝ }
-    ensures { λ r. ⌜ NumberAt (now (t .entry)) i o r ⌝ }
+// The number at offset o of the row that place i names; 0 where there is no such place, where the number does not lie within the row, and in memory of
+// another length.
+pub fn number_at(t: &[u8], i: usize, o: usize) -> u64
+    ensures { λ r. ⌜ r ≡ rowNumber (now (t .entry)) i o ⌝ }
 {
-    if i < count(t) {
-        return number::get64(t, rows::row_at(t, i) + o);
+    if t.len() != Table::SIZE {
+        return 0;
     }
-    0
+    if i >= Table::KEYS {
+        return 0;
+    }
+    if o > Row::WIDTH - Table::NUMBER {
+        return 0;
+    }
+    number::get64(t, rows::row_at(t, i) + o)
 }
 
-// Its version; that of one that is not held is 0.
+// The version of entry i; that of one that is not held is 0.
 pub fn version_at(t: &[u8], i: usize) -> EntryVersion
     ensures { λ r. ⌜ r .0 ≡ entryAt (now (t .entry)) i .version ⌝ }
 {
-    EntryVersion(number_at(t, i, Row::VERSION_START))
+    if i < count(t) {
+        return EntryVersion(number_at(t, i, Row::VERSION_START));
+    }
+    EntryVersion(0)
 }
 
 // Its deadline; that of one that is not held is 0.
 pub fn deadline_at(t: &[u8], i: usize) -> Second
     ensures { λ r. ⌜ r .0 ≡ entryAt (now (t .entry)) i .deadline ⌝ }
 {
-    Second(number_at(t, i, Row::DEADLINE_START))
+    if i < count(t) {
+        return Second(number_at(t, i, Row::DEADLINE_START));
+    }
+    Second(0)
 }
 
 // Whether entry i stands at a second: its deadline is 0 or above it. One that is not held has the deadline 0.
@@ -342,10 +334,10 @@ pub fn is_due(t: &[u8], second: Second) -> bool
 pub fn add(t: &mut [u8], key: &[u8], value: &[u8], deadline: Second) -> bool
     ensures { λ r. ⌜ Answers (now (t .entry)) (added (now (key .entry)) (now (value .entry)) (deadline .0) (now (t .entry))) r (now (t .exit)) ⌝ }
 {
-    if !check::fits_row(key, value) {
+    if !fits::fits_row(key, value) {
         return false;
     }
-    if !check::has_room(t) {
+    if !fits::has_room(t) {
         return false;
     }
     if last(t).0 >= Table::LAST_VERSION {
@@ -366,10 +358,10 @@ pub fn restore(
 ) -> bool
     ensures { λ r. ⌜ Answers (now (t .entry)) (restored (now (key .entry)) (now (value .entry)) (version .0) (deadline .0) (now (t .entry))) r (now (t .exit)) ⌝ }
 {
-    if !check::fits(key, value, deadline) {
+    if !fits::fits(key, value, deadline) {
         return false;
     }
-    if !check::follows(t, key, version) {
+    if !fits::follows(t, key, version) {
         return false;
     }
     rows::restore(t, key, value, version, deadline);

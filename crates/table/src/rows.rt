@@ -17,8 +17,7 @@ ghost use Rattle.wire.specs.Write.{part};
 ghost use Rattle.table.specs.Bytes.{be8};
 ghost use Rattle.table.specs.Memory.{headCount, countIndex, lastIndex, rowWidth, size, numberOf, rowAt, entryOf, countOf};
 ghost use Rattle.table.specs.Write.{withNumber, withNone, turned, less, inOrder, withKey, withValue, withEntry};
-ghost use Rattle.table.specs.Found.{Tells};
-ghost use Rattle.table.specs.Check.{Has, FoundFrom};
+ghost use Rattle.table.specs.Found.{Has, FoundFrom, Tells};
 
 // Number i of the header.
 pub(crate) fn header(t: &[u8], i: usize) -> u64

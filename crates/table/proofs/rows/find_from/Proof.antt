@@ -4,7 +4,7 @@ use Prim.Native.Nat.{ℕ, _-_, _≤_, _<_}
 use native.Mathlib.Omega.{arith}
 use borrow.Author.Count.{below-more}
 use Rattle.table.specs.Memory.{countOf}
-use Rattle.table.specs.Check.{Has}
+use Rattle.table.specs.Found.{Has}
 use Rattle.table.proofs.Lists.{refuted}
 use Rattle.table.proofs.rows.find_from.Statement.{statement}
 use Rattle.table.proofs.rows.find_from.Tie as tie

@@ -1,0 +1,4 @@
+pub mod Seen
+pub mod KeyLaws
+pub mod Marks
+pub mod SoundLaws

@@ -2,20 +2,19 @@
 use mathlib.Core.Path.{_≡_, sym, ap, _∙_, subst}
 use mathlib.Core.List.{List, []}
 use mathlib.Core.Logic.{⊎-elim}
-use Prim.Native.Nat.{ℕ, zero, suc, _+_, _≤_, _<_, _^_, min}
+use Prim.Native.Nat.{ℕ, zero, suc, _+_, _≤_, _<_, min}
 use native.Mathlib.Omega.{arith}
 use borrow.Author.Count.{below-more}
 use lib.ListN.{length, List·getD-eq-default}
 use Rattle.wire.specs.Codec.{Bytes}
 use Rattle.wire.proofs.Laws.{is-bytes, bytes-part}
-use Rattle.wire.proofs.FieldLaws.{big-small}
 use Rattle.message.specs.Request.{keyLimit, valueLimit}
 use Rattle.map.specs.History.{startOf}
 use Rattle.map.specs.State.{Entry}
 use Rattle.map.specs.Step.{mostKeys, lastVersion}
 use Rattle.map.specs.Table.{Each, Pairs, Sizes, OtherKey, OtherVersion, Issued, Counts, lastSecond, Seconds, Ascending}
 use Rattle.table.specs.Bytes.{be8, upto}
-use Rattle.table.specs.Memory.{countIndex, firstIndex, countsIndex, boundIndex, keyLengthStart, valueLengthStart, numberAt, size, numberOf, firstOf, rowAt, entry, entryOf, countOf, historyOf, stateOf, Permutation, Bounded, Sound}
+use Rattle.table.specs.Memory.{countIndex, firstIndex, countsIndex, boundIndex, keyLengthStart, valueLengthStart, size, numberOf, firstOf, rowAt, entry, entryOf, countOf, historyOf, stateOf, Permutation, Bounded, Sound}
 use Rattle.table.specs.Found.{entryAt, rowNumber}
 use Rattle.soundness.specs.Check.{entryCount, Within, AllWithin, Rising, Differ, CountsWithin, SecondsWithin}
 use Rattle.table.proofs.Lists.{lt-or-ge, length-upto, getD-upto}
@@ -65,11 +64,7 @@ sizes-are t i l b x w =
       deadline = omega (arith, w .deadline, number-held t i 8 l (omega arith));
     })
 
--- the numbers of the header
-number-most : (t : List ℕ) (i : ℕ) → Bytes t → numberOf t i < 2 ^ 64
-unfolding numberOf
-number-most t i b = big-small 8 t (numberAt i) b
-
+-- the counts and the seconds of the header
 counts-within : (t : List ℕ) → CountsWithin t → Counts (historyOf t)
 unfolding historyOf
 counts-within t n =
@@ -129,7 +124,6 @@ module _ (t : List ℕ) (h : length t ≡ size) (counted : numberOf t countIndex
         form = record {
           long = h;
           counted = counted;
-          first = number-most t firstIndex b;
           places = p;
           lengths = lengths;
           order = by-pairs (λ e f. e .version < f .version) rises;

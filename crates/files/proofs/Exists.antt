@@ -37,11 +37,10 @@ use Rattle.table.proofs.Lists.{lt-or-ge}
 use Rattle.wire.specs.Write.{part}
 use Rattle.table.specs.Memory.{stateOf, Sound}
 use Rattle.table.specs.Form.{form}
-use Rattle.table.proofs.HasForm.{FirstHeld, has-form}
+use Rattle.table.proofs.HasForm.{has-form}
 use Rattle.service.specs.Serve.{errorPieces, onStep, onRead}
 use Rattle.service.specs.Stream.{Becomes}
 use Rattle.service.proofs.Decides.{decSound}
-use Rattle.service.proofs.Exist.{sound-first, keeps-first}
 use Rattle.server.specs.declared.Fed.{Fed}
 use Rattle.server.specs.declared.Served.the-variants as served
 use Rattle.server.specs.Lines.{fedOf, TurnsDone}
@@ -54,11 +53,10 @@ use Rattle.files.proofs.Progress.{serves-file}
 use Rattle.server.proofs.TurnLaws.{tame}
 use Rattle.server.proofs.SendLaws.{id-small}
 
--- a state that a table can hold, in its order, with a first second that memory holds
+-- a state that a table can hold, in its order
 record Fit (st : State) : Type 0 where
   table : IsTable st
   order : Ascending (st .entries)
-  first : FirstHeld st
 
 -- a line given that has room, and the state behind it
 record Fits (st : State) (g : Given) : Type 0 where
@@ -76,7 +74,7 @@ module _ (c : Context) (h : c .second < 0x1_0000_0000) (st : State) (f : Fit st)
   outcome-fits r n v (answered a t) e g =
       let k = keeps c r st (f .table) a t e v h (f .order) in
       let m = answer-longest c r st a t v (f .table) h e in
-      record { fit = record { table = k .0; order = k .1; first = keeps-first c r st a t e h (f .first) }; short = omega (arith, hex-length (flat (pieces r a))) }
+      record { fit = record { table = k .0; order = k .1 }; short = omega (arith, hex-length (flat (pieces r a))) }
 
   frame-fits : (bs : List ℕ) → Bytes bs → (x : Read Request) → request .dec bs ≡ x → Fits st (onFrame (record { context = c; frame = bs }) st x)
   unfolding onFrame onRead
@@ -164,7 +162,7 @@ turns-exist (suc n) last p s st room f h = turns-from last p s st room f (λ p u
 -- a table that is left
 leaves : (t : List ℕ) (o : Option State) → Fit (stateLeft (stateOf t) o) → (t′ : List ℕ) × Becomes t o t′
 leaves t none f = (t, refl)
-leaves t (some st) f = let m = has-form st (f .table) (f .order) (f .first) in (form st, (m .state, m .sound))
+leaves t (some st) f = let m = has-form st (f .table) (f .order) in (form st, (m .state, m .sound))
 
 -- what can be done, for each case of what is given
 module _ (buf t out : List ℕ) (s : Window) where
@@ -192,7 +190,7 @@ module _ (buf t out : List ℕ) (s : Window) where
   serve : Ready buf t out s → Answers buf t out s
   serve r =
       let d = r .sound in
-      let e = turns-exist (suc (length (inside buf s))) (s .ended) (s .carried) (inside buf s) (stateOf t) (length out) (record { table = d .table; order = d .form .order; first = sound-first t d }) (omega arith) in
+      let e = turns-exist (suc (length (inside buf s))) (s .ended) (s .carried) (inside buf s) (stateOf t) (length out) (record { table = d .table; order = d .form .order }) (omega arith) in
       let x : Turn = e .turn in
       let m = leaves t (x .next) (e .fits .fit) in
       let u : TurnsDone (s .ended) (s .carried) (inside buf s) t out (served.Fed (fedOf x)) (sets out 0 (x .text)) (m .0) =

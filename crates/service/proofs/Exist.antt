@@ -3,7 +3,7 @@ use mathlib.Core.Path.{_≡_, refl}
 use mathlib.Core.List.{List, [], _∷_}
 use mathlib.Core.Bool.{Bool, true, false, cond}
 use mathlib.Core.Option.{Option, none, some}
-use Prim.Native.Nat.{ℕ, zero, suc, _<_, _^_}
+use Prim.Native.Nat.{ℕ, _<_}
 use native.Mathlib.Omega.{arith}
 use lib.ListN.{length, drop}
 use lib.Seq.{sets}
@@ -12,23 +12,20 @@ use Rattle.wire.specs.Codec as wire
 use Rattle.wire.specs.Codec.{Read, Valid, Bytes}
 use Rattle.message.specs.Request.{Request, request}
 use Rattle.message.proofs.RequestLaws.{request-laws}
-use Rattle.map.specs.History.{startOf}
 use Rattle.map.specs.State.{State}
 use Rattle.map.specs.Table.{Each, IsTable, Ascending}
 use Rattle.map.specs.Step as map-step
 use Rattle.map.specs.Step.{Context, Outcome, answered, step}
 use Rattle.map.specs.Reply.{flat}
 use Rattle.map.proofs.Keeps.{keeps}
-use Rattle.map.proofs.CountLaws.{first-step}
 use Rattle.map.proofs.Sent as sent
-use Rattle.table.specs.Memory.{firstIndex, numberOf, firstOf, historyOf, stateOf, Sound}
+use Rattle.table.specs.Memory.{stateOf, Sound}
 use Rattle.service.specs.Serve.{Effect, more, refused, unchanged, onStep, onRead, serve, room, within}
 use Rattle.service.specs.Stream.{Call, Done, Becomes, Serves, Run, run-end, run-call}
 use Rattle.service.specs.Demand3.{after, call}
 use Rattle.wire.proofs.Laws.{bytes-drop}
-use Rattle.table.specs.Form.{firstNumber, form}
-use Rattle.table.proofs.RowLaws.{history-is}
-use Rattle.table.proofs.HasForm.{FirstHeld, has-form}
+use Rattle.table.specs.Form.{form}
+use Rattle.table.proofs.HasForm.{has-form}
 use Rattle.service.proofs.Decides.{isSound}
 use Rattle.service.proofs.Sounds.{is-sound, tells-sound, effectIn}
 use Rattle.service.proofs.Calls.{within-has}
@@ -38,35 +35,17 @@ abbrev InRange : List Call → Type 0
 InRange [] = Unit {0}
 InRange (c ∷ cs) = (c .context .second < 0x1_0000_0000) × InRange cs
 
--- a state that a table can hold, in its order, with a first second that memory can hold
+-- a state that a table can hold, in its order
 abbrev Fits : Option State → Type 0
 Fits none = Unit {0}
-Fits (some st) = IsTable st × Ascending (st .entries) × FirstHeld st
-
-first-number : (n : ℕ) → firstNumber (firstOf n) ≡ n
-first-number zero = refl
-first-number (suc n) = refl
-
-pub sound-first : (t : List ℕ) → Sound t → FirstHeld (stateOf t)
-unfolding historyOf
-sound-first t s = rw (history-is t (s .form .long), first-number (numberOf t firstIndex)) (s .form .first)
-
--- the first second is one that a table held, or that of a call
-pub keeps-first : (c : Context) (r : Request) (st : State) (a : map-step.Result) (t : State) → step c r st ≡ answered a t → c .second < 0x1_0000_0000
-    → FirstHeld st → FirstHeld t
-keeps-first c r st a t e h f = rw (first-step c r st a t e) (go (st .history .first) f)
-  where
-    go : (o : Option ℕ) → firstNumber o < 2 ^ 64 → suc (startOf o (c .second)) < 2 ^ 64
-    go none q = omega arith
-    go (some n) q = q
+Fits (some st) = IsTable st × Ascending (st .entries)
 
 module _ (input : List ℕ) (b : Bytes input) (c : Context) (h : c .second < 0x1_0000_0000) (t : List ℕ) (s : Sound t) where
   fits-step : (r : Request) (n : ℕ) → Valid request r → (o : Outcome) → step c r (stateOf t) ≡ o → Fits (onStep r n o .next)
   unfolding onStep
   fits-step r n v (map-step.refused k) e = tt
   fits-step r n v (answered a st) e =
-      let k = keeps c r (stateOf t) (s .table) a st e v h (s .form .order) in
-      (k .0, k .1, keeps-first c r (stateOf t) a st e h (sound-first t s))
+      keeps c r (stateOf t) (s .table) a st e v h (s .form .order)
 
   fits-read : (x : Read Request) → request .dec input ≡ x → Fits (onRead input c (stateOf t) x .next)
   unfolding onRead unchanged
@@ -93,7 +72,7 @@ left old (some st) = form st
 left-is : (old : List ℕ) (n : Option State) → Fits n → Becomes old n (left old n)
 unfolding left
 left-is old none f = refl
-left-is old (some st) f = let x = has-form st (f .0) (f .1) (f .2) in (x .state, x .sound)
+left-is old (some st) f = let x = has-form st (f .0) (f .1) in (x .state, x .sound)
 
 unfoldable doing : List ℕ → List ℕ → Call → Done
 doing input t c =

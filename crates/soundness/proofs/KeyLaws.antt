@@ -17,10 +17,10 @@ use Rattle.table.specs.Found.{entryAt, rowNumber}
 use Rattle.table.proofs.Parts.{length-part, getD-part}
 use Rattle.table.proofs.RowLaws.{entry-is, count-most}
 use Rattle.table.proofs.Answers.{held-row, number-held}
-use Rattle.soundness.specs.Check.{held, KeyLength}
+use Rattle.soundness.specs.Check.{entryCount, KeyLength}
 use Rattle.soundness.specs.Mark.{endOf}
 
-module _ (t : List ℕ) (i : ℕ) (l : i < held t) where
+module _ (t : List ℕ) (i : ℕ) (l : i < entryCount t) where
   abbrev key : List ℕ
   key = entryAt t i .key
 

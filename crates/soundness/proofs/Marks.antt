@@ -11,7 +11,7 @@ use lib.ListN.{length, getD, set, replicate, length-set, length-replicate}
 use lib.Seq.{getD-set-same, getD-set-other}
 use Rattle.table.specs.Found.{entryAt}
 use Rattle.soundness.specs.Mark.{markOf}
-use Rattle.soundness.specs.Check.{held, NoneBefore, Differ}
+use Rattle.soundness.specs.Check.{entryCount, NoneBefore, Differ}
 
 -- a mark that is kept stays
 set-stays : (seen : List Bool) (m x : ℕ) → getD seen x false ≡ true → m < length seen → getD (set seen m true) x false ≡ true
@@ -54,5 +54,5 @@ module _ (t : List ℕ) where
             (ap (λ (x : ℕ). getD (set seen m true) x false) (sym e) ∙ getD-set-same seen m true false (omega arith));
       }
 
-  pub passed-all : (seen : List Bool) (n : ℕ) → held t ≤ n → Passed seen n → Differ t
+  pub passed-all : (seen : List Bool) (n : ℕ) → entryCount t ≤ n → Passed seen n → Differ t
   passed-all seen n l p = λ i f. p .apart i (omega arith)

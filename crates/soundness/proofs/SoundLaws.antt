@@ -2,22 +2,21 @@
 use mathlib.Core.Path.{_≡_, sym, ap, _∙_, subst}
 use mathlib.Core.List.{List, []}
 use mathlib.Core.Logic.{⊎-elim}
-use Prim.Native.Nat.{ℕ, zero, suc, _+_, _≤_, _<_, _^_, min}
+use Prim.Native.Nat.{ℕ, zero, suc, _+_, _≤_, _<_, min}
 use native.Mathlib.Omega.{arith}
 use borrow.Author.Count.{below-more}
 use lib.ListN.{length, List·getD-eq-default}
 use Rattle.wire.specs.Codec.{Bytes}
 use Rattle.wire.proofs.Laws.{is-bytes, bytes-part}
-use Rattle.wire.proofs.FieldLaws.{big-small}
 use Rattle.message.specs.Arguments.{keyLimit, valueLimit}
 use Rattle.map.specs.History.{startOf}
 use Rattle.map.specs.State.{Entry}
 use Rattle.map.specs.Step.{mostKeys, lastVersion}
 use Rattle.map.specs.Table.{Each, Pairs, Sizes, OtherKey, OtherVersion, Issued, Counts, lastSecond, Seconds, Ascending}
 use Rattle.table.specs.Bytes.{be8, upto}
-use Rattle.table.specs.Memory.{countIndex, firstIndex, countsIndex, boundIndex, keyLengthStart, valueLengthStart, numberAt, size, numberOf, firstOf, rowAt, entry, entryOf, countOf, historyOf, stateOf, Permutation, Bounded, Sound}
+use Rattle.table.specs.Memory.{countIndex, firstIndex, countsIndex, boundIndex, keyLengthStart, valueLengthStart, size, numberOf, firstOf, rowAt, entry, entryOf, countOf, historyOf, stateOf, Permutation, Bounded, Sound}
 use Rattle.table.specs.Found.{entryAt, rowNumber}
-use Rattle.soundness.specs.Check.{held, Within, AllWithin, Rising, Differ, CountsWithin, SecondsWithin}
+use Rattle.soundness.specs.Check.{entryCount, Within, AllWithin, Rising, Differ, CountsWithin, SecondsWithin}
 use Rattle.table.proofs.Lists.{lt-or-ge, length-upto, getD-upto}
 use Rattle.table.proofs.Order.{each-at, each-all, pairs-at, pairs-all}
 use Rattle.table.proofs.Parts.{length-part}
@@ -49,7 +48,7 @@ climbs t n top r i (suc j) l h =
     (lt-or-ge i j)
 
 -- the sizes of an entry that is held
-sizes-are : (t : List ℕ) (i : ℕ) → i < held t → Bytes t → (x : ℕ) → Within t x i → Sizes (entryAt t i)
+sizes-are : (t : List ℕ) (i : ℕ) → i < entryCount t → Bytes t → (x : ℕ) → Within t x i → Sizes (entryAt t i)
 unfolding entryOf entry
 sizes-are t i l b x w =
     let g = held-row t i l in
@@ -65,11 +64,7 @@ sizes-are t i l b x w =
       deadline = omega (arith, w .deadline, number-held t i 8 l (omega arith));
     })
 
--- the numbers of the header
-number-most : (t : List ℕ) (i : ℕ) → Bytes t → numberOf t i < 2 ^ 64
-unfolding numberOf
-number-most t i b = big-small 8 t (numberAt i) b
-
+-- the counts and the seconds of the header
 counts-within : (t : List ℕ) → CountsWithin t → Counts (historyOf t)
 unfolding historyOf
 counts-within t n =
@@ -98,24 +93,24 @@ seconds-within t m = record { first = first-within (numberOf t firstIndex) (m .f
 
 -- memory that passes the check is sound
 module _ (t : List ℕ) (h : length t ≡ size) (counted : numberOf t countIndex ≤ mostKeys) (last : stateOf t .last ≤ lastVersion) (p : Permutation t) (all : AllWithin t)
-    (r : Rising t (held t) (stateOf t .last)) (d : Differ t) (n : CountsWithin t) (m : SecondsWithin t) (b : Bytes t) where
+    (r : Rising t (entryCount t) (stateOf t .last)) (d : Differ t) (n : CountsWithin t) (m : SecondsWithin t) (b : Bytes t) where
   abbrev es : List Entry
   es = stateOf t .entries
 
-  by-each : (p : Entry → Type 0) → ((i : ℕ) → i < held t → p (entryAt t i)) → Each p es
+  by-each : (p : Entry → Type 0) → ((i : ℕ) → i < entryCount t → p (entryAt t i)) → Each p es
   unfolding entryAt
   by-each p f = each-all p es (entry [] [] 0 0) f
 
-  by-pairs : (p : Entry → Entry → Type 0) → ((i j : ℕ) → i < j → j < held t → p (entryAt t i) (entryAt t j)) → Pairs p es
+  by-pairs : (p : Entry → Entry → Type 0) → ((i j : ℕ) → i < j → j < entryCount t → p (entryAt t i) (entryAt t j)) → Pairs p es
   unfolding entryAt
   by-pairs p f = pairs-all p es (entry [] [] 0 0) f
 
-  rises : (i j : ℕ) → i < j → j < held t → entryAt t i .version < entryAt t j .version
+  rises : (i j : ℕ) → i < j → j < entryCount t → entryAt t i .version < entryAt t j .version
   rises i j l m = omega (arith, version-at t i (omega arith), version-at t j m, climbs t _ _ r i j l m)
 
   lengths : (i : ℕ) → i < countOf t → (be8 t (rowAt t i + keyLengthStart) ≤ keyLimit) × (be8 t (rowAt t i + valueLengthStart) ≤ valueLimit)
   lengths i l =
-      let o : i < held t = omega (arith, length-entries t h) in (
+      let o : i < entryCount t = omega (arith, length-entries t h) in (
         omega (arith, all i o .key, number-held t i keyLengthStart o (omega arith)),
         omega (arith, all i o .value, number-held t i valueLengthStart o (omega arith)),
       )
@@ -129,7 +124,6 @@ module _ (t : List ℕ) (h : length t ≡ size) (counted : numberOf t countIndex
         form = record {
           long = h;
           counted = counted;
-          first = number-most t firstIndex b;
           places = p;
           lengths = lengths;
           order = by-pairs (λ e f. e .version < f .version) rises;
@@ -149,11 +143,11 @@ module _ (t : List ℕ) (h : length t ≡ size) (counted : numberOf t countIndex
 
 -- sound memory passes it
 module _ (t : List ℕ) (s : Sound t) where
-  one : (p : Entry → Type 0) → Each p (stateOf t .entries) → (i : ℕ) → i < held t → p (entryAt t i)
+  one : (p : Entry → Type 0) → Each p (stateOf t .entries) → (i : ℕ) → i < entryCount t → p (entryAt t i)
   unfolding entryAt
   one p f i l = each-at p (stateOf t .entries) (entry [] [] 0 0) i f l
 
-  two : (p : Entry → Entry → Type 0) → Pairs p (stateOf t .entries) → (i j : ℕ) → i < j → j < held t → p (entryAt t i) (entryAt t j)
+  two : (p : Entry → Entry → Type 0) → Pairs p (stateOf t .entries) → (i j : ℕ) → i < j → j < entryCount t → p (entryAt t i) (entryAt t j)
   unfolding entryAt
   two p f i j l m = pairs-at p (stateOf t .entries) (entry [] [] 0 0) i j f l m
 
@@ -168,7 +162,7 @@ module _ (t : List ℕ) (s : Sound t) where
         bound = λ q. omega (arith, one (Bounded (numberOf t boundIndex)) (s .form .bound) i l (omega arith));
       }
 
-  pub sound-rising : Rising t (held t) (stateOf t .last)
+  pub sound-rising : Rising t (entryCount t) (stateOf t .last)
   sound-rising =
       record {
         first = λ i l. omega (arith, version-at t i l, one (Issued (stateOf t .last)) (s .table .issued) i l .0);

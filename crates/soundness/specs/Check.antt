@@ -10,19 +10,19 @@ use Rattle.table.specs.Memory.{firstIndex, countsIndex, latestIndex, boundIndex
 use Rattle.table.specs.Found.{entryAt, rowNumber}
 
 -- how many entries are held
-abbrev pub held : List ℕ → ℕ
-held t = length (stateOf t .entries)
+abbrev pub entryCount : List ℕ → ℕ
+entryCount t = length (stateOf t .entries)
 
 -- no entry before entry i has the key; and no two entries have the same key
 abbrev pub NoneBefore : List ℕ → List ℕ → ℕ → Type 0
 NoneBefore t k i = (j : ℕ) → j < i → entryAt t j .key ≡ k → ⊥
 
 abbrev pub Differ : List ℕ → Type 0
-Differ t = (i : ℕ) → i < held t → NoneBefore t (entryAt t i .key) i
+Differ t = (i : ℕ) → i < entryCount t → NoneBefore t (entryAt t i .key) i
 
 -- entry i is held, and its key has n bytes
 pub record KeyLength (t : List ℕ) (i n : ℕ) : Type 0 where
-  pub held : i < held t
+  pub held : i < entryCount t
   pub long : n ≡ length (entryAt t i .key)
   pub most : n ≤ keyLimit
 
@@ -34,7 +34,7 @@ pub record Within (t : List ℕ) (b i : ℕ) : Type 0 where
   pub bound : 0 < rowNumber t i deadlineStart → b ≤ rowNumber t i deadlineStart
 
 abbrev pub AllWithin : List ℕ → Type 0
-AllWithin t = (i : ℕ) → i < held t → Within t (numberOf t boundIndex) i
+AllWithin t = (i : ℕ) → i < entryCount t → Within t (numberOf t boundIndex) i
 
 -- the versions of the first n rows are 1 at least, rise, and are at most `top`
 pub record Rising (t : List ℕ) (n top : ℕ) : Type 0 where

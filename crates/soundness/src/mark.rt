@@ -4,7 +4,7 @@ ghost use mathlib.Core.Path.{_≡_};
 ghost use Prim.Native.Nat.{_/_, _≤_, _<_};
 ghost use Rattle.wire.specs.Field.{bigAt};
 ghost use Rattle.table.specs.Found.{entryAt};
-ghost use Rattle.soundness.specs.Check.{held, KeyLength};
+ghost use Rattle.soundness.specs.Check.{entryCount, KeyLength};
 ghost use Rattle.soundness.specs.Mark.{mix, wordsOf, endOf, markOf};
 
 // The bits of x by 27 places to the left, the first 27 behind the others, and a word more.
@@ -16,7 +16,7 @@ fn mixed(x: u64, w: u64) -> u64
 
 // The length of the key of entry i.
 fn key_len(t: &[u8], i: usize) -> usize
-    requires { ⌜ i < held (now t) ⌝ }
+    requires { ⌜ i < entryCount (now t) ⌝ }
     ensures { λ r. ⌜ KeyLength (now (t .entry)) i r ⌝ }
 {
     let n = table::number_at(t, i, Row::KEY_LENGTH) as usize;
@@ -65,7 +65,7 @@ fn end(t: &[u8], i: usize, n: usize) -> u64
 
 // The mark of the key of entry i: equal keys share it.
 pub(crate) fn of(t: &[u8], i: usize) -> usize
-    requires { ⌜ i < held (now t) ⌝ }
+    requires { ⌜ i < entryCount (now t) ⌝ }
     ensures { λ r. ⌜ (r ≡ markOf (entryAt (now (t .entry)) i .key)) × (r < 8192) ⌝ }
 {
     let n = key_len(t, i);

@@ -10,7 +10,7 @@ ghost use lib.ListN.{length};
 ghost use Rattle.map.specs.Table.{lastDeadline};
 ghost use Rattle.table.specs.Memory.{size, stateOf, Permutation};
 ghost use Rattle.table.specs.Found.{entryAt, Tells};
-ghost use Rattle.soundness.specs.Check.{held, Within, AllWithin, Rising, NoneBefore, Differ, CountsWithin, SecondsWithin};
+ghost use Rattle.soundness.specs.Check.{entryCount, Within, AllWithin, Rising, NoneBefore, Differ, CountsWithin, SecondsWithin};
 
 // Whether a deadline is within its limit and not below a bound, or is 0.
 fn deadline_within(deadline: u64, bound: u64) -> bool
@@ -107,7 +107,7 @@ pub(crate) fn is_permutation(t: &[u8]) -> bool
 
 // Whether the versions are 1 at least, rise, and are at most the last version issued.
 pub(crate) fn rising(t: &[u8]) -> bool
-    ensures { λ r. ⌜ Tells r (Rising (now (t .entry)) (held (now (t .entry))) (stateOf (now (t .entry)) .last)) ⌝ }
+    ensures { λ r. ⌜ Tells r (Rising (now (t .entry)) (entryCount (now (t .entry))) (stateOf (now (t .entry)) .last)) ⌝ }
 {
     let n = table::count(t);
     let mut low: u64 = 0;
@@ -128,7 +128,7 @@ pub(crate) fn rising(t: &[u8]) -> bool
 
 // Whether no entry before entry i has its key, if that is asked.
 fn apart(t: &[u8], i: usize, asked: bool) -> bool
-    requires { ⌜ i < held (now t) ⌝ }
+    requires { ⌜ i < entryCount (now t) ⌝ }
     ensures { λ r. ⌜ Tells r (asked ≡ true → NoneBefore (now (t .entry)) (entryAt (now (t .entry)) i .key) i) ⌝ }
 {
     if !asked {

@@ -31,7 +31,7 @@ use Rattle.table.proofs.Regions.{Kept, kept-both, kept-wide, number-kep
 use Rattle.table.proofs.Writes.{Shape, Contains, number-written, numbers, issue, bind}
 use Rattle.table.proofs.Bounds.{lower-new, lower-each, lowers}
 use Rattle.table.proofs.Sweeps.{Sweeps, sweeps}
-use Rattle.table.proofs.Numbers.{none-kept, none-number, no-history, latest-written, arrives-kept, arrives-first, arrives}
+use Rattle.table.proofs.Numbers.{none-kept, none-number, no-history, latest-written, arrives-kept, arrives}
 use Rattle.table.proofs.Entries.{one-more, one-less, one-renewed, none-left, none-yet}
 
 -- an entry more with its deadline: the bound is lowered
@@ -40,7 +40,7 @@ unfolding entry
 bounded-more k v n d b es h = each-add _ (Bounded (lower d b)) es (lower-each d b es h) (lower-new d b)
 
 abbrev shape : {t : List ℕ} → Form t → Shape t
-shape f = record { long = f .long; counted = f .counted; first = f .first; places = f .places; lengths = f .lengths }
+shape f = record { long = f .long; counted = f .counted; places = f .places; lengths = f .lengths }
 
 -- the state and the form of memory by its entries
 pub state-of : {u : List ℕ} {es : List Entry} {x : ℕ} {y : History} {z : ℕ} → Contains u es x y z → stateOf u ≡ record { entries = es; last = x; history = y }
@@ -52,7 +52,6 @@ form-of {u} {es} b a m =
     record {
       long = s .long;
       counted = s .counted;
-      first = s .first;
       places = s .places;
       lengths = s .lengths;
       order = subst (λ (st : State). Ascending (st .entries)) (sym (state-of b)) a;
@@ -142,7 +141,7 @@ module _ {t u : List ℕ} (s : Sound t) where
   unfolding cleared
   cleared-changed c =
       let h = s .form .long in
-      rw (rw (eq-eqb (length t) size h) at c) (changed h (none-left t h (s .form .first) (s .form .places)) refl (sym (last-is t h)) (sym (history-is t h)) tt tt)
+      rw (rw (eq-eqb (length t) size h) at c) (changed h (none-left t h (s .form .places)) refl (sym (last-is t h)) (sym (history-is t h)) tt tt)
 
 -- and a start, of any memory
 pub started-changed : (x : ℕ) (t u : List ℕ) → length t ≡ size → x ≤ lastVersion → Left t (started x t) u → Changed t u (record { entries = []; last = x; history = noHistory })
@@ -150,7 +149,7 @@ unfolding started
 started-changed x t u h l c =
     let e = rw (eq-eqb (length t) size h, le-leb x lastVersion l) at c in
     let n = none-number t h in
-    let b = none-yet (withNone t) (none-kept t h .long ∙ h) (n countIndex (omega arith)) (omega (arith, n firstIndex (omega arith))) in
+    let b = none-yet (withNone t) (none-kept t h .long ∙ h) (n countIndex (omega arith)) in
     rw e (changed h (bind _ _ _ _ _ noBound (issue _ _ _ x _ _ b (omega arith)) (omega arith)) refl refl (no-history (withNone t) n) tt tt)
 
 -- and a call that arrives: what has expired goes, and the history goes on
@@ -191,12 +190,8 @@ module _ {t : List ℕ} (s : Sound t) (c : Context) (r : Request) (l : c .second
   k : Kept (numberAt firstIndex) (numberAt boundIndex) u₁ u₃
   k = kept-both (kept-wide (omega arith) (omega arith) k₂) (kept-wide (omega arith) (omega arith) k₃)
 
-  first-most : numberOf u₃ firstIndex < 2 ^ 64
-  first-most =
-      omega (arith, number-kept k₃ firstIndex (inl (omega arith)), arrives-first o a (c .second) u₁ long₁ l (w .contains .shape .first))
-
   b : Contains u₃ (standing now (entriesOf t)) (numberOf u₃ lastIndex) (historyOf u₃) (numberOf u₃ boundIndex)
-  b = numbers u₁ u₃ _ _ _ _ (w .contains) (kept-wide (omega arith) (omega arith) k) first-most
+  b = numbers u₁ u₃ _ _ _ _ (w .contains) (kept-wide (omega arith) (omega arith) k)
 
   bound-is : numberOf u₃ boundIndex ≡ numberOf u₁ boundIndex
   bound-is = number-kept k boundIndex (inr (omega arith))
@@ -214,7 +209,7 @@ module _ {t : List ℕ} (s : Sound t) (c : Context) (r : Request) (l : c .second
   history-then : historyOf u₃ ≡ record { first = some (startOf (historyOf t .first) (c .second)); latest = now; counts = tally o a (historyOf t .counts) }
   history-then =
       latest-written u₂ now (k₂ .long ∙ long₁) now-most
-      ∙ rw (arrives o a (c .second) u₁ long₁ l (w .contains .shape .first) (subst Counts (history-is t h₁ ∙ sym (w .contains .history)) (s .table .counts)), w .contains .history)
+      ∙ rw (arrives o a (c .second) u₁ long₁ l (subst Counts (history-is t h₁ ∙ sym (w .contains .history)) (s .table .counts)), w .contains .history)
 
   arrived-changed : Changed t u₃ (arrive c r (stateOf t))
   unfolding arrive noted map.swept historyOf

@@ -8,7 +8,7 @@ use lib.ListN.{length}
 use Rattle.message.specs.Arguments.{keyLimit, valueLimit}
 use Rattle.map.specs.Step.{mostKeys}
 use Rattle.table.specs.Bytes.{upto}
-use Rattle.table.specs.Memory.{headCount, countIndex, lastIndex, firstIndex, boundIndex, rowsAt, rowWidth, size, numberOf, placeOf, rowAt, entry, entryOf, countOf, entriesOf, historyOf, Permutation}
+use Rattle.table.specs.Memory.{headCount, countIndex, lastIndex, boundIndex, rowsAt, rowWidth, size, numberOf, placeOf, rowAt, entry, entryOf, countOf, entriesOf, historyOf, Permutation}
 use Rattle.table.specs.Write.{withNumber, turned, less, inOrder, withKey, withValue, withEntry}
 use Rattle.table.proofs.Lists.{removeAt, lt-or-ge, upto-more, upto-remove, upto-renew}
 use Rattle.table.proofs.RowLaws.{SameRow, count-most}
@@ -75,7 +75,7 @@ module _ (k v : List ℕ) (n d : ℕ) (t : List ℕ) (s : Shape t) (room : count
   one-more =
       contains t w₃ (m + 1) (numberOf t lastIndex) _ (k₃ .long ∙ long) (number-is countIndex (m + 1) w₂ long (omega arith) (omega arith)) (omega arith)
       (number-kept k₃ lastIndex (inr (omega arith)) ∙ number-kept k₂ lastIndex (inl (omega arith)))
-      (s .first) (λ i p q. number-kept k₃ i (inr (omega arith)) ∙ number-kept k₂ i (inl (omega arith)))
+      (λ i p q. number-kept k₃ i (inr (omega arith)) ∙ number-kept k₂ i (inl (omega arith)))
       (permutation-same (s .places) (λ i l. place-kept k₃ i (inr (omega arith)) ∙ stays i l))
       (λ i l. ⊎-elim
       (λ q. fit (old i q) (s .lengths i q))
@@ -137,7 +137,7 @@ module _ (t : List ℕ) (i : ℕ) (s : Shape t) (l : i < countOf t) where
   one-less =
       contains t u top (numberOf t lastIndex) _ (k₄ .long ∙ long-w) (number-is countIndex top w long-w (omega arith) (omega (arith, top-most))) (omega (arith, top-most))
       (number-kept k₄ lastIndex (inr (omega arith)) ∙ turn-number t i top (s .long) (omega arith) top-most lastIndex (omega arith))
-      (s .first) (λ x p q. number-kept k₄ x (inr (omega arith)) ∙ turn-number t i top (s .long) (omega arith) top-most x q)
+      (λ x p q. number-kept k₄ x (inr (omega arith)) ∙ turn-number t i top (s .long) (omega arith) top-most x q)
       (permutation-same (turned-permutation t i top (s .long) (omega arith) top-most (s .places)) (λ k q. place-kept k₄ k (inr (omega arith))))
       (λ k q. ⊎-elim
       (λ b. fit (before k b) (s .lengths k (omega arith)))
@@ -204,7 +204,7 @@ module _ (t : List ℕ) (i : ℕ) (s : Shape t) (l : i < countOf t) where
         (turn-number r i top long-r (omega arith) top-most countIndex (omega arith) ∙ number-kept k₅ countIndex (inl (omega arith)) ∙ sym (count-is t _ refl (s .counted)))
         (count-most t)
         (turn-number r i top long-r (omega arith) top-most lastIndex (omega arith) ∙ number-kept k₅ lastIndex (inl (omega arith)))
-        (s .first) (λ x p q. turn-number r i top long-r (omega arith) top-most x q ∙ number-kept k₅ x (inl (omega arith)))
+        (λ x p q. turn-number r i top long-r (omega arith) top-most x q ∙ number-kept k₅ x (inl (omega arith)))
         (turned-permutation r i top long-r (omega arith) top-most (permutation-same (s .places) place-r))
         fits-y
         (upto-renew (held t) (held y) (countOf t) i _ l (λ k b. before-y k b .entry) (λ k b c. after-y k b (omega arith) .entry)
@@ -221,17 +221,17 @@ module _ (t : List ℕ) (h : length t ≡ size) where
   no-count : numberOf empty countIndex ≡ 0
   no-count = number-is countIndex 0 t h (omega arith) (omega arith)
 
-  pub none-left : numberOf t firstIndex < 2 ^ 64 → Permutation t → Contains (withNumber countIndex 0 t) [] (numberOf t lastIndex) (historyOf t) (numberOf t boundIndex)
+  pub none-left : Permutation t → Contains (withNumber countIndex 0 t) [] (numberOf t lastIndex) (historyOf t) (numberOf t boundIndex)
   unfolding upto
-  none-left b p =
+  none-left p =
       contains t empty 0 (numberOf t lastIndex) [] (k₆ .long ∙ h) no-count (omega arith) (number-kept k₆ lastIndex (inr (omega arith)))
-      b (λ i p q. number-kept k₆ i (inr (omega arith)))
+      (λ i p q. number-kept k₆ i (inr (omega arith)))
       (permutation-same p (λ k q. place-kept k₆ k (inr (omega arith)))) (λ k q. absurd (omega arith)) refl
 
   -- none, and the places in order
-  pub none-yet : numberOf t countIndex ≡ 0 → numberOf t firstIndex < 2 ^ 64 → Contains (inOrder t) [] (numberOf t lastIndex) (historyOf t) (numberOf t boundIndex)
+  pub none-yet : numberOf t countIndex ≡ 0 → Contains (inOrder t) [] (numberOf t lastIndex) (historyOf t) (numberOf t boundIndex)
   unfolding upto
-  none-yet e b =
+  none-yet e =
       let k = ordered-kept t h in
       contains t (inOrder t) 0 (numberOf t lastIndex) [] (k .long ∙ h) (number-kept k countIndex (inl (omega arith)) ∙ e) (omega arith)
-      (number-kept k lastIndex (inl (omega arith))) b (λ i p q. number-kept k i (inl (omega arith))) (ordered-permutation t h) (λ k q. absurd (omega arith)) refl
+      (number-kept k lastIndex (inl (omega arith))) (λ i p q. number-kept k i (inl (omega arith))) (ordered-permutation t h) (λ k q. absurd (omega arith)) refl

@@ -12,10 +12,10 @@ use Rattle.wire.specs.Codec.{Bytes}
 use Rattle.wire.specs.Field.{bigEndian}
 use Rattle.wire.proofs.Laws.{bytes-are}
 use Rattle.wire.proofs.FieldLaws.{big-length, big-bytes}
-use Rattle.map.specs.History.{noHistory}
+use Rattle.map.specs.History.{startOf, noHistory}
 use Rattle.map.specs.State.{Entry, State}
 use Rattle.map.specs.Step.{mostKeys, lastVersion}
-use Rattle.map.specs.Table.{Each, Sizes, IsTable, Ascending}
+use Rattle.map.specs.Table.{Each, Sizes, lastSecond, IsTable, Ascending}
 use Rattle.table.specs.Bytes.{upto, zeros}
 use Rattle.table.specs.Memory.{headCount, countIndex, lastIndex, firstIndex, countsIndex, latestIndex, boundIndex, numberAt, placesAt, deadlineStart, keyLengthStart, valueLengthStart, keyStart, valueStart, size, numberOf, firstOf, rowAt, entry, countOf, entriesOf, historyOf, stateOf, Bounded, Sound}
 use Rattle.table.specs.Change.{Left, made, started}
@@ -94,7 +94,7 @@ start =
     let m = length-upto (λ (i : ℕ). i) mostKeys in
     record {
       bytes = held-sets placesAt (upto (λ (i : ℕ). i) mostKeys) z order-bytes (omega arith) .bytes;
-      contains = named (none-yet (zeros size) h (zero-number countIndex) (omega (arith, zero-number firstIndex)))
+      contains = named (none-yet (zeros size) h (zero-number countIndex))
           refl (zero-number lastIndex) (no-history (zeros size) (λ i _. zero-number i)) (zero-number boundIndex);
     }
 
@@ -129,15 +129,16 @@ unfolding withNumbers withNumber
 bytes-numbers [] i t h l = h
 bytes-numbers (n ∷ ns) i t h l = bytes-numbers ns (suc i) _ (held-sets8 (numberAt i) n h (omega arith)) (omega arith)
 
--- memory can hold the first second
-abbrev pub FirstHeld : State → Type 0
-FirstHeld st = firstNumber (st .history .first) < 2 ^ 64
+-- memory can hold a first second that is within its limit
+first-fits : (o : Option ℕ) → startOf o 0 ≤ lastSecond → firstNumber o < 2 ^ 64
+first-fits none h = omega arith
+first-fits (some n) h = omega arith
 
 first-of : (o : Option ℕ) → firstOf (firstNumber o) ≡ o
 first-of none = refl
 first-of (some n) = refl
 
-module _ (st : State) (h : IsTable st) (a : Ascending (st .entries)) (q : FirstHeld st) where
+module _ (st : State) (h : IsTable st) (a : Ascending (st .entries)) where
   abbrev ns : List ℕ
   ns = st .history .counts
 
@@ -180,10 +181,10 @@ module _ (st : State) (h : IsTable st) (a : Ascending (st .entries)) (q : FirstH
       (kept-both (kept-wide (omega arith) (omega arith) k₃) (kept-wide (omega arith) (omega arith) k₄))
 
   first-is : numberOf w₃ firstIndex ≡ firstNumber (st .history .first)
-  first-is = number-kept k₃ firstIndex (inl (omega arith)) ∙ number-is firstIndex _ w₁ (b .shape .long) (omega arith) q
+  first-is = number-kept k₃ firstIndex (inl (omega arith)) ∙ number-is firstIndex _ w₁ (b .shape .long) (omega arith) (first-fits (st .history .first) (h .seconds .first))
 
   c : Contains w₄ (st .entries) (numberOf w₄ lastIndex) (historyOf w₄) (numberOf w₄ boundIndex)
-  c = numbers w₁ w₄ _ _ _ _ b (kept-wide (omega arith) (omega arith) k) (omega (arith, number-kept k₄ firstIndex (inl (omega arith)), first-is))
+  c = numbers w₁ w₄ _ _ _ _ b (kept-wide (omega arith) (omega arith) k)
 
   bounds : Each (Bounded (numberOf w₄ boundIndex)) (st .entries)
   bounds =

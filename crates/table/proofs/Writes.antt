@@ -164,7 +164,6 @@ entry-long k v n d t h hk hv =
 pub record Shape (t : List ℕ) : Type 0 where
   pub long : length t ≡ size
   pub counted : numberOf t countIndex ≤ mostKeys
-  pub first : numberOf t firstIndex < 2 ^ 64
   pub places : Permutation t
   pub lengths : AllFit t
 
@@ -193,13 +192,13 @@ SameHead u t = (i : ℕ) → firstIndex ≤ i → i < headCount → numberOf u i
 
 -- memory by its count and the entry of each row held, with the history and the bound of t
 pub contains : (t u : List ℕ) (m x : ℕ) (es : List Entry) → length u ≡ size → numberOf u countIndex ≡ m → m ≤ mostKeys → numberOf u lastIndex ≡ x
-    → numberOf t firstIndex < 2 ^ 64 → SameHead u t → Permutation u
+    → SameHead u t → Permutation u
     → ((i : ℕ) → i < m → Fit u (rowAt u i)) → upto (held u) m ≡ es → Contains u es x (historyOf t) (numberOf t boundIndex)
 unfolding entriesOf
-contains t u m x es h c l e b y p f g =
+contains t u m x es h c l e y p f g =
     let n = count-is u m c l in
     record {
-      shape = record { long = h; counted = omega arith; first = omega (arith, y firstIndex (omega arith) (omega arith)); places = p; lengths = λ i q. f i (omega arith) };
+      shape = record { long = h; counted = omega arith; places = p; lengths = λ i q. f i (omega arith) };
       entries = ap (upto (held u)) n ∙ g;
       last = e;
       history = history-same u t (λ i p q. y i p (omega arith));
@@ -208,14 +207,14 @@ contains t u m x es h c l e b y p f g =
 
 -- numbers of the header are written, but for the count
 pub numbers : (t u : List ℕ) (es : List Entry) (x : ℕ) (y : History) (z : ℕ) → Contains t es x y z → Kept (numberAt lastIndex) placesAt t u
-    → numberOf u firstIndex < 2 ^ 64 → Contains u es (numberOf u lastIndex) (historyOf u) (numberOf u boundIndex)
+    → Contains u es (numberOf u lastIndex) (historyOf u) (numberOf u boundIndex)
 unfolding entriesOf
-numbers t u es x y z b k q =
+numbers t u es x y z b k =
     let s = b .shape in
     let p : (i : ℕ) → placeOf u i ≡ placeOf t i = λ i. place-kept k i (inr (omega arith)) in
     let r : (i : ℕ) → SameRow u (rowAt u i) t (rowAt t i) = λ i. row-from (kept-wide (omega arith) (omega arith) k) (s .long) i i (p i) in
     contains u u (numberOf t countIndex) (numberOf u lastIndex) es (k .long ∙ s .long) (number-kept k countIndex (inl (omega arith))) (s .counted)
-    refl q (λ i _ _. refl) (permutation-same (s .places) (λ i _. p i))
+    refl (λ i _ _. refl) (permutation-same (s .places) (λ i _. p i))
     (λ i q. fit (r i) (s .lengths i (omega (arith, count-is t (numberOf t countIndex) refl (s .counted)))))
     (upto-ext (held t) (held u) (numberOf t countIndex) (λ i _. r i .entry)
     ∙ ap (upto (held t)) (sym (count-is t (numberOf t countIndex) refl (s .counted))) ∙ b .entries)
@@ -227,7 +226,7 @@ issue t es x z y w b l =
     let u = withNumber lastIndex z t in
     let k = number-written lastIndex z t (s .long) (omega arith) in
     let e : (i : ℕ) → firstIndex ≤ i → i < headCount → numberOf u i ≡ numberOf t i = λ i p q. number-kept k i (inr (omega arith)) in
-    let c = numbers t u es x y w b (kept-wide (omega arith) (omega arith) k) (omega (arith, s .first, e firstIndex (omega arith) (omega arith))) in
+    let c = numbers t u es x y w b (kept-wide (omega arith) (omega arith) k) in
     record {
       shape = c .shape;
       entries = c .entries;
@@ -243,7 +242,7 @@ bind t es x y w z b l =
     let u = withNumber boundIndex z t in
     let k = number-written boundIndex z t (s .long) (omega arith) in
     let e : (i : ℕ) → i < boundIndex → numberOf u i ≡ numberOf t i = λ i q. number-kept k i (inl (omega arith)) in
-    let c = numbers t u es x y w b (kept-wide (omega arith) (omega arith) k) (omega (arith, s .first, e firstIndex (omega arith))) in
+    let c = numbers t u es x y w b (kept-wide (omega arith) (omega arith) k) in
     record {
       shape = c .shape;
       entries = c .entries;

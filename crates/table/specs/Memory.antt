@@ -7,7 +7,7 @@ use mathlib.Core.Path.{_≡_}
 use mathlib.Core.List.{List}
 use mathlib.Core.Bool.{cond}
 use mathlib.Core.Option.{Option, none, some}
-use Prim.Native.Nat.{ℕ, zero, suc, _+_, _*_, _%_, _≤_, _<_, _^_, min}
+use Prim.Native.Nat.{ℕ, zero, suc, _+_, _*_, _%_, _≤_, _<_, min}
 use lib.ListN.{length, getD}
 use lib.Dec.{eqb}
 use Rattle.message.specs.Arguments.{keyLimit, valueLimit}
@@ -126,12 +126,11 @@ pub record Permutation (t : List ℕ) : Type 0 where
 abbrev pub Bounded : ℕ → Entry → Type 0
 Bounded b e = 0 < e .deadline → b ≤ e .deadline
 
--- what the memory adds to a table's conditions: its length, the permutation, that nothing is capped, the order of entries, and the bound. That the
--- first second's number is one of eight bytes holds of all bytes. The bytes of rows that are not held mean nothing.
+-- what the memory adds to a table's conditions: its length, the permutation, that nothing is capped, the order of entries, and the bound. The bytes of
+-- rows that are not held mean nothing.
 pub record Form (t : List ℕ) : Type 0 where
   pub long : length t ≡ size
   pub counted : numberOf t countIndex ≤ mostKeys
-  pub first : numberOf t firstIndex < 2 ^ 64
   pub places : Permutation t
   pub lengths : (i : ℕ) → i < countOf t → (be8 t (rowAt t i + keyLengthStart) ≤ keyLimit) × (be8 t (rowAt t i + valueLengthStart) ≤ valueLimit)
   pub order : Ascending (stateOf t .entries)

@@ -4,7 +4,7 @@ use Prim.Native.Nat.{_-_, _≤_}
 use native.Mathlib.Omega.{arith}
 use borrow.Author.Tests.{not-true, not-false}
 use Rattle.table.proofs.Lists.{says-yes, says-no, refuted}
-use Rattle.soundness.specs.Check.{held}
+use Rattle.soundness.specs.Check.{entryCount}
 use Rattle.soundness.proofs.Marks.{Passed, passed-none, passed-more, passed-all}
 use Rattle.soundness.proofs.parts.differ.Statement.{statement}
 use Rattle.soundness.proofs.parts.differ.Tie as tie
@@ -20,7 +20,7 @@ loop-holds c = (omega arith, passed-none _)
 
 returns : tie.Need-returns Inv-loop μ-loop
 returns c = let l = c .before .before .before .before in
-    let n : l .before .count .result ≡ held (l .before .before .before .args .t .now) = l .before .count .ensures in
+    let n : l .before .count .result ≡ entryCount (l .before .before .before .args .t .now) = l .before .count .ensures in
     says-no (λ d. refuted (c .before .apart .ensures) (not-true _ (c .if1 .taken)) (λ _. d (l .loop .i) (omega arith)))
 
 loop-again : tie.Need-loop-again Inv-loop μ-loop
@@ -30,7 +30,7 @@ loop-again c = let m = c .before .before .of .ensures in (
 )
 
 returns-2 : tie.Need-returns-2 Inv-loop μ-loop
-returns-2 c = let n : c .before .before .count .result ≡ held (c .before .before .before .before .args .t .now) = c .before .before .count .ensures in
+returns-2 c = let n : c .before .before .count .result ≡ entryCount (c .before .before .before .before .args .t .now) = c .before .before .count .ensures in
     says-yes (passed-all _ _ _ (omega arith) (c .before .loop .inv .1))
 
 pub differ-spec : {M : Type 1} → statement M

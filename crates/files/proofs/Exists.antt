@@ -36,8 +36,8 @@ use Rattle.service.proofs.Bounds.{Late, late, answer-longest, error-size}
 use Rattle.table.proofs.Lists.{lt-or-ge}
 use Rattle.wire.specs.Write.{part}
 use Rattle.table.specs.Memory.{stateOf, Sound}
-use Rattle.table.specs.Form.{form}
-use Rattle.table.proofs.HasForm.{has-form}
+use Rattle.table.specs.Image.{image}
+use Rattle.table.proofs.HasImage.{has-image}
 use Rattle.service.specs.Serve.{errorPieces, onStep, onRead}
 use Rattle.service.specs.Stream.{Becomes}
 use Rattle.service.proofs.Decides.{decSound}
@@ -162,7 +162,7 @@ turns-exist (suc n) last p s st room f h = turns-from last p s st room f (λ p u
 -- a table that is left
 leaves : (t : List ℕ) (o : Option State) → Fit (stateLeft (stateOf t) o) → (t′ : List ℕ) × Becomes t o t′
 leaves t none f = (t, refl)
-leaves t (some st) f = let m = has-form st (f .table) (f .order) in (form st, (m .state, m .sound))
+leaves t (some st) f = let m = has-image st (f .table) (f .order) in (image st, (m .state, m .sound))
 
 -- what can be done, for each case of what is given
 module _ (buf t out : List ℕ) (s : Window) where
@@ -190,7 +190,7 @@ module _ (buf t out : List ℕ) (s : Window) where
   serve : Ready buf t out s → Answers buf t out s
   serve r =
       let d = r .sound in
-      let e = turns-exist (suc (length (inside buf s))) (s .ended) (s .carried) (inside buf s) (stateOf t) (length out) (record { table = d .table; order = d .form .order }) (omega arith) in
+      let e = turns-exist (suc (length (inside buf s))) (s .ended) (s .carried) (inside buf s) (stateOf t) (length out) (record { table = d .table; order = d .layout .order }) (omega arith) in
       let x : Turn = e .turn in
       let m = leaves t (x .next) (e .fits .fit) in
       let u : TurnsDone (s .ended) (s .carried) (inside buf s) t out (served.Fed (fedOf x)) (sets out 0 (x .text)) (m .0) =

@@ -288,7 +288,7 @@ module _ (c : Context) (r : Request) (st : State) (a : Result) (t : State) (e : 
   stats-shown q = rw (did c r st a t e .same, q)
 
   -- "the first call served": the first one that is answered
-  first-step : t .history .first ≡ some (startOf (st .history .first) (c .second))
+  pub first-step : t .history .first ≡ some (startOf (st .history .first) (c .second))
   unfolding arrive noted swept
   first-step = rw (history-step c r st a t e)
 

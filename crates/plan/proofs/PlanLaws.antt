@@ -84,7 +84,7 @@ judged-stands now t s = go (isDue now t) refl
   where
     go : (b : Bool) → isDue now t ≡ b → cond b (standing now (stateOf t .entries)) (stateOf t .entries) ≡ standing now (stateOf t .entries)
     go true e = refl
-    go false e = sym (below-bound now (numberOf t boundIndex) (stateOf t .entries) (not-due now t (s .form .long) e) (s .form .bound))
+    go false e = sym (below-bound now (numberOf t boundIndex) (stateOf t .entries) (not-due now t (s .layout .long) e) (s .layout .bound))
 
 -- what is held goes by the entries alone
 pub holds-same : (t u k : List ℕ) → stateOf u .entries ≡ stateOf t .entries → (x : Held) → Holds t k x → Holds u k x

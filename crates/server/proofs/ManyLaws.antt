@@ -130,7 +130,7 @@ module _ (c : Context) (input table lent : List ℕ) where
     after-sound = stays-sound (drop taken input) now (at c (drop size out)) d (g .sound) x
 
     table-kept : length (d .table) ≡ length table
-    table-kept = after-sound .form .long ∙ (sym (g .sound .form .long) ∙ g .kept)
+    table-kept = after-sound .layout .long ∙ (sym (g .sound .layout .long) ∙ g .kept)
 
     -- a call that goes on
     pub on : isShort (d .answer .verdict) && ltb 0 size ≡ false → 0 < d .answer .taken → Between (taken + d .answer .taken) (size + d .size) (calls + 1) (d .table) filled

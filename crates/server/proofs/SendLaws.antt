@@ -173,7 +173,7 @@ module _ (c : Context) {t : List ℕ} {q : Request} {y : Held} {s : ℕ} (g : Pl
   pub bulk-sent : (values : Bool) {x : wire.Sent} {n : ℕ} (old : List ℕ) {new : List ℕ} → q .op ≡ bulkOperation values → n ≡ wanted q
       → ((flag : Bool) → (x, new) ≡ sentListed flag values (q .id) n (stateOf t) old) → (x, new) ≡ sentTo c q (stateOf t) old
   bulk-sent values old o e z =
-      let l = listed-is q (stateOf t) (g .sound .form .order) ∙ ap (λ (n : ℕ). lowest n (stateOf t .entries)) (sym e) in
+      let l = listed-is q (stateOf t) (g .sound .layout .order) ∙ ap (λ (n : ℕ). lowest n (stateOf t .entries)) (sym e) in
       let r = bulk-reply c q (stateOf t) values o ∙ ap (λ (es : List Entry). bulkReply values (q .id) (map (pairOf values) es)) l in
       z (wantsOld q) ∙ sym (ap₂ (λ (k : ℕ) (a : Reply). send (reply (asked k (wantsOld q))) a old) (ap codeOf o) r)
 

@@ -70,7 +70,7 @@ module _ {t k : List ℕ} (s : Sound t) where
   row-dropped i e l = rw (found-less t k i (s .table .keys) e) at (removed-changed s i (e .0) l)
 
   pub none-dropped : FoundIs t k f.Absent → Changed t t (less k (stateOf t))
-  none-dropped e = record { long = refl; state = rw (found-without t k e); form = s .form }
+  none-dropped e = record { long = refl; state = rw (found-without t k e); layout = s .layout }
 
 module _ {t k v : List ℕ} {held : Held} {t′ : List ℕ} (s : Storable t k v held) (d : ℕ) (h : d < 2 ^ 64) where
   pub row-stored : (i : ℕ) → FoundIs t k (f.At i) → Left t (renewed i v d t) t′ → Changed t t′ (replaced k v d (stateOf t))
@@ -87,7 +87,7 @@ module _ {t k v : List ℕ} {held : Held} {t′ : List ℕ} (s : Storable t k v 
 pub does-answered : (q : Request) {o : Outcome} {b : map.Result} {st : State} {n : ℕ} {old new t u t′ : List ℕ} {a : Answer} → o ≡ answered b st → IsTable st
     → Sends (pieces q b) n served old new a → Changed u t′ st → Does (onStep q n o) t old (doneOf a new t′)
 unfolding onStep
-does-answered q e i w d = rw e (does w (d .state, record { form = d .form; table = rw (d .state) i }))
+does-answered q e i w d = rw e (does w (d .state, record { layout = d .layout; table = rw (d .state) i }))
 
 -- the refusal of a store, by its two tests
 abbrev number : Bool → Bool → Option ℕ
@@ -159,7 +159,7 @@ module _ (c : Context) (q : Request) (t : List ℕ) {u : List ℕ} (w : stream-o
   held-on s d g =
       let n = present c (stateOf t) in
       let es = stateOf t .entries in
-      let e = below-bound n (numberOf t boundIndex) es (not-due n t (s .form .long) d) (s .form .bound) in
+      let e = below-bound n (numberOf t boundIndex) es (not-due n t (s .layout .long) d) (s .layout .bound) in
       holds-same t u (q .args .key) (entries-left ∙ e) x (all-stand n t (q .args .key) x (subst (Each (Stands n)) e (standing-stand n es)) g)
 
   pub held-left : Sound t → HoldsAt (present c (stateOf t)) t (q .args .key) x → heldVersion x ≡ versionOf (heldAt u (q .args .key))
@@ -205,7 +205,7 @@ version-left st o e = go (isFull st o) (ltb (st .last) lastVersion) refl e
 
 -- a table that is as it was
 pub same-table : (t : List ℕ) → Sound t → Changed t t (stateOf t)
-same-table t s = record { long = refl; state = refl; form = s .form }
+same-table t s = record { long = refl; state = refl; layout = s .layout }
 
 -- the request's value can be stored, and storing it is the map's change
 pub storable : (q : Request) (t : List ℕ) {held : Held} → Sound t → Valid request q → IsTable (stored q (stateOf t)) → Holds t (q .args .key) held

@@ -18,7 +18,7 @@ use Rattle.map.specs.Step.{mostKeys, lastVersion}
 use Rattle.map.specs.Table.{Each, Pairs, lastDeadline, Sizes, OtherKey, OtherVersion, Issued, Counts, lastSecond, Seconds, IsTable, Ascending}
 use Rattle.wire.proofs.SameLaws.{same-true, other-differ}
 use Rattle.table.specs.Bytes.{be8}
-use Rattle.table.specs.Memory.{countIndex, boundIndex, size, numberOf, placeOf, rowAt, countOf, stateOf, Permutation, Form, Sound}
+use Rattle.table.specs.Memory.{countIndex, boundIndex, size, numberOf, placeOf, rowAt, countOf, stateOf, Permutation, Layout, Sound}
 
 decMap : {P Q : Type 0} → (P → Q) → (Q → P) → Dec P → Dec Q
 decMap f g (yes p) = yes (f p)
@@ -112,8 +112,8 @@ decPlaces t =
     (decBoth (decBelow _ (λ i. decLt (placeOf t i) mostKeys) mostKeys)
     (decBelow _ (λ i. decBelow _ (λ j. decFrom (decEq (placeOf t i) (placeOf t j)) (decEq i j)) mostKeys) mostKeys))
 
-decForm : (t : List ℕ) → Dec (Form t)
-decForm t =
+decLayout : (t : List ℕ) → Dec (Layout t)
+decLayout t =
     decMap (λ z. record { long = z .0; counted = z .1 .0; places = z .1 .1 .0; lengths = z .1 .1 .1 .0; order = z .1 .1 .1 .1 .0; bound = z .1 .1 .1 .1 .1 })
     (λ f. (f .long, (f .counted, (f .places, (f .lengths, (f .order, f .bound))))))
     (decBoth (decEq (length t) size) (decBoth (decLe (numberOf t countIndex) mostKeys) (decBoth (decPlaces t)
@@ -122,7 +122,7 @@ decForm t =
     (decEach (λ e. decFrom (decLt 0 (e .deadline)) (decLe (numberOf t boundIndex) (e .deadline))) (stateOf t .entries)))))))
 
 pub decSound : (t : List ℕ) → Dec (Sound t)
-decSound t = decMap (λ z. record { form = z .0; table = z .1 }) (λ s. (s .form, s .table)) (decBoth (decForm t) (decTable (stateOf t)))
+decSound t = decMap (λ z. record { layout = z .0; table = z .1 }) (λ s. (s .layout, s .table)) (decBoth (decLayout t) (decTable (stateOf t)))
 
 abbrev pub isYes : {P : Type 0} → Dec P → Bool
 isYes (yes p) = true

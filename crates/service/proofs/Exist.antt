@@ -24,8 +24,8 @@ use Rattle.service.specs.Serve.{Effect, more, refused, unchanged, onStep
 use Rattle.service.specs.Stream.{Call, Done, Becomes, Serves, Run, run-end, run-call}
 use Rattle.service.specs.Demand3.{after, call}
 use Rattle.wire.proofs.Laws.{bytes-drop}
-use Rattle.table.specs.Form.{form}
-use Rattle.table.proofs.HasForm.{has-form}
+use Rattle.table.specs.Image.{image}
+use Rattle.table.proofs.HasImage.{has-image}
 use Rattle.service.proofs.Decides.{isSound}
 use Rattle.service.proofs.Sounds.{is-sound, tells-sound, effectIn}
 use Rattle.service.proofs.Calls.{within-has}
@@ -45,7 +45,7 @@ module _ (input : List ℕ) (b : Bytes input) (c : Context) (h : c .second < 0x1
   unfolding onStep
   fits-step r n v (map-step.refused k) e = tt
   fits-step r n v (answered a st) e =
-      keeps c r (stateOf t) (s .table) a st e v h (s .form .order)
+      keeps c r (stateOf t) (s .table) a st e v h (s .layout .order)
 
   fits-read : (x : Read Request) → request .dec input ≡ x → Fits (onRead input c (stateOf t) x .next)
   unfolding onRead unchanged
@@ -64,15 +64,15 @@ fits input b t c h = go (ltb (length (c .buffer)) room) (isSound t) refl
         (fits-read input b (c .context) h t (is-sound t e) (request .dec input) refl)
     go false false e = tt
 
--- the table after a call: the sound form of the state that is left
+-- the table after a call: the sound image of the state that is left
 unfoldable left : List ℕ → Option State → List ℕ
 left old none = old
-left old (some st) = form st
+left old (some st) = image st
 
 left-is : (old : List ℕ) (n : Option State) → Fits n → Becomes old n (left old n)
 unfolding left
 left-is old none f = refl
-left-is old (some st) f = let x = has-form st (f .0) (f .1) in (x .state, x .sound)
+left-is old (some st) f = let x = has-image st (f .0) (f .1) in (x .state, x .sound)
 
 unfoldable doing : List ℕ → List ℕ → Call → Done
 doing input t c =

@@ -121,7 +121,7 @@ module _ (t : List ℕ) (h : length t ≡ size) (counted : numberOf t countIndex
   pub checked : Sound t
   checked =
       record {
-        form = record {
+        layout = record {
           long = h;
           counted = counted;
           places = p;
@@ -153,13 +153,13 @@ module _ (t : List ℕ) (s : Sound t) where
 
   pub sound-within : AllWithin t
   sound-within i l =
-      let g = s .form .lengths i (held-row t i l .1) in
+      let g = s .layout .lengths i (held-row t i l .1) in
       let e = deadline-at t i l in
       record {
         key = omega (arith, g .0, number-held t i keyLengthStart l (omega arith));
         value = omega (arith, g .1, number-held t i valueLengthStart l (omega arith));
         deadline = omega (arith, one Sizes (s .table .sizes) i l .deadline);
-        bound = λ q. omega (arith, one (Bounded (numberOf t boundIndex)) (s .form .bound) i l (omega arith));
+        bound = λ q. omega (arith, one (Bounded (numberOf t boundIndex)) (s .layout .bound) i l (omega arith));
       }
 
   pub sound-rising : Rising t (entryCount t) (stateOf t .last)
@@ -167,7 +167,7 @@ module _ (t : List ℕ) (s : Sound t) where
       record {
         first = λ i l. omega (arith, version-at t i l, one (Issued (stateOf t .last)) (s .table .issued) i l .0);
         rise = λ i l.
-            omega (arith, version-at t i (omega arith), version-at t (i + 1) l, two (λ e f. e .version < f .version) (s .form .order) i (i + 1) (omega arith) l);
+            omega (arith, version-at t i (omega arith), version-at t (i + 1) l, two (λ e f. e .version < f .version) (s .layout .order) i (i + 1) (omega arith) l);
         most = λ i l. omega (arith, version-at t i l, one (Issued (stateOf t .last)) (s .table .issued) i l .1);
       }
 
@@ -177,10 +177,10 @@ module _ (t : List ℕ) (s : Sound t) where
   pub sound-counts : CountsWithin t
   unfolding historyOf
   sound-counts i l =
-      omega (arith, subst Counts (history-is t (s .form .long)) (s .table .counts) .most i, getD-upto (λ (k : ℕ). numberOf t (countsIndex + k)) 7 i 0 l)
+      omega (arith, subst Counts (history-is t (s .layout .long)) (s .table .counts) .most i, getD-upto (λ (k : ℕ). numberOf t (countsIndex + k)) 7 i 0 l)
 
   pub sound-seconds : SecondsWithin t
   unfolding historyOf
   sound-seconds =
-      let q = subst Seconds (history-is t (s .form .long)) (s .table .seconds) in
+      let q = subst Seconds (history-is t (s .layout .long)) (s .table .seconds) in
       record { first = within-first (numberOf t firstIndex) (q .first); latest = q .latest }

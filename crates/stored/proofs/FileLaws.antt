@@ -28,11 +28,11 @@ use Rattle.table.proofs.RowLaws.{length-entries, count-most}
 use Rattle.table.proofs.Answers.{other-entries}
 use Rattle.hex.specs.Hex.{line}
 use Rattle.hex.proofs.HexLaws.{line-length}
-use Rattle.stored.specs.File.{Form, entryLine, headLine, entryLines, lineOf, linesOf, file}
+use Rattle.stored.specs.File.{FileForm, entryLine, headLine, entryLines, lineOf, linesOf, file}
 use Rattle.stored.specs.StoreLoad.{lineAt, Storing}
 use Rattle.stored.proofs.StoreLaws.{line-entry}
 
-pub lines-append : (f : Form) (a b : List Entry) → entryLines f (a ++ b) ≡ entryLines f a ++ entryLines f b
+pub lines-append : (f : FileForm) (a b : List Entry) → entryLines f (a ++ b) ≡ entryLines f a ++ entryLines f b
 unfolding entryLines
 lines-append f [] b = refl
 lines-append f (e ∷ a) b = rw (lines-append f a b, append-assoc)
@@ -48,7 +48,7 @@ standing-both now (e ∷ a) b = go (expired now e) (standing-both now a b)
     go true h = h
     go false h = ap (λ (es : List Entry). e ∷ es) h
 
-one-line : (f : Form) (now : ℕ) (e : Entry) → entryLines f (standing now (e ∷ [])) ≡ lineOf f now e
+one-line : (f : FileForm) (now : ℕ) (e : Entry) → entryLines f (standing now (e ∷ [])) ≡ lineOf f now e
 unfolding entryLines without lineOf
 one-line f now e = go (expired now e)
   where
@@ -61,13 +61,13 @@ first-stand : (es : List Entry) → Each (Stands 0) es
 first-stand [] = tt
 first-stand (e ∷ es) = (λ l. l, first-stand es)
 
-pub file-afresh : (f : Form) (st : State) → st .history ≡ noHistory → file f st ≡ linesOf f st
+pub file-afresh : (f : FileForm) (st : State) → st .history ≡ noHistory → file f st ≡ linesOf f st
 unfolding file
 file-afresh f st h =
     let e : standing (st .history .latest) (st .entries) ≡ st .entries = rw h (standing-all 0 (st .entries) (first-stand (st .entries))) in
     ap (λ (es : List Entry). linesOf f (withEntries es st)) e
 
-head-length : (f : Form) (n : ℕ) → length (headLine f .enc n) ≡ 9
+head-length : (f : FileForm) (n : ℕ) → length (headLine f .enc n) ≡ 9
 unfolding headLine as-type seq guard byte
 head-length f n = omega (arith, big-length 8 n)
 
@@ -79,7 +79,7 @@ few t = go (eqb (length t) size) refl
     go true e = omega (arith, length-entries t (eqb-true _ _ e), count-most t)
     go false e = omega (arith, other-entries t (eqb-false _ _ e))
 
-module _ (f : Form) (t : List ℕ) where
+module _ (f : FileForm) (t : List ℕ) where
   abbrev es : List Entry
   es = stateOf t .entries
 

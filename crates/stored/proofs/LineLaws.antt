@@ -24,7 +24,7 @@ use Rattle.hex.specs.Hex.{digitOf, toHex, line}
 use Rattle.hex.specs.Number.{fromDigits}
 use Rattle.hex.proofs.Values.{digits-back}
 use Rattle.hex.proofs.Digits.{of-decimal, of-letter}
-use Rattle.stored.specs.File.{Form, form1, formByte, Fields, toEntry, fromEntry, entryLine, headLine}
+use Rattle.stored.specs.File.{FileForm, form1, formByte, Fields, toEntry, fromEntry, entryLine, headLine}
 use Rattle.stored.specs.StoreLoad.{NoEnd}
 
 -- the formats
@@ -34,18 +34,18 @@ fields = seq (bigEndian 8) λ _. seq (bigEndian 8) λ _. seq (limited keyLimit) 
 fields-laws : Laws fields
 fields-laws = seq-laws _ _ (big-laws 8) (λ _. seq-laws _ _ (big-laws 8) (λ _. seq-laws _ _ (limited-laws keyLimit) (λ _. limited-laws valueLimit)))
 
-pub entry-laws : (f : Form) → Laws (entryLine f)
+pub entry-laws : (f : FileForm) → Laws (entryLine f)
 unfolding entryLine
 entry-laws form1 = type-laws all toEntry fromEntry fields fields-laws (λ e v. refl) (λ p v. (refl, refl))
 
 -- an entry's line is made of at most 339 bytes
-pub entry-most : (f : Form) → Most (entryLine f) 339
+pub entry-most : (f : FileForm) → Most (entryLine f) 339
 unfolding entryLine
 entry-most form1 =
     type-most all toEntry fromEntry
     (seq-most (big-most 8) (λ _ _. seq-most (big-most 8) (λ _ _. seq-most (limited-most keyLimit 0 (omega arith)) (λ _ _. limited-most valueLimit 1 (omega arith)))))
 
-pub entry-good : (f : Form) (e : Entry) → e .version < 256 ^ 8 → e .deadline < 256 ^ 8 → length (e .key) ≤ keyLimit → Bytes (e .key) → length (e .value) ≤ valueLimit
+pub entry-good : (f : FileForm) (e : Entry) → e .version < 256 ^ 8 → e .deadline < 256 ^ 8 → length (e .key) ≤ keyLimit → Bytes (e .key) → length (e .value) ≤ valueLimit
     → Bytes (e .value) → Valid (entryLine f) e
 unfolding entryLine
 entry-good form1 e hn hd hk bk hv bv =
@@ -55,13 +55,13 @@ entry-good form1 e hn hd hk bk hv bv =
     (seq-good (limited keyLimit) _ (limited-good keyLimit (e .key) (omega arith) hk bk) (limited-good valueLimit (e .value) (omega arith) hv bv))))
 
 -- each entry of a table has a written form
-pub table-good : (f : Form) (st : State) → IsTable st → Each (λ e. Valid (entryLine f) e) (st .entries)
+pub table-good : (f : FileForm) (st : State) → IsTable st → Each (λ e. Valid (entryLine f) e) (st .entries)
 table-good f st t =
     each-both _ _ _
     (λ e h i. entry-good f e (omega (arith, i .1, t .last)) (omega (arith, h .deadline)) (h .key) (bytes-are _ (h .keyBytes)) (h .value) (bytes-are _ (h .valueBytes)))
     (st .entries) (t .sizes) (t .issued)
 
-pub head-laws : (f : Form) → Laws (headLine f)
+pub head-laws : (f : FileForm) → Laws (headLine f)
 unfolding headLine
 head-laws f =
     type-laws all (λ p. p .1) (λ n. (formByte f, n)) (seq (guard (λ b. eqb b (formByte f)) 17 byte) (λ _. bigEndian 8))
@@ -71,11 +71,11 @@ head-laws f =
     let w = seq-valid (guard (λ b. eqb b (formByte f)) 17 byte) (λ _. bigEndian 8) p v in
     (ap {B = ℕ × ℕ} (λ (b : ℕ). (b, p .1)) (sym (eqb-true (p .0) (formByte f) (guard-valid (λ b. eqb b (formByte f)) 17 byte (p .0) (w .0) .0))), refl))
 
-pub head-most : (f : Form) → Most (headLine f) 9
+pub head-most : (f : FileForm) → Most (headLine f) 9
 unfolding headLine
 head-most f = type-most _ _ _ (seq-most (guard-most _ _ byte-most) (λ _ _. big-most 8))
 
-pub head-good : (f : Form) (n : ℕ) → n < 256 ^ 8 → Valid (headLine f) n
+pub head-good : (f : FileForm) (n : ℕ) → n < 256 ^ 8 → Valid (headLine f) n
 unfolding headLine byte
 head-good form1 n h =
     type-good all (λ p. p .1) (λ n. (0x01, n)) (seq (guard (λ b. eqb b 0x01) 17 byte) (λ _. bigEndian 8)) {b = n} refl

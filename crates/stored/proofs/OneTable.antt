@@ -13,12 +13,12 @@ use Rattle.map.proofs.Each.{pairs-without, table-without, table-history}
 use Rattle.table.specs.Memory.{stateOf, Sound}
 use Rattle.map.proofs.CountLaws.{fresh-counts}
 use Rattle.hex.specs.Hex.{line}
-use Rattle.stored.specs.File.{Form, entryLine, headLine, entryLines, linesOf, file, afresh, Stores}
+use Rattle.stored.specs.File.{FileForm, entryLine, headLine, entryLines, linesOf, file, afresh, Stores}
 use Rattle.stored.proofs.LineLaws.{entry-laws, table-good, head-laws, head-good, same-line}
 use Rattle.stored.proofs.FileLaws.{file-afresh}
 use Rattle.hex.proofs.HexLaws.{line-length}
 
-module _ (f : Form) where
+module _ (f : FileForm) where
   some-line : (e : Entry) (x : List ℕ) → line (entryLine f .enc e) ++ x ≡ [] → ⊥
   some-line e x p = omega (arith, ap length p, length-append (line (entryLine f .enc e)) x, line-length (entryLine f .enc e))
 
@@ -72,7 +72,7 @@ module _ (f : Form) where
       let st = stateOf t in
       record {
         table = table-history noHistory fresh-counts (record { first = omega arith; latest = omega arith }) (table-without (expired (st .history .latest)) (s .table));
-        order = pairs-without (expired (st .history .latest)) _ (st .entries) (s .form .order);
+        order = pairs-without (expired (st .history .latest)) _ (st .entries) (s .layout .order);
         history = refl;
         same = sym (file-afresh f (afresh st) refl);
       }

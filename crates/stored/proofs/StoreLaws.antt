@@ -30,7 +30,7 @@ use Rattle.table.specs.Found.{entryAt}
 use Rattle.table.proofs.Lists.{lt-or-ge}
 use Rattle.table.proofs.RowLaws.{entry-is}
 use Rattle.table.proofs.Answers.{held-row, no-row}
-use Rattle.stored.specs.File.{Form, form1, toEntry, fromEntry, entryLine, headLine, lineOf}
+use Rattle.stored.specs.File.{FileForm, form1, toEntry, fromEntry, entryLine, headLine, lineOf}
 use Rattle.stored.specs.StoreLoad.{lineAt}
 use Rattle.stored.proofs.LineLaws.{fields, entry-good, entry-most}
 
@@ -41,17 +41,17 @@ unfolding raw
 line-put s old at b h e f = let w = put-wrote (raw (length s)) s at old (raw-good s b) (omega arith) _ _ e in f ∙ line-over s old at (w .list) refl h
 
 -- what memory holds in a row has a written form
-row-good : (f : Form) (t : List ℕ) (a : ℕ) → Bytes t → Valid (entryLine f) (entryOf t a)
+row-good : (f : FileForm) (t : List ℕ) (a : ℕ) → Bytes t → Valid (entryLine f) (entryOf t a)
 unfolding entryOf entry
 row-good f t a b =
     entry-good f (entryOf t a) (big-small 8 t a b) (big-small 8 t (a + 8) b) (simp length-take (omega arith)) (bytes-part t (a + 32) (min (be8 t (a + 16)) keyLimit) b)
     (simp length-take (omega arith)) (bytes-part t (a + 96) (min (be8 t (a + 24)) valueLimit) b)
 
-blank-good : (f : Form) → Valid (entryLine f) (entry [] [] 0 0)
+blank-good : (f : FileForm) → Valid (entryLine f) (entry [] [] 0 0)
 unfolding entry
 blank-good f = entry-good f (entry [] [] 0 0) (omega arith) (omega arith) (omega arith) (λ i. omega arith) (omega arith) (λ i. omega arith)
 
-pub held-good : (f : Form) (t : List ℕ) (i : ℕ) → Bytes t → Valid (entryLine f) (entryAt t i)
+pub held-good : (f : FileForm) (t : List ℕ) (i : ℕ) → Bytes t → Valid (entryLine f) (entryAt t i)
 held-good f t i b =
     ⊎-elim
     (λ l. let h = held-row t i l in rw (entry-is t (h .0) i (h .1)) (row-good f t (rowAt t i) b))
@@ -115,24 +115,24 @@ wrote-front c m k {a = a} {old = old} {new = new} {r = r} v h w =
     (rw (z, w .list, sets-eq (c .enc a) old 0 (omega arith)) (take-at (c .enc a) (drop (0 + length (c .enc a)) old) (0 + length (c .enc a)) (omega arith)), omega (arith, w .next))
 
 -- the lines of a file
-pub line-head : (f : Form) (st : State) → lineAt f st 0 ≡ line (headLine f .enc (st .last))
+pub line-head : (f : FileForm) (st : State) → lineAt f st 0 ≡ line (headLine f .enc (st .last))
 unfolding lineAt
 line-head f st = refl
 
-pub line-entry : (f : Form) (t : List ℕ) (k : ℕ) → k < length (stateOf t .entries) → lineAt f (stateOf t) (suc k) ≡ lineOf f (stateOf t .history .latest) (entryAt t k)
+pub line-entry : (f : FileForm) (t : List ℕ) (k : ℕ) → k < length (stateOf t .entries) → lineAt f (stateOf t) (suc k) ≡ lineOf f (stateOf t .history .latest) (entryAt t k)
 unfolding lineAt entryAt
 line-entry f t k h = rw (lt-ltb k (length (stateOf t .entries)) h)
 
-pub line-none : (f : Form) (st : State) (k : ℕ) → length (st .entries) ≤ k → lineAt f st (suc k) ≡ []
+pub line-none : (f : FileForm) (st : State) (k : ℕ) → length (st .entries) ≤ k → lineAt f st (suc k) ≡ []
 unfolding lineAt
 line-none f st k h = rw (le-ltb k (length (st .entries)) h)
 
 -- the line of an entry that stands, and of one that does not
-pub line-stands : (f : Form) (now : ℕ) (e : Entry) → expired now e ≡ false → lineOf f now e ≡ line (entryLine f .enc e)
+pub line-stands : (f : FileForm) (now : ℕ) (e : Entry) → expired now e ≡ false → lineOf f now e ≡ line (entryLine f .enc e)
 unfolding lineOf
 line-stands f now e h = rw h
 
-pub line-gone : (f : Form) (now : ℕ) (e : Entry) → expired now e ≡ true → lineOf f now e ≡ []
+pub line-gone : (f : FileForm) (now : ℕ) (e : Entry) → expired now e ≡ true → lineOf f now e ≡ []
 unfolding lineOf
 line-gone f now e h = rw h
 

@@ -25,8 +25,8 @@ use Rattle.table.specs.Memory.{size, entry, stateOf, Sound}
 use Rattle.table.specs.Change.{Left, isSome}
 use Rattle.table.specs.declared.Outcome.the-variants.{Done, Refused}
 use Rattle.table.proofs.Restores.{started-is, started-says, started-long, restored-long, restored-sound, each-restored, each-mid}
-use Rattle.table.proofs.HasForm.{started-sound}
-use Rattle.stored.specs.File.{Form, form1, entryLine, headLine, entryLines, linesOf, Stores}
+use Rattle.table.proofs.HasImage.{started-sound}
+use Rattle.stored.specs.File.{FileForm, form1, entryLine, headLine, entryLines, linesOf, Stores}
 use Rattle.stored.specs.StoreLoad.{startWith, restoreTo, headLoaded, lineLoaded, loaded, NoEnd, Loads, no-line, a-line, Ends, LoadsLines, Loaded}
 use Rattle.stored.specs.declared.Loading.{Loading}
 use Rattle.stored.proofs.LineLaws.{entry-laws, table-good, head-laws, head-good, no-end, first-end, ends-split, line-cons}
@@ -61,11 +61,11 @@ left-some t u none e l = never (cc)
 left-some t u (some x) e l = ap some (sym l)
 
 -- lines behind lines: the cuts do not matter
-pub loads-both : {f : Form} {b c d : Bool} {x y t u v : List ℕ} → Loads f b x t c u → Loads f c y u d v → Loads f b (x ++ y) t d v
+pub loads-both : {f : FileForm} {b c d : Bool} {x y t u v : List ℕ} → Loads f b x t c u → Loads f c y u d v → Loads f b (x ++ y) t d v
 loads-both no-line q = q
 loads-both (a-line l o e r) q = rw append-assoc (a-line l o e (loads-both r q))
 
-loaded-long : (f : Form) (b : Bool) (l t u : List ℕ) → loaded f b l t ≡ some u → length u ≡ length t
+loaded-long : (f : FileForm) (b : Bool) (l t u : List ℕ) → loaded f b l t ≡ some u → length u ≡ length t
 unfolding headLoaded lineLoaded
 loaded-long f false l t u e = go (fromDigits (headLine f) l) e
   where
@@ -78,7 +78,7 @@ loaded-long f true l t u e = go (fromDigits (entryLine f) l) e
     go none q = never (cc)
     go (some x) q = restored-long (x .key) (x .value) (x .version) (x .deadline) t u q
 
-pub loads-long : {f : Form} {b c : Bool} {s t u : List ℕ} → Loads f b s t c u → length u ≡ length t
+pub loads-long : {f : FileForm} {b c : Bool} {s t u : List ℕ} → Loads f b s t c u → length u ≡ length t
 loads-long no-line = refl
 loads-long {f} {b} {t = t} (a-line {u = u} l o e r) = loads-long r ∙ loaded-long f b l t u e
 
@@ -104,7 +104,7 @@ module _ (s : List ℕ) (at r : ℕ) (found : r ≡ at + indexOf 0x0a (slice at 
         rw (i, e, ← drop-drop) (sym (take-append-drop (indexOf 0x0a (drop at s) + 1) (drop at s)) ∙ rw (x .0, append-assoc)),
       )
 
-  module _ {f : Form} {b c : Bool} {t₀ t u : List ℕ} (h : r < length s) (g : Loads f b (take at s) t₀ c t) where
+  module _ {f : FileForm} {b c : Bool} {t₀ t u : List ℕ} (h : r < length s) (g : Loads f b (take at s) t₀ c t) where
     pub bad-next : isSome (loaded f c next t) ≡ false → Left t (loaded f c next t) u → Loads f b (take at s) t₀ c u × Ends f c (drop at s) u false
     bad-next e l =
         let x = left-none (loaded f c next t) e l in
@@ -117,12 +117,12 @@ module _ (s : List ℕ) (at r : ℕ) (found : r ≡ at + indexOf 0x0a (slice at 
         let y = next-line h in
         rw (y .0) (loads-both g (a-line next (y .1) x no-line))
 
-ends-on : (f : Form) (b : Bool) (s t y : List ℕ) → Ends f b s t false → Ends f b (s ++ y) t false
+ends-on : (f : FileForm) (b : Bool) (s t y : List ℕ) → Ends f b s t false → Ends f b (s ++ y) t false
 ends-on f b s t y e = (e .0, e .1 ++ y, rw (e .2, append-assoc), e .3, e .4)
 
 -- A file in chunks: what is left of a chunk stands before the next one. Together they are loaded as one chunk, and a line that is not good
 -- is not good whatever comes behind it.
-module _ {f : Form} {b : Bool} {p t u : List ℕ} {r : Loading} (q : List ℕ) (g : LoadsLines f b p t r u) where
+module _ {f : FileForm} {b : Bool} {p t u : List ℕ} {r : Loading} (q : List ℕ) (g : LoadsLines f b p t r u) where
   pub chunks : {v : List ℕ} {r′ : Loading} → LoadsLines f (r .begun) (drop (r .taken) p ++ q) u r′ v
       → LoadsLines f b (p ++ q) t (record { taken = r .taken + r′ .taken; begun = r′ .begun; good = r′ .good }) v
   chunks {r′ = r′} h =
@@ -173,7 +173,7 @@ line-sound l t u h e = go (fromDigits (entryLine form1) l) refl e
         (d .0, ap (linesOf form1) (d .1) ∙ rw (lines-append, append-nil, y .same) (sym (append-assoc (line (headLine form1 .enc (stateOf t .last))) (entryLines form1 (stateOf t .entries)) (line (entryLine form1 .enc x)))), ap (λ (st : State). st .history) (d .1))
 
 -- lines behind a file
-loads-true : {f : Form} {c : Bool} {s t u : List ℕ} → Loads f true s t c u → c ≡ true
+loads-true : {f : FileForm} {c : Bool} {s t u : List ℕ} → Loads f true s t c u → c ≡ true
 loads-true no-line = refl
 loads-true (a-line l o e r) = loads-true r
 
@@ -192,7 +192,7 @@ loads-stores {t = t} (a-line {u = u} l o e r) p =
     let a = head-sound l t u e in
     let d = loads-sound r (a .0) in
     let z = d .2 ∙ a .2 in
-    (d .0, record { table = d .0 .table; order = d .0 .form .order; history = z; same = sym (file-afresh form1 _ z ∙ d .1 ∙ rw (a .1, append-assoc)) })
+    (d .0, record { table = d .0 .table; order = d .0 .layout .order; history = z; same = sym (file-afresh form1 _ z ∙ d .1 ∙ rw (a .1, append-assoc)) })
 
 -- a line that can be loaded does not end the loading
 stuck : (b : Bool) (bs z u : List ℕ) (g : Bool) → isSome (loaded form1 b (toHex bs) u) ≡ true → Ends form1 b (line bs ++ z) u g → ⊥
@@ -235,7 +235,7 @@ all-loaded {u = u} g y st (a-line l o e r) n q h =
     let i = loads-true r in
     let w = loads-stores (a-line l o e r) i in
     let p = file-front form1 (stateOf u) st y (w .0 .table) (q .table) (ap (λ (z : List ℕ). z ++ y) (sym (w .1 .same ∙ file-afresh form1 (stateOf u) (w .1 .history))) ∙ q .same ∙ file-afresh form1 st (q .history)) in
-    let z = rest-loads u y g (p .entries) q (w .0 .form .long) (p .all) (p .last) (p .behind) (rw i at n) in
+    let z = rest-loads u y g (p .entries) q (w .0 .layout .long) (p .all) (p .last) (p .behind) (rw i at n) in
     (i, z .0, z .1)
 
 -- the lines of a whole file
@@ -256,6 +256,6 @@ module _ {B new u : List ℕ} {p : Loading} (t : List ℕ) (g : LoadsLines form1
   pub loaded-yes : (t′ : List ℕ) → length t ≡ size → p .begun ≡ true → p .taken ≡ length B → t′ ≡ take (length u) u ++ drop (length u) t → Loaded form1 B t Done t′
   loaded-yes t′ h b n e =
       let x = whole-stores g b n in
-      let d : drop (length u) t ≡ [] = drop-of-length-le t {i = length u} (omega (arith, x .0 .form .long)) in
+      let d : drop (length u) t ≡ [] = drop-of-length-le t {i = length u} (omega (arith, x .0 .layout .long)) in
       let q : t′ ≡ u = e ∙ rw (take-length, d, append-nil) in
       rw q (h, x .0, x .1)

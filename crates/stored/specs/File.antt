@@ -15,11 +15,11 @@ use Rattle.map.specs.Table.{IsTable, Ascending}
 use Rattle.hex.specs.Hex.{line}
 
 -- the forms of a file; more may come
-pub data Form : Type 0 where
-  form1 : Form
+pub data FileForm : Type 0 where
+  form1 : FileForm
 
 -- the byte that the first line begins with
-abbrev pub formByte : Form → ℕ
+abbrev pub formByte : FileForm → ℕ
 formByte form1 = 0x01
 
 abbrev pub Fields : Type 0
@@ -32,31 +32,31 @@ abbrev pub fromEntry : Entry → Fields
 fromEntry e = (e .version, (e .deadline, (e .key, e .value)))
 
 -- the bytes of an entry's line
-unfoldable pub entryLine : Form → Codec Entry
+unfoldable pub entryLine : FileForm → Codec Entry
 entryLine form1 = as-type all toEntry fromEntry (seq entryVersion λ _. seq second λ _. seq (limited keyLimit) λ _. limited valueLimit)
 
 -- the bytes of the first line
-unfoldable pub headLine : Form → Codec ℕ
+unfoldable pub headLine : FileForm → Codec ℕ
 headLine f = as-type all (λ p. p .1) (λ n. (formByte f, n)) (seq (guard (λ b. eqb b (formByte f)) 17 byte) (λ _. entryVersion))
 
 -- "Every line of a stored file has" a line end.
-unfoldable pub entryLines : Form → List Entry → List ℕ
+unfoldable pub entryLines : FileForm → List Entry → List ℕ
 entryLines f [] = []
 entryLines f (e ∷ es) = line (entryLine f .enc e) ++ entryLines f es
 
 -- the line of an entry, which one that has expired at a second does not have
-unfoldable pub lineOf : Form → ℕ → Entry → List ℕ
+unfoldable pub lineOf : FileForm → ℕ → Entry → List ℕ
 lineOf f now e = cond (expired now e) [] (line (entryLine f .enc e))
 
 -- the first line and those of all entries
-unfoldable pub linesOf : Form → State → List ℕ
+unfoldable pub linesOf : FileForm → State → List ℕ
 linesOf f st = line (headLine f .enc (st .last)) ++ entryLines f (st .entries)
 
 -- "A stored file holds only entries that stand at the latest second served", and the last version issued all the same.
 abbrev pub lasting : State → State
 lasting st = withEntries (standing (st .history .latest) (st .entries)) st
 
-unfoldable pub file : Form → State → List ℕ
+unfoldable pub file : FileForm → State → List ℕ
 file f st = linesOf f (lasting st)
 
 -- The table that the file of a table gives back: the counts and the first second are "of the history since start or the last load", and no file holds
@@ -65,7 +65,7 @@ abbrev pub afresh : State → State
 afresh st = withHistory noHistory (lasting st)
 
 -- "Reading accepts exactly what writing a table can give."
-pub record Stores (f : Form) (bytes : List ℕ) (st : State) : Type 0 where
+pub record Stores (f : FileForm) (bytes : List ℕ) (st : State) : Type 0 where
   pub table : IsTable st
   pub order : Ascending (st .entries)
   pub history : st .history ≡ noHistory

@@ -1,4 +1,4 @@
--- On sound memory each change of the bytes is a change of the map's state, and keeps the form. Assumes nothing.
+-- On sound memory each change of the bytes is a change of the map's state, and keeps the layout. Assumes nothing.
 use mathlib.Core.Path.{_≡_, refl, sym, ap, _∙_, subst}
 use mathlib.Core.List.{List, [], _∷_, _++_}
 use mathlib.Core.Bool.{Bool}
@@ -19,7 +19,7 @@ use Rattle.map.specs.Step as map
 use Rattle.map.specs.Table.{Each, Counts, lastSecond, IsTable, Ascending}
 use Rattle.map.proofs.Counting.{arrive-table}
 use Rattle.map.proofs.Each.{each-map, each-add, pairs-add, pairs-without}
-use Rattle.table.specs.Memory.{countIndex, lastIndex, firstIndex, countsIndex, latestIndex, boundIndex, numberAt, size, numberOf, rowAt, entry, entryOf, countOf, entriesOf, historyOf, stateOf, Bounded, Form, Sound}
+use Rattle.table.specs.Memory.{countIndex, lastIndex, firstIndex, countsIndex, latestIndex, boundIndex, numberAt, size, numberOf, rowAt, entry, entryOf, countOf, entriesOf, historyOf, stateOf, Bounded, Layout, Sound}
 use Rattle.table.specs.Found.{entryAt}
 use Rattle.table.specs.Write.{withNumber, withNone, lower, lowered, begun, counted, withEntry}
 use Rattle.table.specs.Sweep.{noBound, presentAt, swept}
@@ -39,15 +39,15 @@ bounded-more : (k v : List ℕ) (n d b : ℕ) (es : List Entry) → Each (Bounde
 unfolding entry
 bounded-more k v n d b es h = each-add _ (Bounded (lower d b)) es (lower-each d b es h) (lower-new d b)
 
-abbrev shape : {t : List ℕ} → Form t → Shape t
+abbrev shape : {t : List ℕ} → Layout t → Shape t
 shape f = record { long = f .long; counted = f .counted; places = f .places; lengths = f .lengths }
 
--- the state and the form of memory by its entries
+-- the state and the layout of memory by its entries
 pub state-of : {u : List ℕ} {es : List Entry} {x : ℕ} {y : History} {z : ℕ} → Contains u es x y z → stateOf u ≡ record { entries = es; last = x; history = y }
 state-of {u} b = state-is u _ (b .shape .long) (b .entries) (b .last) (b .history)
 
-pub form-of : {u : List ℕ} {es : List Entry} {x : ℕ} {y : History} {z : ℕ} → Contains u es x y z → Ascending es → Each (Bounded z) es → Form u
-form-of {u} {es} b a m =
+pub layout-of : {u : List ℕ} {es : List Entry} {x : ℕ} {y : History} {z : ℕ} → Contains u es x y z → Ascending es → Each (Bounded z) es → Layout u
+layout-of {u} {es} b a m =
     let s = b .shape in
     record {
       long = s .long;
@@ -66,7 +66,7 @@ changed {t} {u} {es} {fs} {x} {z} {n} h b e f g a m =
     record {
       long = b .shape .long ∙ sym h;
       state = state-of b ∙ rw (e, f, g);
-      form = form-of b (subst Ascending (sym e) a) (subst (Each (Bounded n)) (sym e) m);
+      layout = layout-of b (subst Ascending (sym e) a) (subst (Each (Bounded n)) (sym e) m);
     }
 
 -- versions above those held
@@ -74,7 +74,7 @@ abbrev Above : List Entry → ℕ → Type 0
 Above es n = Each (λ e. e .version < n) es
 
 pub newest-above : (t : List ℕ) (x : ℕ) → Sound t → newest (stateOf t .entries) < x → Above (stateOf t .entries) x
-newest-above t x s h = each-map _ _ (λ e l. omega arith) (stateOf t .entries) (to-newest (stateOf t .entries) (s .form .order))
+newest-above t x s h = each-map _ _ (λ e l. omega arith) (stateOf t .entries) (to-newest (stateOf t .entries) (s .layout .order))
 
 next-above : (t : List ℕ) → Sound t → Above (stateOf t .entries) (suc (stateOf t .last))
 next-above t s = each-map _ _ (λ e i. omega (arith, i .1)) (stateOf t .entries) (s .table .issued)
@@ -82,20 +82,20 @@ next-above t s = each-map _ _ (λ e i. omega (arith, i .1)) (stateOf t .entries)
 module _ (k v : List ℕ) (n d : ℕ) (t : List ℕ) (s : Sound t) (room : length (stateOf t .entries) < mostKeys) (hk : length k ≤ keyLimit)
     (hv : length v ≤ valueLimit) (hn : n < 2 ^ 64) (hd : d < 2 ^ 64) (above : Above (stateOf t .entries) n) where
   abbrev h : length t ≡ size
-  h = s .form .long
+  h = s .layout .long
 
   longer : Contains (withEntry k v n d t) (entriesOf t ++ (entry k v n d ∷ [])) (numberOf t lastIndex) (historyOf t) (numberOf t boundIndex)
-  longer = one-more k v n d t (shape (s .form)) (omega (arith, length-entries t h)) hk hv hn hd
+  longer = one-more k v n d t (shape (s .layout)) (omega (arith, length-entries t h)) hk hv hn hd
 
   same : entriesOf t ++ (entry k v n d ∷ []) ≡ stateOf t .entries ++ (entry k v n d ∷ [])
   same = rw (entries-are t h)
 
   rises : Ascending (stateOf t .entries ++ (entry k v n d ∷ []))
   unfolding entry
-  rises = pairs-add _ _ (stateOf t .entries) (s .form .order) above
+  rises = pairs-add _ _ (stateOf t .entries) (s .layout .order) above
 
   bounds : Each (Bounded (lower d (numberOf t boundIndex))) (stateOf t .entries ++ (entry k v n d ∷ []))
-  bounds = bounded-more k v n d (numberOf t boundIndex) (stateOf t .entries) (s .form .bound)
+  bounds = bounded-more k v n d (numberOf t boundIndex) (stateOf t .entries) (s .layout .bound)
 
   -- an entry more as it is, and one with its version issued
   pub entry-changed : Changed t (lowered d (withEntry k v n d t)) (extended k v n d (stateOf t))
@@ -111,37 +111,37 @@ module _ {t u : List ℕ} (s : Sound t) where
   unfolding added fitsRow hasRoom
   added-changed k v d hk hv hd room l c =
       let e : u ≡ lowered d (withNumber lastIndex (suc (stateOf t .last)) (withEntry k v (suc (stateOf t .last)) d t)) =
-      rw (le-leb (length k) keyLimit hk, le-leb (length v) valueLimit hv, eq-eqb (length t) size (s .form .long), lt-ltb (length (stateOf t .entries)) mostKeys room, lt-ltb (stateOf t .last) lastVersion l) at c in
+      rw (le-leb (length k) keyLimit hk, le-leb (length v) valueLimit hv, eq-eqb (length t) size (s .layout .long), lt-ltb (length (stateOf t .entries)) mostKeys room, lt-ltb (stateOf t .last) lastVersion l) at c in
       rw e (entry-issued k v (suc (stateOf t .last)) d t s room hk hv (omega arith) hd (next-above t s))
 
   pub removed-changed : (i : ℕ) → i < length (stateOf t .entries) → Left t (removed i t) u → Changed t u (shrunk i (stateOf t))
   unfolding removed
   removed-changed i l c =
       let e = rw (lt-ltb i (length (stateOf t .entries)) l) at c in
-      let h = s .form .long in
+      let h = s .layout .long in
       rw e
-      (changed h (one-less t i (shape (s .form)) (omega (arith, length-entries t h))) (ap (removeAt i) (sym (entries-are t h))) (sym (last-is t h)) (sym (history-is t h))
-      (pairs-less _ (stateOf t .entries) i (s .form .order)) (each-less _ (stateOf t .entries) i (s .form .bound)))
+      (changed h (one-less t i (shape (s .layout)) (omega (arith, length-entries t h))) (ap (removeAt i) (sym (entries-are t h))) (sym (last-is t h)) (sym (history-is t h))
+      (pairs-less _ (stateOf t .entries) i (s .layout .order)) (each-less _ (stateOf t .entries) i (s .layout .bound)))
 
   pub renewed-changed : (i : ℕ) (v : List ℕ) (d : ℕ) → length v ≤ valueLimit → d < 2 ^ 64 → i < length (stateOf t .entries) → stateOf t .last < lastVersion
       → Left t (renewed i v d t) u → Changed t u (refreshed i v d (stateOf t))
   unfolding renewed entryAt entry
   renewed-changed i v d hv hd l hl c =
       let e = rw (le-leb (length v) valueLimit hv, lt-ltb i (length (stateOf t .entries)) l, lt-ltb (stateOf t .last) lastVersion hl) at c in
-      let h = s .form .long in
+      let h = s .layout .long in
       let m : i < countOf t = omega (arith, length-entries t h) in
       let n : ℕ = suc (stateOf t .last) in
       let k : entryOf t (rowAt t i) .key ≡ entryAt t i .key = ap (λ (x : Entry). x .key) (sym (entry-is t h i m)) in
       rw e
-      (changed h (lowers _ _ _ _ _ d (issue _ _ _ n _ _ (one-renewed t i (shape (s .form)) m v n d hv (omega arith) hd) (omega arith)) hd) (ap (λ (es : List Entry). removeAt i es ++ (entry (entryOf t (rowAt t i) .key) v n d ∷ [])) (sym (entries-are t h)) ∙ ap (λ (x : List ℕ). removeAt i (stateOf t .entries) ++ (entry x v n d ∷ [])) k) refl (sym (history-is t h))
-      (pairs-add _ _ (removeAt i (stateOf t .entries)) (pairs-less _ (stateOf t .entries) i (s .form .order)) (each-less _ (stateOf t .entries) i (next-above t s)))
-      (bounded-more (entryAt t i .key) v n d (numberOf t boundIndex) (removeAt i (stateOf t .entries)) (each-less _ (stateOf t .entries) i (s .form .bound))))
+      (changed h (lowers _ _ _ _ _ d (issue _ _ _ n _ _ (one-renewed t i (shape (s .layout)) m v n d hv (omega arith) hd) (omega arith)) hd) (ap (λ (es : List Entry). removeAt i es ++ (entry (entryOf t (rowAt t i) .key) v n d ∷ [])) (sym (entries-are t h)) ∙ ap (λ (x : List ℕ). removeAt i (stateOf t .entries) ++ (entry x v n d ∷ [])) k) refl (sym (history-is t h))
+      (pairs-add _ _ (removeAt i (stateOf t .entries)) (pairs-less _ (stateOf t .entries) i (s .layout .order)) (each-less _ (stateOf t .entries) i (next-above t s)))
+      (bounded-more (entryAt t i .key) v n d (numberOf t boundIndex) (removeAt i (stateOf t .entries)) (each-less _ (stateOf t .entries) i (s .layout .bound))))
 
   pub cleared-changed : Left t (cleared t) u → Changed t u (withEntries [] (stateOf t))
   unfolding cleared
   cleared-changed c =
-      let h = s .form .long in
-      rw (rw (eq-eqb (length t) size h) at c) (changed h (none-left t h (s .form .places)) refl (sym (last-is t h)) (sym (history-is t h)) tt tt)
+      let h = s .layout .long in
+      rw (rw (eq-eqb (length t) size h) at c) (changed h (none-left t h (s .layout .places)) refl (sym (last-is t h)) (sym (history-is t h)) tt tt)
 
 -- and a start, of any memory
 pub started-changed : (x : ℕ) (t u : List ℕ) → length t ≡ size → x ≤ lastVersion → Left t (started x t) u → Changed t u (record { entries = []; last = x; history = noHistory })
@@ -155,7 +155,7 @@ started-changed x t u h l c =
 -- and a call that arrives: what has expired goes, and the history goes on
 module _ {t : List ℕ} (s : Sound t) (c : Context) (r : Request) (l : c .second ≤ lastSecond) where
   abbrev h₁ : length t ≡ size
-  h₁ = s .form .long
+  h₁ = s .layout .long
 
   abbrev o : Operation
   o = r .op
@@ -176,7 +176,7 @@ module _ {t : List ℕ} (s : Sound t) (c : Context) (r : Request) (l : c .second
   u₃ = withNumber latestIndex now u₂
 
   w : Sweeps now t u₁
-  w = sweeps now t (shape (s .form)) (subst (Each (Bounded (numberOf t boundIndex))) (entries-are t h₁) (s .form .bound))
+  w = sweeps now t (shape (s .layout)) (subst (Each (Bounded (numberOf t boundIndex))) (entries-are t h₁) (s .layout .bound))
 
   long₁ : length u₁ ≡ size
   long₁ = w .contains .shape .long
@@ -215,7 +215,7 @@ module _ {t : List ℕ} (s : Sound t) (c : Context) (r : Request) (l : c .second
   unfolding arrive noted map.swept historyOf
   arrived-changed =
       changed h₁ b (rw (entries-are t h₁, history-is t h₁)) last-same (history-then ∙ rw (history-is t h₁))
-      (pairs-without _ _ (stateOf t .entries) (s .form .order))
+      (pairs-without _ _ (stateOf t .entries) (s .layout .order))
       (rw (bound-is, entries-are t h₁, history-is t h₁) (w .bounds))
 
   pub arrived-sound : {u : List ℕ} → Left t (arrived (r .op) (isNone (held r (map.swept c (stateOf t)))) (c .second) t) u
@@ -224,4 +224,4 @@ module _ {t : List ℕ} (s : Sound t) (c : Context) (r : Request) (l : c .second
   arrived-sound {u} d =
       let x = arrived-changed in
       let e : u ≡ u₃ = rw (eq-eqb (length t) size h₁, le-leb (c .second) lastSecond l) at d in
-      rw e (record { form = x .form; table = subst IsTable (sym (x .state)) (arrive-table c r (stateOf t) (omega arith) (s .table)) }, x .state)
+      rw e (record { layout = x .layout; table = subst IsTable (sym (x .state)) (arrive-table c r (stateOf t) (omega arith) (s .table)) }, x .state)

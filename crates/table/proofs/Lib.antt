@@ -15,4 +15,4 @@ pub mod Compare
 pub mod Keys
 pub mod Behind
 pub mod Restores
-pub mod HasForm
+pub mod HasImage

@@ -236,7 +236,7 @@ restored-sound k v n d t u h bk bv e =
     let r = restored-says k v n d t u e in
     let c = entry-changed k v n d t h (r .follows .room) (r .fits .key) (r .fits .value) (omega (arith, r .follows .most, h .table .last)) (omega (arith, r .fits .deadline))
     (newest-above t n h (r .follows .above)) in
-    rw (r .same) (record { form = c .form; table = subst IsTable (sym (c .state)) (restored-table k v n d t u h bk bv r) }, c .state)
+    rw (r .same) (record { layout = c .layout; table = subst IsTable (sym (c .state)) (restored-table k v n d t u h bk bv r) }, c .state)
 
 -- each entry of a table follows those before it
 pub each-mid : (p : Entry → Type 0) (es : List Entry) (e : Entry) (fs : List Entry) → Each p (es ++ (e ∷ fs)) → p e

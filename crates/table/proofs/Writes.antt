@@ -1,4 +1,4 @@
--- What the table's writes make of the entries and of the form. Assumes nothing.
+-- What the table's writes make of the entries and of the layout. Assumes nothing.
 use mathlib.Core.Path.{_≡_, refl, sym, ap, _∙_}
 use mathlib.Core.List.{List}
 use mathlib.Core.Logic.{inl, inr}

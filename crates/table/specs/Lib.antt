@@ -5,4 +5,4 @@ pub mod Compare
 pub mod Change
 pub mod Write
 pub mod Sweep
-pub mod Form
+pub mod Image

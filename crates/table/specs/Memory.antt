@@ -128,7 +128,7 @@ Bounded b e = 0 < e .deadline → b ≤ e .deadline
 
 -- what the memory adds to a table's conditions: its length, the permutation, that nothing is capped, the order of entries, and the bound. The bytes of
 -- rows that are not held mean nothing.
-pub record Form (t : List ℕ) : Type 0 where
+pub record Layout (t : List ℕ) : Type 0 where
   pub long : length t ≡ size
   pub counted : numberOf t countIndex ≤ mostKeys
   pub places : Permutation t
@@ -138,5 +138,5 @@ pub record Form (t : List ℕ) : Type 0 where
 
 -- "Sound means not refused 13."
 pub record Sound (t : List ℕ) : Type 0 where
-  pub form : Form t
+  pub layout : Layout t
   pub table : IsTable (stateOf t)

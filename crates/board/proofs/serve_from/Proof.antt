@@ -1,6 +1,6 @@
 -- `board::serve_from` keeps what it calls for: a table that was made is sound. Assumes nothing.
 use mathlib.Core.Path.{sym}
-use Rattle.table.proofs.HasForm.{made-sound}
+use Rattle.table.proofs.HasImage.{made-sound}
 use borrow.Author.Needs.{needs}
 use Rattle.board.proofs.serve_from.Statement.{statement}
 use Rattle.board.proofs.serve_from.Tie as tie

@@ -9,10 +9,10 @@ use Rattle.soundness.proofs.is_table.Statement.{statement}
 use Rattle.soundness.proofs.is_table.Tie as tie
 
 returns : tie.Need-returns
-returns c = says-no (λ s. c .if1 .taken (s .form .long))
+returns c = says-no (λ s. c .if1 .taken (s .layout .long))
 
 returns-2 : tie.Need-returns-2
-returns-2 c = says-no (λ s. omega (arith, s .form .counted, header-in (c .before .before .before .before .args .t .now) countIndex (s .form .long) (omega arith)))
+returns-2 c = says-no (λ s. omega (arith, s .layout .counted, header-in (c .before .before .before .before .args .t .now) countIndex (s .layout .long) (omega arith)))
 
 returns-3 : tie.Need-returns-3
 returns-3 c = says-no (λ s. omega (arith, s .table .last))
@@ -24,7 +24,7 @@ returns-5 : tie.Need-returns-5
 returns-5 c = says-no (λ s. refuted (c .before .counts-within .ensures) (not-true _ (c .if5 .taken)) (sound-counts _ s))
 
 returns-6 : tie.Need-returns-6
-returns-6 c = says-no (λ s. refuted (c .before .is-permutation .ensures) (not-true _ (c .if6 .taken)) (s .form .places))
+returns-6 c = says-no (λ s. refuted (c .before .is-permutation .ensures) (not-true _ (c .if6 .taken)) (s .layout .places))
 
 returns-7 : tie.Need-returns-7
 returns-7 c = says-no (λ s. refuted (c .before .all-within .ensures) (not-true _ (c .if7 .taken)) (sound-within _ s))

@@ -1,6 +1,6 @@
 -- `board::keep::load_file` meets its contract: the table was loaded, or made. Assumes nothing.
 use Rattle.wire.proofs.Laws.{never}
-use Rattle.table.proofs.HasForm.{made-sound}
+use Rattle.table.proofs.HasImage.{made-sound}
 use borrow.Author.Needs.{needs}
 use Rattle.board.proofs.keep.load_file.Statement.{statement}
 use Rattle.board.proofs.keep.load_file.Tie as tie

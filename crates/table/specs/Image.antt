@@ -16,8 +16,8 @@ abbrev pub firstNumber : Option ℕ → ℕ
 firstNumber none = 0
 firstNumber (some n) = suc n
 
-unfoldable pub form : State → List ℕ
-form st =
+unfoldable pub image : State → List ℕ
+image st =
     withNumber latestIndex (st .history .latest)
     (withNumbers countsIndex (st .history .counts)
     (withNumber firstIndex (firstNumber (st .history .first)) (withNumber lastIndex (st .last) (withAll (inOrder (zeros size)) (st .entries)))))

@@ -1,4 +1,4 @@
--- Every state that a table can hold, with its entries ascending, has memory that is its sound form; and memory that was made is sound.
+-- Every state that a table can hold, with its entries ascending, has memory that is its sound image; and memory that was made is sound.
 -- Assumes nothing.
 use mathlib.Core.Path.{_≡_, refl, sym, ap, _∙_, subst}
 use mathlib.Core.List.{List, [], _∷_, _++_, append-nil}
@@ -20,7 +20,7 @@ use Rattle.table.specs.Bytes.{upto, zeros}
 use Rattle.table.specs.Memory.{headCount, countIndex, lastIndex, firstIndex, countsIndex, latestIndex, boundIndex, numberAt, placesAt, deadlineStart, keyLengthStart, valueLengthStart, keyStart, valueStart, size, numberOf, firstOf, rowAt, entry, countOf, entriesOf, historyOf, stateOf, Bounded, Sound}
 use Rattle.table.specs.Change.{Left, made, started}
 use Rattle.table.specs.Write.{withNumber, withNumbers, inOrder, withKey, withValue, withEntry}
-use Rattle.table.specs.Form.{withAll, firstNumber, form}
+use Rattle.table.specs.Image.{withAll, firstNumber, image}
 use Rattle.map.proofs.Each.{each-map, each-both}
 use Rattle.map.proofs.CountLaws.{fresh-counts}
 use Rattle.table.proofs.Lists.{length-upto, getD-upto, lt-or-ge}
@@ -29,7 +29,7 @@ use Rattle.table.proofs.Regions.{Kept, kept-both, kept-wide, number-kep
 use Rattle.table.proofs.Writes.{Contains, named, number-written, number-is, numbers, issue}
 use Rattle.table.proofs.Numbers.{length-zeros, zero-at, no-number, no-history, numbers-kept, numbers-at, latest-written}
 use Rattle.table.proofs.Entries.{one-more, none-yet}
-use Rattle.table.proofs.Changes.{state-of, form-of, started-changed}
+use Rattle.table.proofs.Changes.{state-of, layout-of, started-changed}
 
 -- a list of n bytes
 record Held (n : ℕ) (t : List ℕ) : Type 0 where
@@ -117,8 +117,8 @@ rows [] t fs g h l = rw append-nil g
 rows (e ∷ es) t fs g h l =
     rw (← append-snoc fs e es) (rows es _ (fs ++ (e ∷ [])) (grows t fs e g (h .0) (omega arith)) (h .1) (omega (arith, length-append fs (e ∷ []))))
 
--- what memory that is the form of a state has
-pub record Formed (st : State) (t : List ℕ) : Type 0 where
+-- what memory that is the image of a state has
+pub record Imaged (st : State) (t : List ℕ) : Type 0 where
   pub state : stateOf t ≡ st
   pub sound : Sound t
   pub bytes : Bytes t
@@ -214,12 +214,12 @@ module _ (st : State) (h : IsTable st) (a : Ascending (st .entries)) where
       (bytes-numbers ns countsIndex w₂ (held-sets8 (numberAt firstIndex) _ (held-sets8 (numberAt lastIndex) (st .last) w₀ (omega arith)) (omega arith)) (omega (arith, h .counts .long)))
       (omega arith) .bytes
 
-  pub has-form : Formed st (form st)
-  unfolding form
-  has-form =
+  pub has-image : Imaged st (image st)
+  unfolding image
+  has-image =
       record {
         state = state-is;
-        sound = record { form = form-of c a bounds; table = subst IsTable (sym state-is) h };
+        sound = record { layout = layout-of c a bounds; table = subst IsTable (sym state-is) h };
         bytes = bytes-all;
       }
 
@@ -230,7 +230,7 @@ started-sound x t u h l d =
     let c = started-changed x t u h l d in
     let e = c .state in (
       record {
-        form = c .form;
+        layout = c .layout;
         table = subst IsTable (sym e) (record { few = omega arith; keys = tt; sizes = tt; versions = tt; issued = tt; last = l; counts = fresh-counts; seconds = record { first = omega arith; latest = omega arith } });
       },
       e,

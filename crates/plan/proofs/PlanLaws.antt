@@ -69,6 +69,17 @@ pub version-stands : (now : ℕ) (t k : List ℕ) (x : Held) → Pairs OtherKey 
     → heldVersion x ≡ versionOf (find (hasKey k) (standingAt now (stateOf t) .entries))
 version-stands now t k x p g = still-held now t k x g ∙ ap versionOf (sym (find-still k now (stateOf t .entries) p))
 
+-- an entry that is found has the version held
+module _ (t k : List ℕ) (i : ℕ) (x : Held) (g : heldVersion x ≡ versionOf (heldAt t k)) (e : FoundIs t k (f.At i)) where
+  version-found : heldVersion x ≡ some (entryAt t i .version)
+  version-found = g ∙ ap (λ o. versionOf o) (found-held t k i e)
+
+  pub found-version : {j : ℕ} {v : EntryVersion} → x ≡ h.Row j v → Holds t k (h.Row i v)
+  found-version q = (e, cc (rw q at version-found))
+
+  pub found-held-none : x ≡ h.Absent → ⊥
+  found-held-none q = never (cc (rw q at version-found))
+
 -- no more entries are judged by than are held; and they are those that stand, since no deadline is below the bound
 pub judged-fewer : (now : ℕ) (t : List ℕ) → length (judgedBy now t) ≤ length (stateOf t .entries)
 unfolding judgedBy

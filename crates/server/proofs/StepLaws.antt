@@ -40,8 +40,8 @@ use Rattle.service.proofs.Decides.{isSound}
 use Rattle.service.proofs.Sounds.{tells-sound}
 use Rattle.service.proofs.Calls.{within-fits, within-short}
 use Rattle.plan.specs.declared.Held.{Held}
-use Rattle.plan.specs.Plan.{isFull, refusalOf, Holds, HoldsAt, heldVersion, heldAt, standingAt}
-use Rattle.plan.proofs.PlanLaws.{all-stand, version-stands, holds-same}
+use Rattle.plan.specs.Plan.{isFull, refusalOf, Holds, HoldsAt, heldVersion, heldAt, judgedAt}
+use Rattle.plan.proofs.PlanLaws.{all-stand, version-stands, holds-same, judged-stands}
 use Rattle.server.specs.declared.Answer.{Answer}
 use Rattle.server.specs.CallDone.{callOf, doneOf, Says, Sends}
 use Rattle.server.specs.Act.{at, less, replaced, Storable, after, Performs, PerformsWithin}
@@ -166,15 +166,17 @@ module _ (c : Context) (q : Request) (t : List ℕ) {u : List ℕ} (w : stream-o
   unfolding held
   held-left s g = held-come c q t s x g ∙ ap (λ (st : State). versionOf (find (hasKey (q .args .key)) (st .entries))) (sym (w .0))
 
+-- a change is judged by what stands, as the step judges it
+pub judged-come : (c : Context) (q : Request) (t : List ℕ) → Sound t → (o : Option ℕ) (d : Change)
+    → refusalOf (judgedAt (present c (stateOf t)) t) o d ≡ refusalOf (arrive c q (stateOf t)) o d
+unfolding refusalOf isFull arrive noted swept
+judged-come c q t s o keep = refl
+judged-come c q t s o store = rw (judged-stands (present c (stateOf t)) t s)
+judged-come c q t s o drop = refl
+judged-come c q t s o empty = refl
+
 -- a step goes by what the code finds before the call is noted
 module _ (c : Context) (q : Request) (st : State) where
-  pub refusal-come : (o : Option ℕ) (d : Change) → refusalOf (arrive c q st) o d ≡ refusalOf (standingAt (present c st) st) o d
-  unfolding refusalOf isFull arrive noted swept
-  refusal-come o keep = refl
-  refusal-come o store = refl
-  refusal-come o drop = refl
-  refusal-come o empty = refl
-
   pub step-named : isEmpty (q .name) ≡ false → step c q st ≡ map.refused 9
   unfolding step core
   step-named e = rw e

@@ -10,7 +10,7 @@ ghost use lib.Dec.{ltb};
 ghost use Rattle.service.specs.Stream.{Serves};
 ghost use Rattle.service.specs.Many.{isShort, Streams};
 ghost use Rattle.server.specs.CallDone.{asVerdict, callOf, doneOf, contextOf, totalOf, Ready, CallsAt};
-ghost use Rattle.server.specs.Lines.{ServesLine, ServesLines};
+ghost use Rattle.server.specs.Lines.{ServesLines};
 
 // How a call ended, or a stream: full is a stream that needs an emptied reply buffer.
 pub enum Verdict {
@@ -129,12 +129,6 @@ pub fn serve_stream(input: &[u8], table: &mut [u8], second: u32, reply: &mut [u8
     all_calls(taken, size, calls, Verdict::Full)
 }
 
-// What serving a line answers: how many bytes it wrote, or the refusal for which it wrote none.
-pub enum Lined {
-    Written(usize),
-    Refused(u8),
-}
-
 // What serving the lines of a chunk of a file gives: the bytes taken, the bytes of the output, and whether the rest of a line is still to be passed over.
 pub struct Fed {
     pub taken: usize,
@@ -153,19 +147,6 @@ impl Fed {
 pub enum Served {
     Fed(Fed),
     Refused(u8),
-}
-
-// Serves a line, without its line end, and writes the line that it gives, with its line end.
-pub fn serve_line(line: &[u8], table: &mut [u8], out: &mut [u8]) -> Lined
-    ensures { λ r. ⌜ ServesLine (now (line .entry)) (now (table .entry)) (now (out .entry)) r (now (out .exit)) (now (table .exit)) ⌝ }
-{
-    if out.len() < Fed::ROOM {
-        return Lined::Refused(12);
-    }
-    if !soundness::is_table(table) {
-        return Lined::Refused(13);
-    }
-    Lined::Written(lines::line_sound(line, table, out, 0))
 }
 
 // Serves the lines of a chunk of a file, as long as there is room for a line. passing: the rest of the first line is passed over;

@@ -78,15 +78,14 @@ pub(crate) fn value(t: &[u8], i: usize) -> &[u8]
     bytes_at(t, a + Row::VALUE_LENGTH, a + Row::VALUE_START, Row::VALUE)
 }
 
-// Whether the row at a can have the key: the byte where it would end is the last of the key. That tells most rows apart, since keys often begin alike. An
-// empty key is told by its length.
+// Whether the row at a can have the key: the byte where it would end is the last of the key. That tells most rows apart, since keys often begin alike.
 fn ends_alike(t: &[u8], a: usize, k: &[u8]) -> bool
     requires { ⌜ a + rowWidth ≤ length (now t) ⌝ }
     ensures { λ r. ⌜ (entryOf (now (t .entry)) a .key ≡ now (k .entry) → r ≡ true) ⌝ }
 {
     let n = k.len();
     if n == 0 {
-        return number::get64(t, a + Row::KEY_LENGTH) == 0;
+        return true;
     }
     if n > Row::KEY {
         return false;

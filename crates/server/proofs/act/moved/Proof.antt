@@ -1,10 +1,5 @@
 -- `server::act::moved` meets its contract: the entry found has the version held. Assumes nothing.
-use mathlib.Core.Path.{sym, ap, _∙_}
-use Rattle.wire.proofs.Laws.{never}
-use Rattle.map.specs.Step.{versionOf}
-use Rattle.table.proofs.Keys.{found-held}
-use Rattle.plan.specs.declared.Held.{Held}
-use Rattle.plan.specs.Plan.{heldVersion}
+use Rattle.plan.proofs.PlanLaws.{found-version, found-held-none}
 use borrow.Author.Needs.{needs}
 use Rattle.server.proofs.act.moved.Statement.{statement}
 use Rattle.server.proofs.act.moved.Tie as tie
@@ -16,16 +11,13 @@ returns-2 : tie.Need-returns-2
 returns-2 c e =
     let f = c .before .before .before in
     let g = f .before .before .find .ensures in
-    let v = ap (λ (x : Held). heldVersion x) (c .enum-told2 .given .1) in
-    never (cc (sym v ∙ e ∙ ap (λ o. versionOf o) (found-held _ _ _ (rw (f .f .given .1) at g))))
+    absurd (found-held-none _ _ _ _ e (rw (f .f .given .1) at g) (c .enum-told2 .given .1))
 
 returns-3 : tie.Need-returns-3
 returns-3 c e =
     let f = c .before .before .before .before in
     let g = f .before .before .find .ensures in
-    let h = rw (f .f .given .1) at g in
-    let v = ap (λ (x : Held). heldVersion x) (c .before .held .given .1) in
-    (h, cc (sym v ∙ e ∙ ap (λ o. versionOf o) (found-held _ _ _ h)))
+    found-version _ _ _ _ e (rw (f .f .given .1) at g) (c .before .held .given .1)
 
 pub moved-spec : {M : Type 1} → statement M
 moved-spec =

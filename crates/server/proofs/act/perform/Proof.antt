@@ -19,11 +19,11 @@ use Rattle.table.specs.Memory.{stateOf}
 use Rattle.service.specs.Serve.{room}
 use Rattle.service.proofs.Calls.{room-least}
 use Rattle.plan.specs.declared.Held.{Held}
-use Rattle.plan.specs.Plan.{asPlan, asChange, asJudged, heldVersion, HoldsAt, refusalOf}
+use Rattle.plan.specs.Plan.{asPlan, asChange, asJudged, heldVersion, HoldsAt, judgedAt, refusalOf}
 use Rattle.plan.specs.declared.Judged.the-variants as judged
-use Rattle.plan.proofs.PlanLaws.{version-held, judged-stands}
+use Rattle.plan.proofs.PlanLaws.{version-held}
 use Rattle.server.specs.Act.{at, after, Planned, Agreed, Arrives}
-use Rattle.server.proofs.StepLaws.{does-refused, does-answered, held-come, refusal-come, step-named, step-refused, step-made}
+use Rattle.server.proofs.StepLaws.{does-refused, does-answered, held-come, judged-come, step-named, step-refused, step-made}
 use borrow.Author.Needs.{needs}
 use Rattle.server.proofs.act.perform.Statement.{statement}
 use Rattle.server.proofs.act.perform.Tie as tie
@@ -90,10 +90,11 @@ module _ (c : tie.After-refusal-of) where
   unfolding map.planned
   planned = sym (c .before .before .plan-of .ensures ∙ rw same)
 
-  judged-come : asJudged (c .refusal-of .result) ≡ refusalOf come (heldVersion (found .held-in .result)) change
-  judged-come =
-      (rw (clock .present .ensures, judged-stands _ _ (start .pre .0 .sound)) at (c .refusal-of .ensures))
-      ∙ sym (refusal-come context (asked start) (state start) (heldVersion (found .held-in .result)) change)
+  judges : asJudged (c .refusal-of .result) ≡ refusalOf come (heldVersion (found .held-in .result)) change
+  judges =
+      c .refusal-of .ensures
+      ∙ ap (λ n. refusalOf (judgedAt n (start .args .t .now)) (heldVersion (found .held-in .result)) change) (clock .present .ensures)
+      ∙ judged-come context (asked start) (start .args .t .now) (start .pre .0 .sound) (heldVersion (found .held-in .result)) change
 
   unnamed : isEmpty (asked start .name) ≡ true
   unnamed =
@@ -102,12 +103,12 @@ module _ (c : tie.After-refusal-of) where
       rw (← (n .ensures)) (eq-eqb (length (n .result .now)) 0 (i .if1 .left))
 
   refused : (k : ℕ) → c .refusal-of .result ≡ judged.Refused k → (map.step context (asked start) (state start) ≡ map.refused k) × ((1 ≤ k) × (k ≤ 11))
-  refused k h = step-refused context _ _ _ same change unnamed (rw planned) k (sym judged-come ∙ ap asJudged h)
+  refused k h = step-refused context _ _ _ same change unnamed (rw planned) k (sym judges ∙ ap asJudged h)
 
   -- the call is not refused: the step, and what the code has of it on the table behind `arrive`
   module _ (f : c .refusal-of .result ≡ judged.Free) where
     free : refusalOf come (heldVersion (found .held-in .result)) change ≡ none
-    free = sym judged-come ∙ ap asJudged f
+    free = sym judges ∙ ap asJudged f
 
     made : map.step context (asked start) (state start) ≡ map.answered (map.result context (asked start) come) (after (asked start) come change)
     made = step-made context _ _ _ same change unnamed (rw planned) free

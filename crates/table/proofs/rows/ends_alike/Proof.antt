@@ -25,17 +25,12 @@ module _ (t k : List ℕ) (a : ℕ) (h : a + rowWidth ≤ length t) (e : entryOf
       sym (getD-part t (a + keyStart) (min (be8 t (a + keyLengthStart)) keyLimit) n (omega (arith, sized)))
       ∙ ap (λ (xs : List ℕ). getD xs n 0) e
 
-returns : tie.Need-returns
-returns c e = let s = c .before .before .before .before in
-    eq-eqb (c .get64 .result) 0
-    (omega (arith, c .get64 .ensures, c .before .if1 .taken, sized (s .args .t .now) (s .args .k .now) (s .args .a) (s .pre) e))
-
 returns-2 : tie.Need-returns-2
-returns-2 c e = let s = c .before .before .before .before in
+returns-2 c e = let s = c .before .before in
     absurd (omega (arith, c .if2 .taken, sized (s .args .t .now) (s .args .k .now) (s .args .a) (s .pre) e))
 
 returns-3 : tie.Need-returns-3
-returns-3 c e = let s = c .before .before .before .before .before .before in
+returns-3 c e = let s = c .before .before .before .before in
     let n = length (s .args .k .now) in
     let q : s .args .a + 32 + n - 1 ≡ s .args .a + 32 + (n - 1) = omega (arith, c .before .before .before .if1 .left) in
     rw q (eq-eqb _ _ (ends (s .args .t .now) (s .args .k .now) (s .args .a) (s .pre) e (n - 1) (omega (arith, c .before .before .before .if1 .left))))
@@ -44,9 +39,7 @@ pub ends-alike-spec : {M : Type 1} → statement M
 ends-alike-spec =
     tie.close
     (tie.spec
-    (λ c. search needs)
-    (λ c κs. search needs)
-    returns
+    (λ c e. refl)
     returns-2
     (λ c. search needs)
     (λ c. search needs)

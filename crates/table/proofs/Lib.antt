@@ -1,6 +1,7 @@
 pub mod Lists
 pub mod Parts
 pub mod RowLaws
+pub mod Clues
 pub mod Regions
 pub mod Places
 pub mod Order

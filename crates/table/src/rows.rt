@@ -17,7 +17,7 @@ ghost use Rattle.wire.specs.Write.{part};
 ghost use Rattle.table.specs.Bytes.{be8};
 ghost use Rattle.table.specs.Memory.{headCount, countIndex, lastIndex, rowWidth, size, numberOf, rowAt, entryOf, countOf};
 ghost use Rattle.table.specs.Write.{withNumber, withNone, turned, less, inOrder, withKey, withValue, withEntry};
-ghost use Rattle.table.specs.Found.{Has, FoundFrom, Tells};
+ghost use Rattle.table.specs.Found.{Has, FoundFrom, Clued, Tells};
 
 // Number i of the header.
 pub(crate) fn header(t: &[u8], i: usize) -> u64
@@ -78,41 +78,56 @@ pub(crate) fn value(t: &[u8], i: usize) -> &[u8]
     bytes_at(t, a + Row::VALUE_LENGTH, a + Row::VALUE_START, Row::VALUE)
 }
 
-// Whether the row at a can have the key: the byte where it would end is the last of the key. That tells most rows apart, since keys often begin alike.
-fn ends_alike(t: &[u8], a: usize, k: &[u8]) -> bool
-    requires { ⌜ a + rowWidth ≤ length (now t) ⌝ }
-    ensures { λ r. ⌜ (entryOf (now (t .entry)) a .key ≡ now (k .entry) → r ≡ true) ⌝ }
+// A byte that every row with a key has: where it stands in the row, and what it is.
+struct Clue {
+    at: usize,
+    byte: u8,
+}
+
+// The byte by which most rows are told apart from those with the key: its last one, since keys often begin alike, or the last one of an empty key's length.
+fn clue_of(k: &[u8]) -> Clue
+    requires { ⌜ length (now k) ≤ keyLimit ⌝ }
+    ensures { λ r. ⌜ Clued (now (k .entry)) (r .at) (r .byte) ⌝ }
 {
     let n = k.len();
     if n == 0 {
-        return true;
+        return Clue {
+            at: Row::KEY_LENGTH + 7,
+            byte: 0,
+        };
     }
-    if n > Row::KEY {
-        return false;
+    Clue {
+        at: Row::KEY_START + n - 1,
+        byte: k[n - 1],
     }
-    t[a + Row::KEY_START + n - 1] == k[n - 1]
 }
 
-// Whether entry i has the key.
-fn has_key(t: &[u8], k: &[u8], i: usize) -> bool
+// Whether entry i has the key, by its clue first.
+fn has_key(t: &[u8], k: &[u8], i: usize, c: Clue) -> bool
     requires { ⌜ (length (now t) ≡ size) × (i < mostKeys) ⌝ }
+    requires { ⌜ Clued (now k) (c .at) (c .byte) ⌝ }
     ensures { λ r. ⌜ Tells r (Has (now (t .entry)) (now (k .entry)) i) ⌝ }
 {
-    if !ends_alike(t, row_at(t, i), k) {
+    let at = row_at(t, i) + c.at;
+    if t[at] != c.byte {
         return false;
     }
     same_key(key(t, i), k).equal
 }
 
-// The first entry from `from` on that has the key.
+// The first entry from `from` on that has the key. No entry has one that is longer than a key can be.
 pub(crate) fn find_from(t: &[u8], k: &[u8], from: usize) -> Found
     requires { ⌜ length (now t) ≡ size ⌝ }
     ensures { λ r. ⌜ FoundFrom (now (t .entry)) (now (k .entry)) from r ⌝ }
 {
+    if k.len() > Row::KEY {
+        return Found::Absent;
+    }
+    let c = clue_of(k);
     let n = count(t);
     let mut i = from;
     while i < n {
-        if has_key(t, k, i) {
+        if has_key(t, k, i, c) {
             return Found::At(i);
         }
         i += 1;

@@ -42,7 +42,7 @@ entry-sizes now r n v h =
 
 module _ (p : Entry → Bool) where
   -- where one is found, one less is left
-  less : (es : List Entry) → isNone (find p es) ≡ false → length (without p es) < length es
+  pub less : (es : List Entry) → isNone (find p es) ≡ false → length (without p es) < length es
   unfolding without find
   less [] h = never (cc)
   less (e ∷ es) h = go (p e) (less es) h

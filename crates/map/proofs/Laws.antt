@@ -17,7 +17,7 @@ use Rattle.map.proofs.Each.{each-left}
 use Rattle.map.proofs.Commute.{issues}
 
 -- what is found behind a removal, and behind a write
-abbrev orElse : Option Entry → Option Entry → Option Entry
+abbrev pub orElse : Option Entry → Option Entry → Option Entry
 orElse none b = b
 orElse (some e) b = some e
 
@@ -26,7 +26,7 @@ or-none none = refl
 or-none (some e) = refl
 
 module _ (p : Entry → Bool) where
-  find-without : (q : Entry → Bool) → ((e : Entry) → q e ≡ true → p e ≡ false) → (es : List Entry) → find p (without q es) ≡ find p es
+  pub find-without : (q : Entry → Bool) → ((e : Entry) → q e ≡ true → p e ≡ false) → (es : List Entry) → find p (without q es) ≡ find p es
   unfolding find without
   find-without q h [] = refl
   find-without q h (e ∷ es) = go (q e) refl (find-without q h es)
@@ -40,7 +40,7 @@ module _ (p : Entry → Bool) where
   find-none [] h = refl
   find-none (e ∷ es) h = rw (h .0, find-none es (h .1))
 
-  find-append : (es : List Entry) (e : Entry) → find p (es ++ (e ∷ [])) ≡ orElse (find p es) (cond (p e) (some e) none)
+  pub find-append : (es : List Entry) (e : Entry) → find p (es ++ (e ∷ [])) ≡ orElse (find p es) (cond (p e) (some e) none)
   unfolding find
   find-append [] e = refl
   find-append (x ∷ es) e = go (p x) (find-append es e)

@@ -13,6 +13,8 @@ pub mod Expiry
 pub mod ExpiryCases
 pub mod Keeps
 pub mod Order
+pub mod Members
+pub mod UpdateLaws
 pub mod Sent
 pub mod ListedFormat
 pub mod Format

@@ -12,3 +12,4 @@ pub mod Reply
 pub mod Expiry
 pub mod Revalue
 pub mod Order
+pub mod Update

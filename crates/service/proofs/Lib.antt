@@ -13,5 +13,6 @@ pub mod Bounds
 pub mod Many
 pub mod Once
 pub mod Expiry
+pub mod Update
 pub mod Chunks
 pub mod Edges

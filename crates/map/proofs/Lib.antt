@@ -18,3 +18,4 @@ pub mod UpdateLaws
 pub mod Sent
 pub mod ListedFormat
 pub mod Format
+pub mod CombineLaws

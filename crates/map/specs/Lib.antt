@@ -13,3 +13,4 @@ pub mod Expiry
 pub mod Revalue
 pub mod Order
 pub mod Update
+pub mod Combine

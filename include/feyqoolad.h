@@ -13,6 +13,7 @@
        1 to 17         refused; the numbers are those of enum fq_refusal
        FQ_DONE + n     done, with n bytes read or written; n is 0 where a function says so
        FQ_REPLY_FULL   fq_serve_stream alone: `reply` has to be emptied
+       FQ_NO_ENDS      fq_serve_many alone: the ends do not ascend, or one is behind the input's end
 
    and a refused call changes neither a table nor a buffer, save for the error reply where fq_serve or fq_serve_stream sends one.
 
@@ -31,6 +32,7 @@ extern "C" {
 
 #define FQ_DONE 256
 #define FQ_REPLY_FULL 257
+#define FQ_NO_ENDS 258
 
 #define FQ_TABLE_SIZE 45280     /* bytes of a table */
 #define FQ_TABLE_KEYS 128       /* keys that a table holds at most */
@@ -53,6 +55,7 @@ extern "C" {
 #define FQ_SAME_KEY_TOLD 2      /* fq_same_key */
 #define FQ_SERVE_TOLD 2         /* fq_serve */
 #define FQ_STREAM_TOLD 3        /* fq_serve_stream */
+#define FQ_SHARE_TOLD 3         /* fq_serve_many, for each connection */
 #define FQ_LINES_TOLD 3         /* fq_serve_lines */
 #define FQ_REQUEST_GIVEN 10     /* numbers that fq_write_request is given */
 #define FQ_REPLY_GIVEN 4        /* fq_write_reply */
@@ -149,6 +152,15 @@ uint64_t fq_serve(const uint8_t *input, size_t input_len, uint8_t *table, size_t
    calls there were. */
 uint64_t fq_serve_stream(const uint8_t *input, size_t input_len, uint8_t *table, size_t table_len, uint32_t second, uint8_t *reply, size_t reply_len,
                          uint64_t *answer, size_t answer_len);
+
+/* Serves the streams of several connections, whose inputs stand end to end in `input`: the first from its start to ends[0], each other from the end before
+   to its own. Each is served as by fq_serve_stream, in their order, on the table that the one before left and on `reply` behind all replies before, and a
+   refusal 1 to 8 ends the stream of its connection alone. The table is checked once. FQ_DONE is done; 12 where `answer` has less than FQ_SHARE_TOLD numbers
+   for each connection, FQ_NO_ENDS, 12 where `reply` has less than FQ_REPLY_ROOM bytes, 13: then nothing is done or told. Told of each connection: bytes
+   taken of its input, bytes of its replies, which stand end to end at the front of `reply`, and 0, 1 to 8 or FQ_REPLY_FULL as fq_serve_stream answers them:
+   a connection that is told FQ_REPLY_FULL waits for an emptied buffer, and the first one never without a byte taken. */
+uint64_t fq_serve_many(const uint8_t *input, size_t input_len, const uint64_t *ends, size_t ends_len, uint8_t *table, size_t table_len, uint32_t second,
+                       uint8_t *reply, size_t reply_len, uint64_t *answer, size_t answer_len);
 
 /* Files. */
 

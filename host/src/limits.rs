@@ -30,6 +30,8 @@ pub const REPLY_TOLD: usize = 21;
 pub const ENTRY_TOLD: usize = 6;
 /// Numbers that serving a stream tells.
 pub const STREAM_TOLD: usize = 3;
+/// Numbers that serving many tells of each connection.
+pub const SHARE_TOLD: usize = 3;
 /// Numbers that writing a request is given.
 pub const REQUEST_GIVEN: usize = 10;
 /// Numbers that writing a reply is given.
@@ -73,6 +75,7 @@ mod tests {
             ("FQ_REPLY_TOLD", REPLY_TOLD as u64),
             ("FQ_ENTRY_TOLD", ENTRY_TOLD as u64),
             ("FQ_STREAM_TOLD", STREAM_TOLD as u64),
+            ("FQ_SHARE_TOLD", SHARE_TOLD as u64),
             ("FQ_REQUEST_GIVEN", REQUEST_GIVEN as u64),
             ("FQ_REPLY_GIVEN", REPLY_GIVEN as u64),
             ("FQ_STATISTICS_GIVEN", STATISTICS as u64),

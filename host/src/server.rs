@@ -251,12 +251,8 @@ impl Server {
         }
         let places = &self.places;
         let input = |index: usize| Some(places.get(index)?.input.held());
-        let (batch, table) = (&mut self.batch, &mut self.table);
-        batch.begin();
-        match self.queue[..] {
-            [index] => batch.serve_alone(index, input(index).unwrap_or(&[]), table, second),
-            _ => batch.serve_together(&self.queue, input, table, second),
-        }
+        self.batch
+            .serve(&self.queue, input, &mut self.table, second);
         self.queue.clear();
     }
 

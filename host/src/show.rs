@@ -70,7 +70,13 @@ fn read(path: &Path) -> Result<Vec<u8>, Failure> {
 fn list(mut table: Table) -> Result<(Reply, Vec<u8>), Failure> {
     let command = Command::list();
     let mut bytes = vec![0; BULK_ROOM];
-    let served = table.serve_stream(&command.request()?, 0, &mut bytes);
+    let request = command.request()?;
+    let mut told = Vec::new();
+    let ends = [request.len() as u64];
+    let served = table
+        .serve_many(&request, &ends, 0, &mut bytes, &mut told)
+        .next()
+        .expect("one connection is served");
     bytes.truncate(served.replied);
     let asked = command.asked();
     match read_reply(&bytes, asked.operation, asked.previous) {

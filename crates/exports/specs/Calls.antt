@@ -11,6 +11,9 @@ use Rattle.table.specs.declared.Outcome.the-variants as o
 use Rattle.service.specs.Serve.{Verdict, served, more, refused, full}
 use Rattle.service.specs.Stream.{Call, Done, Serves}
 use Rattle.service.specs.Many.{Total, Streams}
+use Rattle.server.specs.declared.Shared.{Shared}
+use Rattle.server.specs.declared.Shared.the-variants as sh
+use Rattle.server.specs.Gives.{ServesMany}
 use Rattle.server.specs.declared.Served.{Served}
 use Rattle.server.specs.declared.Served.the-variants as s
 use Rattle.server.specs.Lines.{ServesLines}
@@ -48,6 +51,16 @@ pub record TellsTotal (c : Context) (input t lent out t' old new : List ℕ) (n 
   pub table : t' ≡ total .table
   pub told : new ≡ tell (total .taken ∷ total .size ∷ total .calls ∷ []) old
   pub code : n ≡ verdictCode (total .verdict)
+
+abbrev pub sharedCode : Shared → ℕ
+sharedCode (sh.Done n) = 256
+sharedCode (sh.Refused k) = k
+
+-- the same of the streams of several connections, whose numbers `ServesMany` tells
+pub record TellsMany (c : Context) (row ends t lent old out t' new : List ℕ) (n : ℕ) : Type 0 where
+  pub answer : Shared
+  pub serves : ServesMany c row ends t lent old answer out t' new
+  pub code : n ≡ sharedCode answer
 
 abbrev pub bit : Bool → ℕ
 bit true = 1

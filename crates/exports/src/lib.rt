@@ -5,6 +5,7 @@
 // fq_is_table: whether the memory is a sound table; fq_make: 256 for done, or 13;
 // fq_serve: 256 for served, 0 for more needed, or the refusal; fq_serve_stream: the same of the last call, or 257 where the reply buffer has no room
 // for another one;
+// fq_serve_many: 256 for done, or 12, 258 for ends that are none, 12, 13;
 // fq_serve_lines: 256 for done, or 12, 13; fq_store: 256 and the count of the file's bytes, or 13, 12; fq_load: 256 for done, or 17.
 // Numbers are told at the front of the list `answer`. A list that has no room for them refuses the call before anything is done: 12.
 mod calls;
@@ -24,7 +25,7 @@ ghost use Rattle.table.specs.Compare.{compared};
 ghost use Rattle.table.specs.Found.{Tells as Says};
 ghost use Rattle.table.specs.Change.{Left, outcomeOf, made};
 ghost use Rattle.server.specs.CallDone.{callOf, contextOf};
-ghost use Rattle.exports.specs.Calls.{TellsDone, TellsTotal, TellsServed, TellsStored, TellsLoaded, outcomeCode, keysCompared, Untold};
+ghost use Rattle.exports.specs.Calls.{TellsDone, TellsTotal, TellsMany, TellsServed, TellsStored, TellsLoaded, outcomeCode, keysCompared, Untold};
 ghost use Rattle.exports.specs.Codes.{coded, tell, told, inRoom, IfRoom};
 ghost use Rattle.exports.specs.Messages.{wholeRequest, wholeReply, wholeEntry, entryFrom, sendRequest, sendReply, sendStatistics, sendEntries};
 
@@ -216,6 +217,24 @@ pub extern "C" fn fq_serve_stream(
         return 12;
     }
     calls::serve_stream(input, table, second, reply, answer)
+}
+
+// Serves the streams of several connections, whose inputs stand end to end, each to one of the ends: 256 is done, 258 is for ends that do not ascend or are
+// behind the input's. Numbers told of each connection: bytes taken of its input, bytes of its replies, which stand end to end at the front of `reply`, and
+// how its stream ended, as fq_serve_stream answers it.
+#[no_mangle]
+pub extern "C" fn fq_serve_many(
+    input: &[u8],
+    ends: &[u64],
+    table: &mut [u8],
+    second: u32,
+    reply: &mut [u8],
+    answer: &mut [u64],
+) -> u64
+    ensures { λ r. ⌜ TellsMany (contextOf second) (now (input .entry)) (now (ends .entry)) (now (table .entry)) (now (reply .entry)) (now (answer .entry)) (now (reply .exit)) (now (table .exit)) (now (answer .exit)) r ⌝ }
+{
+    let a = server::serve_many(input, ends, table, second, reply, answer);
+    tell::shared(a)
 }
 
 // Serves the lines of a chunk of a file: 256 is served. Numbers told: bytes taken, bytes of the output, and 1 where the rest of a line is still to be

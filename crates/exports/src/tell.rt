@@ -5,6 +5,7 @@ use message::ReplyHead;
 use message::Request;
 use message::Sent;
 use reply_reader::Entries;
+use server::Shared;
 use server::Verdict;
 use statistics::Statistics;
 use table::Outcome;
@@ -16,7 +17,7 @@ ghost use Rattle.statistics.specs.Statistics.{listOf};
 ghost use Rattle.message.specs.Sent.{asSent};
 ghost use Rattle.reply_reader.specs.ReplyRead.{unlisted, withStatistics, withEntries};
 ghost use Rattle.server.specs.CallDone.{asVerdict};
-ghost use Rattle.exports.specs.Calls.{verdictCode, bit as bitOf, outcomeCode};
+ghost use Rattle.exports.specs.Calls.{verdictCode, sharedCode, bit as bitOf, outcomeCode};
 ghost use Rattle.exports.specs.Codes.{sentCode, tell};
 ghost use Rattle.exports.specs.Messages.{wholeRequest, wholeReply, wholeEntry};
 
@@ -198,6 +199,15 @@ pub(crate) fn verdict(v: Verdict) -> u64
         Verdict::More => 0,
         Verdict::Refused(k) => k as u64,
         Verdict::Full => 257,
+    }
+}
+
+pub(crate) fn shared(a: Shared) -> u64
+    ensures { λ r. ⌜ r ≡ sharedCode a ⌝ }
+{
+    match a {
+        Shared::Done(_) => 256,
+        Shared::Refused(k) => k as u64,
     }
 }
 

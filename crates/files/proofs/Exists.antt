@@ -51,7 +51,7 @@ use Rattle.files.specs.Serving.{Ready, Same, Refuses, FileGives, Answers
 use Rattle.files.proofs.NextLaws.{writes, ends, reads}
 use Rattle.files.proofs.Progress.{serves-file}
 use Rattle.server.proofs.TurnLaws.{tame}
-use Rattle.server.proofs.SendLaws.{id-small}
+use Rattle.service.proofs.Ids.{id-small}
 
 -- a state that a table can hold, in its order
 record Fit (st : State) : Type 0 where

@@ -1,7 +1,10 @@
 pub mod SendLaws
 pub mod StepLaws
+pub mod StreamLaws
+pub mod PartLaws
 pub mod ManyLaws
 pub mod CallLaws
 pub mod LineLaws
 pub mod LeftLaws
 pub mod TurnLaws
+pub mod Whole

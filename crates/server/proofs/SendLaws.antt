@@ -12,17 +12,15 @@ use lib.Dec.{eqb}
 use types.Run.{OneOf, miss}
 use denote.Enum.Declared.{tagOf}
 use borrow.Author.Tests.{eqb-true, eq-eqb, ne-eqb}
-use Rattle.wire.specs.Codec.{Read, whole, more, refused, Codec, Valid, Bytes, byte, guard, seq, as-type}
-use Rattle.wire.specs.Number.{vLong}
+use Rattle.wire.specs.Codec.{more, Codec, Valid}
 use Rattle.wire.specs.Write as wire
 use Rattle.wire.specs.Write.{send, written}
-use Rattle.wire.proofs.Laws.{never, after-whole, seq-valid, seq-laws, guard-laws, byte-laws}
-use Rattle.wire.proofs.NumberLaws.{valid, vLong-laws}
+use Rattle.wire.proofs.Laws.{never}
+use Rattle.wire.proofs.NumberLaws.{valid}
 use Rattle.wire.proofs.WriteLaws.{send-room}
 use Rattle.message.specs.declared.Operation.{Operation}
 use Rattle.message.specs.declared.Operation.the-variants.{Stats}
 use Rattle.message.specs.Operation.{codeOf}
-use Rattle.message.specs.Arguments.{valueLimit}
 use Rattle.message.specs.Request.{Request}
 use Rattle.message.specs.ReplyTable.{table, bodyAt, allowed}
 use Rattle.message.specs.Payload.{payload, formOf}
@@ -44,7 +42,6 @@ use Rattle.map.proofs.ListedFormat.{listing-good}
 use Rattle.table.specs.Memory as memory
 use Rattle.table.specs.Memory.{stateOf, Sound}
 use Rattle.table.specs.Found.{entryAt}
-use Rattle.message.specs.Start.{start, idFound, idIn}
 use Rattle.message.specs.declared.Form.{Form}
 use Rattle.message.specs.declared.Form.the-variants as f
 use Rattle.message.proofs.Form as form-code
@@ -58,7 +55,7 @@ use Rattle.plan.specs.Plan.{heldAt}
 use Rattle.server.specs.declared.Answer.{Answer}
 use Rattle.server.specs.CallDone.{Says, Sends}
 use Rattle.server.specs.Act.{isPlain, valueShown, versionShown, sentTo, Planned}
-use Rattle.server.specs.Bulk.{entryPair, listedPairs, Listable, sentListed}
+use Rattle.server.specs.Bulk.{entryPair, listedPairs, sentListed}
 
 -- a message that fits is written, and its bytes are the pieces sent
 module _ {A : Type 0} (c : Codec A) (a : A) {x : wire.Sent} {old new : List ℕ} {ps : List Piece} {n : ℕ} {v : stream.Verdict} {r : Answer} where
@@ -228,19 +225,3 @@ pub bulk-room : (values : Bool) (o : Operation) {l : ℕ} → o ≡ bulkOperatio
 unfolding roomOf
 bulk-room true o e h = rw e at h
 bulk-room false o e h = rw e at h
-
--- a message id is small
-found-small : (s : List ℕ) → Bytes s → (r : Read ℕ) → start .dec s ≡ r → idFound r < 0x8000_0000_0000_0000
-unfolding start as-type vLong
-found-small s b (whole i n) e =
-    let c = seq {A = ℕ} {B = λ _. ℕ} (guard (λ m. eqb m 0xa0) 1 byte) (λ _. vLong) in
-    let w = after-whole (c .dec s) _ i n e in
-    let x = seq-laws _ _ (guard-laws (λ m. eqb m 0xa0) 1 byte byte-laws) (λ _. vLong-laws) .exact s (w .val) (w .len) b (w .first) in
-    let z : w .val .1 ≡ i = cc (w .then) in
-    rw (← z) (valid 2 127 8 0 (w .val .1) (seq-valid _ _ (w .val) (x .good) .1) .1)
-found-small s b more e = omega arith
-found-small s b (refused k) e = omega arith
-
-pub id-small : (s : List ℕ) → Bytes s → idIn s < 0x8000_0000_0000_0000
-unfolding idIn
-id-small s b = found-small s b (start .dec s) refl

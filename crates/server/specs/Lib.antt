@@ -2,3 +2,4 @@ pub mod CallDone
 pub mod Act
 pub mod Bulk
 pub mod Lines
+pub mod Gives

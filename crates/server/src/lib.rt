@@ -2,15 +2,17 @@
 mod act;
 mod bulk;
 mod lines;
+mod many;
 
 use field::Second;
 ghost use mathlib.Core.Path.{_≡_};
-ghost use mathlib.Core.Bool.{false, _&&_};
+ghost use mathlib.Core.Bool.{false, _&&_, _||_};
 ghost use lib.Dec.{ltb};
 ghost use Rattle.service.specs.Stream.{Serves};
 ghost use Rattle.service.specs.Many.{isShort, Streams};
 ghost use Rattle.server.specs.CallDone.{asVerdict, callOf, doneOf, contextOf, totalOf, Ready, CallsAt};
 ghost use Rattle.server.specs.Lines.{ServesLines};
+ghost use Rattle.server.specs.Gives.{Begun, ServesMany};
 
 // How a call ended, or a stream: full is a stream that needs an emptied reply buffer.
 pub enum Verdict {
@@ -86,17 +88,58 @@ fn call_at(
     )
 }
 
-// Whether a call that ended so is refused because what is sent already has left too little room.
-fn waits(v: Verdict, size: usize) -> bool
-    ensures { λ r. ⌜ r ≡ (isShort (asVerdict v) && ltb 0 size) ⌝ }
+// Whether something is sent already.
+fn is_used(used: bool, size: usize) -> bool
+    ensures { λ r. ⌜ r ≡ (used || ltb 0 size) ⌝ }
 {
-    if size == 0 {
+    if used {
+        return true;
+    }
+    0 < size
+}
+
+// Whether a call that ended so is refused because what is sent already has left too little room.
+fn waits(v: Verdict, used: bool) -> bool
+    ensures { λ r. ⌜ r ≡ (isShort (asVerdict v) && used) ⌝ }
+{
+    if !used {
         return false;
     }
     match v {
         Verdict::Refused(k) => k == 12,
         _ => false,
     }
+}
+
+// Calls one after the other on a table that is sound. used: something is sent already, so that a call that lacks room waits.
+fn stream_sound(
+    input: &[u8],
+    table: &mut [u8],
+    second: u32,
+    reply: &mut [u8],
+    used: bool,
+) -> Streamed
+    requires { ⌜ Begun used (now table) (now reply) ⌝ }
+    ensures { λ r. ⌜ Streams (contextOf second) used (now (input .entry)) (now (table .entry)) (now (reply .entry)) (totalOf r (now (reply .exit)) (now (table .exit))) ⌝ }
+{
+    let mut taken: usize = 0;
+    let mut size: usize = 0;
+    let mut calls: usize = 0;
+    while Answer::ROOM <= reply.len() - size {
+        let a = call_at(input, taken, table, second, reply, size);
+        let v = a.verdict;
+        let some = is_used(used, size);
+        if waits(v, some) {
+            return all_calls(taken, size, calls, Verdict::Full);
+        }
+        taken = taken + a.taken;
+        size = size + a.size;
+        calls = calls + 1;
+        if a.taken == 0 {
+            return all_calls(taken, size, calls, v);
+        }
+    }
+    all_calls(taken, size, calls, Verdict::Full)
 }
 
 // Calls one after the other at one second, each on what the last one left, with one check of the table. "After 1 to 8 a stream is closed. After 9 to 11
@@ -110,23 +153,41 @@ pub fn serve_stream(input: &[u8], table: &mut [u8], second: u32, reply: &mut [u8
     if !soundness::is_table(table) {
         return all_calls(0, 0, 1, Verdict::Refused(13));
     }
-    let mut taken: usize = 0;
-    let mut size: usize = 0;
-    let mut calls: usize = 0;
-    while Answer::ROOM <= reply.len() - size {
-        let a = call_at(input, taken, table, second, reply, size);
-        let v = a.verdict;
-        if waits(v, size) {
-            return all_calls(taken, size, calls, Verdict::Full);
-        }
-        taken = taken + a.taken;
-        size = size + a.size;
-        calls = calls + 1;
-        if a.taken == 0 {
-            return all_calls(taken, size, calls, v);
-        }
+    stream_sound(input, table, second, reply, false)
+}
+
+// What serving several connections answers: the bytes sent to all of them, or the refusal for which nothing was done: 12, 13, or 258 where the ends are none.
+pub enum Shared {
+    Done(usize),
+    Refused(u16),
+}
+
+// Serves the streams of several connections, whose inputs stand end to end in `input`, each to one of the ends. Their replies stand end to end at the front
+// of `reply`. Three numbers are told of each: the bytes taken of its input, the bytes of its replies, and how its stream ended: 0 for more needed, the
+// refusal, or 257 where it waits for an emptied buffer.
+pub fn serve_many(
+    input: &[u8],
+    ends: &[u64],
+    table: &mut [u8],
+    second: u32,
+    reply: &mut [u8],
+    answer: &mut [u64],
+) -> Shared
+    ensures { λ r. ⌜ ServesMany (contextOf second) (now (input .entry)) (now (ends .entry)) (now (table .entry)) (now (reply .entry)) (now (answer .entry)) r (now (reply .exit)) (now (table .exit)) (now (answer .exit)) ⌝ }
+{
+    if answer.len() / 3 < ends.len() {
+        return Shared::Refused(12);
     }
-    all_calls(taken, size, calls, Verdict::Full)
+    if !many::are_ends(ends, input.len()) {
+        return Shared::Refused(258);
+    }
+    if reply.len() < Answer::ROOM {
+        return Shared::Refused(12);
+    }
+    if !soundness::is_table(table) {
+        return Shared::Refused(13);
+    }
+    Shared::Done(many::serve_parts(input, ends, table, second, reply, answer))
 }
 
 // What serving the lines of a chunk of a file gives: the bytes taken, the bytes of the output, and whether the rest of a line is still to be passed over.

@@ -16,3 +16,8 @@ pub mod Expiry
 pub mod Update
 pub mod Chunks
 pub mod Edges
+pub mod Ids
+pub mod Gets
+pub mod Linear
+pub mod Laid
+pub mod Apart

@@ -8,3 +8,5 @@ pub mod Line
 pub mod Feed
 pub mod Turns
 pub mod Edges
+pub mod Shares
+pub mod Linear

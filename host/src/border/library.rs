@@ -6,7 +6,7 @@ use std::ops::Range;
 
 use crate::limits::{
     DONE, ENTRY_TOLD, LONGEST_FILE, REPLY_FULL, REPLY_GIVEN, REPLY_TOLD, REQUEST_GIVEN,
-    REQUEST_TOLD, STATISTICS, STREAM_TOLD, TABLE_SIZE,
+    REQUEST_TOLD, SHARE_TOLD, STATISTICS, TABLE_SIZE,
 };
 
 extern "C" {
@@ -52,9 +52,11 @@ extern "C" {
         text_len: usize,
     ) -> u64;
     fn fq_make(table: *mut u8, len: usize) -> u64;
-    fn fq_serve_stream(
+    fn fq_serve_many(
         input: *const u8,
         input_len: usize,
+        ends: *const u64,
+        count: usize,
         table: *mut u8,
         table_len: usize,
         second: u32,
@@ -263,7 +265,7 @@ pub enum End {
     Refused(u64),
 }
 
-/// What serving a stream did.
+/// What serving the stream of a connection did.
 #[derive(Clone, Copy, Debug)]
 pub struct Served {
     pub end: End,
@@ -271,8 +273,6 @@ pub struct Served {
     pub taken: usize,
     /// Bytes of the replies.
     pub replied: usize,
-    /// How many calls were made.
-    pub calls: usize,
 }
 
 /// A table: memory that only the library writes.
@@ -323,14 +323,25 @@ impl Table {
         out
     }
 
-    /// Serves the requests of the input at this second.
-    pub fn serve_stream(&mut self, input: &[u8], second: u32, replies: &mut [u8]) -> Served {
-        let mut told = [0; STREAM_TOLD];
+    /// Serves connections whose inputs stand end to end, each to its end, at
+    /// this second. Their replies stand end to end; answers what each got.
+    pub fn serve_many<'a>(
+        &mut self,
+        input: &[u8],
+        ends: &[u64],
+        second: u32,
+        replies: &mut [u8],
+        told: &'a mut Vec<u64>,
+    ) -> impl Iterator<Item = Served> + 'a {
+        told.clear();
+        told.resize(SHARE_TOLD * ends.len(), 0);
         // SAFETY: all slices are lent for the call, with their lengths.
         let code = unsafe {
-            fq_serve_stream(
+            fq_serve_many(
                 input.as_ptr(),
                 input.len(),
+                ends.as_ptr(),
+                ends.len(),
                 self.memory.as_mut_ptr(),
                 self.memory.len(),
                 second,
@@ -340,17 +351,15 @@ impl Table {
                 told.len(),
             )
         };
-        let end = match code {
-            0 => End::More,
-            REPLY_FULL => End::Full,
-            1..=8 => End::Refused(code),
-            _ => panic!("fq_serve_stream answers {code}"),
-        };
-        Served {
-            end,
+        assert_eq!(code, DONE, "fq_serve_many refuses the call");
+        told.chunks_exact(SHARE_TOLD).map(|told| Served {
+            end: match told[2] {
+                0 => End::More,
+                REPLY_FULL => End::Full,
+                code => End::Refused(code),
+            },
             taken: told[0] as usize,
             replied: told[1] as usize,
-            calls: told[2] as usize,
-        }
+        })
     }
 }

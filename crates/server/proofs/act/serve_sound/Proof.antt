@@ -7,7 +7,7 @@ use Rattle.message.proofs.RequestLaws.{request-laws}
 use Rattle.message.proofs.Refusals.{refusals}
 use Rattle.request_reader.proofs.Spans.{request-in}
 use Rattle.service.specs.Serve.{onRead, within}
-use Rattle.server.proofs.SendLaws.{id-small}
+use Rattle.service.proofs.Ids.{id-small}
 use Rattle.server.proofs.StepLaws.{does, does-still, serves-read}
 use borrow.Author.Needs.{needs}
 use Rattle.server.proofs.act.serve_sound.Statement.{statement}

@@ -1,7 +1,7 @@
 -- `server::lines::send_error` meets its contract. Assumes nothing.
 use native.Mathlib.Omega.{arith}
 use Rattle.wire.specs.Codec.{Bytes}
-use Rattle.server.proofs.SendLaws.{id-small}
+use Rattle.service.proofs.Ids.{id-small}
 use Rattle.server.proofs.LineLaws.{error-in, lent-room, line-replied}
 use borrow.Author.Needs.{needs}
 use Rattle.server.proofs.lines.send_error.Statement.{statement}

@@ -89,25 +89,26 @@ enum fq_refusal {
    version, the entry count of bulkGet or the scope of bulkGetKeys, and start and length of name, key and value. */
 uint64_t fq_read_request(const uint8_t *input, size_t input_len, uint64_t *answer, size_t answer_len);
 
-/* Reads the reply at the front of the input, to a request with operation `op`, and with flag 0x0001 where `flag`. Told: bytes read, id, operation,
+/* Reads the reply at the front of the input, to a request of version `version` with operation `op`, and with flag 0x0001 where `flag`: 3 for a version that
+   is not served, then 4 for an operation that it does not have, both before any byte is looked at. Told: bytes read, id, operation,
    status, entry version, start and length of value and error text, and the nine statistics, which are 0 where it is no stats reply: time since start,
    current and total number of entries, stores, retrievals, hits, misses, remove hits, remove misses; then how many entries a bulk reply has, and start and
    length of their bytes, from the first byte 1 or 0 on, which fq_next_entry walks through. */
-uint64_t fq_read_reply(const uint8_t *input, size_t input_len, uint8_t op, bool flag, uint64_t *answer, size_t answer_len);
+uint64_t fq_read_reply(const uint8_t *input, size_t input_len, uint8_t version, uint8_t op, bool flag, uint64_t *answer, size_t answer_len);
 
 /* Writes a request at the front of `out`: 16, then 12. Given: id, version, operation, flags, intelligence, topology, lifespan, max idle, entry version,
    and the entry count of bulkGet or the scope of bulkGetKeys. A field that the operation does not send is 0 or empty. */
 uint64_t fq_write_request(uint8_t *out, size_t out_len, const uint64_t *numbers, size_t numbers_len, const uint8_t *name, size_t name_len,
                           const uint8_t *key, size_t key_len, const uint8_t *value, size_t value_len);
 
-/* Writes a reply at the front of `out`, to a request with operation `op`, and with flag 0x0001 where `flag`: 16, then 12. Given: id, operation (the
+/* Writes a reply at the front of `out`, to a request of version `version` with operation `op`, and with flag 0x0001 where `flag`: 16, then 12. Given: id, operation (the
    request's plus 1, or 0x50), status, entry version. A field that the status does not send is 0 or empty. */
-uint64_t fq_write_reply(uint8_t *out, size_t out_len, uint8_t op, bool flag, const uint64_t *numbers, size_t numbers_len, const uint8_t *value,
+uint64_t fq_write_reply(uint8_t *out, size_t out_len, uint8_t version, uint8_t op, bool flag, const uint64_t *numbers, size_t numbers_len, const uint8_t *value,
                         size_t value_len, const uint8_t *text, size_t text_len);
 
 /* Writes the reply to stats (operation 0x15) at the front of `out`: 16, then 12. Given: the nine statistics, in the order in which fq_read_reply tells
    them. A list of another length, and one with a number above the largest vLong, is 16; so is a stats reply that fq_write_reply is given. */
-uint64_t fq_write_statistics(uint8_t *out, size_t out_len, uint64_t id, const uint64_t *numbers, size_t numbers_len);
+uint64_t fq_write_statistics(uint8_t *out, size_t out_len, uint8_t version, uint64_t id, const uint64_t *numbers, size_t numbers_len);
 
 /* Reads an entry of a bulk reply, or the end of its entries, at the place `at` of the input, which is the start that fq_read_reply told or the place behind
    the entry before: with its value where `values`, as in the reply to bulkGet, or its key alone. Told: bytes read, 1 for an entry or 0 at the end, and
@@ -117,7 +118,7 @@ uint64_t fq_next_entry(const uint8_t *input, size_t input_len, uint64_t at, bool
 /* Writes the reply to bulkGet where `values`, or to bulkGetKeys, at the front of `out`: 16, then 12. Given for each entry: start and length of its key, start
    and length of its value in `bytes`. Of a part that does not lie within the bytes, as many are sent as there are. More than FQ_TABLE_KEYS entries are 16,
    and so is a value that is not sent and not empty. */
-uint64_t fq_write_entries(uint8_t *out, size_t out_len, uint64_t id, bool values, const uint8_t *bytes, size_t bytes_len, const uint64_t *numbers,
+uint64_t fq_write_entries(uint8_t *out, size_t out_len, uint8_t version, uint64_t id, bool values, const uint8_t *bytes, size_t bytes_len, const uint64_t *numbers,
                           size_t numbers_len);
 
 /* Compares two keys as the table does: their lengths first, then their bytes from the end: FQ_DONE. Told: 1 where they are equal or 0, and how many pairs

@@ -131,11 +131,11 @@ static void messages(void) {
     same_bytes(__LINE__, frame + answer[11], answer[12], name, sizeof name);
     same_bytes(__LINE__, frame + answer[13], answer[14], key, sizeof key);
     same_bytes(__LINE__, frame + answer[15], answer[16], value, sizeof value);
-    SAME(fq_write_reply(frame, sizeof frame, 0x11, false, told, FQ_REPLY_GIVEN, value, sizeof value, name, 0), FQ_DONE + 279);
-    SAME(fq_read_reply(frame, sizeof frame, 0x11, false, answer, FQ_REPLY_TOLD), FQ_DONE + 279);
+    SAME(fq_write_reply(frame, sizeof frame, 12, 0x11, false, told, FQ_REPLY_GIVEN, value, sizeof value, name, 0), FQ_DONE + 279);
+    SAME(fq_read_reply(frame, sizeof frame, 12, 0x11, false, answer, FQ_REPLY_TOLD), FQ_DONE + 279);
     same_bytes(__LINE__, answer + 1, sizeof told, told, sizeof told);
     same_bytes(__LINE__, frame + answer[5], answer[6], value, sizeof value);
-    SAME(fq_read_reply(frame, sizeof frame, 0x10, false, answer, FQ_REPLY_TOLD), FQ_BAD_COMMAND);
+    SAME(fq_read_reply(frame, sizeof frame, 12, 0x10, false, answer, FQ_REPLY_TOLD), FQ_BAD_COMMAND);
     SAME(fq_write_request(frame, sizeof frame, given, FQ_REQUEST_GIVEN - 1, name, 0, key, 0, value, 0), FQ_BAD_MESSAGE);
 }
 
@@ -145,23 +145,23 @@ static void statistics(void) {
     static uint8_t frame[FQ_LONGEST_REPLY + 1];
     const uint64_t most = UINT64_MAX / 2, unsent[FQ_REPLY_GIVEN] = {1, 0x16, 0, 0};
     uint64_t nine[FQ_STATISTICS_GIVEN] = {most, most, most, most, most, most, most, most, most};
-    SAME(fq_write_statistics(frame, FQ_LONGEST_REPLY - 1, most, nine, FQ_STATISTICS_GIVEN), FQ_NO_ROOM);
-    SAME(fq_write_statistics(frame, sizeof frame, most, nine, FQ_STATISTICS_GIVEN), FQ_DONE + FQ_LONGEST_REPLY);
-    SAME(fq_read_reply(frame, FQ_LONGEST_REPLY - 1, 0x15, false, answer, FQ_REPLY_TOLD), 0);
-    SAME(fq_read_reply(frame, sizeof frame, 0x15, true, answer, FQ_REPLY_TOLD), FQ_DONE + FQ_LONGEST_REPLY);
+    SAME(fq_write_statistics(frame, FQ_LONGEST_REPLY - 1, 12, most, nine, FQ_STATISTICS_GIVEN), FQ_NO_ROOM);
+    SAME(fq_write_statistics(frame, sizeof frame, 12, most, nine, FQ_STATISTICS_GIVEN), FQ_DONE + FQ_LONGEST_REPLY);
+    SAME(fq_read_reply(frame, FQ_LONGEST_REPLY - 1, 12, 0x15, false, answer, FQ_REPLY_TOLD), 0);
+    SAME(fq_read_reply(frame, sizeof frame, 12, 0x15, true, answer, FQ_REPLY_TOLD), FQ_DONE + FQ_LONGEST_REPLY);
     SAME(answer[1], most);
     SAME(answer[2], 0x16);
     same_bytes(__LINE__, answer + 9, sizeof nine, nine, sizeof nine);
     for (uint64_t i = 0; i < FQ_STATISTICS_GIVEN; i++) nine[i] = 10 * i;
-    SAME(fq_write_statistics(frame, sizeof frame, 1, nine, FQ_STATISTICS_GIVEN), FQ_DONE + 5 + 114 + 26);
-    SAME(fq_read_reply(frame, sizeof frame, 0x15, false, answer, FQ_REPLY_TOLD), FQ_DONE + 5 + 114 + 26);
+    SAME(fq_write_statistics(frame, sizeof frame, 12, 1, nine, FQ_STATISTICS_GIVEN), FQ_DONE + 5 + 114 + 26);
+    SAME(fq_read_reply(frame, sizeof frame, 12, 0x15, false, answer, FQ_REPLY_TOLD), FQ_DONE + 5 + 114 + 26);
     same_bytes(__LINE__, answer + 9, sizeof nine, nine, sizeof nine);
     frame[7] = 'T';
-    SAME(fq_read_reply(frame, sizeof frame, 0x15, false, answer, FQ_REPLY_TOLD), FQ_BAD_FIELD);
-    SAME(fq_write_statistics(frame, sizeof frame, 1, nine, FQ_STATISTICS_GIVEN - 1), FQ_BAD_MESSAGE);
-    SAME(fq_write_reply(frame, sizeof frame, 0x15, false, unsent, FQ_REPLY_GIVEN, none, 0, none, 0), FQ_BAD_MESSAGE);
+    SAME(fq_read_reply(frame, sizeof frame, 12, 0x15, false, answer, FQ_REPLY_TOLD), FQ_BAD_FIELD);
+    SAME(fq_write_statistics(frame, sizeof frame, 12, 1, nine, FQ_STATISTICS_GIVEN - 1), FQ_BAD_MESSAGE);
+    SAME(fq_write_reply(frame, sizeof frame, 12, 0x15, false, unsent, FQ_REPLY_GIVEN, none, 0, none, 0), FQ_BAD_MESSAGE);
     nine[4] = most + 1;
-    SAME(fq_write_statistics(frame, sizeof frame, 1, nine, FQ_STATISTICS_GIVEN), FQ_BAD_MESSAGE);
+    SAME(fq_write_statistics(frame, sizeof frame, 12, 1, nine, FQ_STATISTICS_GIVEN), FQ_BAD_MESSAGE);
 }
 
 /* A bulk reply: its entries named in bytes of the caller's, read back, and walked through. */
@@ -175,11 +175,11 @@ static void entries(void) {
     static uint64_t many[FQ_ENTRY_GIVEN * (FQ_TABLE_KEYS + 1)];
     static uint8_t frame[FQ_BULK_ROOM];
     const size_t n = sizeof wanted, start = 5;
-    SAME(fq_write_entries(frame, n - 1, 1, true, bytes, 7, numbers, 12), FQ_NO_ROOM);
-    SAME(fq_write_entries(frame, n, 1, true, bytes, 7, numbers, 12), FQ_DONE + n);
+    SAME(fq_write_entries(frame, n - 1, 12, 1, true, bytes, 7, numbers, 12), FQ_NO_ROOM);
+    SAME(fq_write_entries(frame, n, 12, 1, true, bytes, 7, numbers, 12), FQ_DONE + n);
     same_bytes(__LINE__, frame, n, wanted, n);
-    SAME(fq_read_reply(frame, n - 1, 0x19, false, answer, FQ_REPLY_TOLD), 0);
-    SAME(fq_read_reply(frame, n, 0x19, false, answer, FQ_REPLY_TOLD), FQ_DONE + n);
+    SAME(fq_read_reply(frame, n - 1, 12, 0x19, false, answer, FQ_REPLY_TOLD), 0);
+    SAME(fq_read_reply(frame, n, 12, 0x19, false, answer, FQ_REPLY_TOLD), FQ_DONE + n);
     SAME(answer[2], 0x1a);
     SAME(answer[18], 3);
     SAME(answer[19], start);
@@ -197,17 +197,17 @@ static void entries(void) {
     SAME(answer[1], 0);
     SAME(fq_next_entry(frame, n, n, true, answer, FQ_ENTRY_TOLD), 0);
     SAME(fq_next_entry(frame, n, 6, true, answer, FQ_ENTRY_TOLD), FQ_BAD_FIELD);
-    SAME(fq_write_entries(frame, sizeof frame, 1, false, bytes, 7, numbers, 12), FQ_BAD_MESSAGE);
-    SAME(fq_write_entries(frame, sizeof frame, 1, false, bytes, 7, named, 8), FQ_DONE + sizeof keys);
+    SAME(fq_write_entries(frame, sizeof frame, 12, 1, false, bytes, 7, numbers, 12), FQ_BAD_MESSAGE);
+    SAME(fq_write_entries(frame, sizeof frame, 12, 1, false, bytes, 7, named, 8), FQ_DONE + sizeof keys);
     same_bytes(__LINE__, frame, sizeof keys, keys, sizeof keys);
-    SAME(fq_read_reply(frame, sizeof keys, 0x1d, true, answer, FQ_REPLY_TOLD), FQ_DONE + sizeof keys);
+    SAME(fq_read_reply(frame, sizeof keys, 12, 0x1d, true, answer, FQ_REPLY_TOLD), FQ_DONE + sizeof keys);
     SAME(answer[18], 2);
     SAME(fq_next_entry(frame, sizeof keys, start, false, answer, FQ_ENTRY_TOLD), FQ_DONE + 4);
-    SAME(fq_write_reply(frame, sizeof frame, 0x19, false, empty, FQ_REPLY_GIVEN, none, 0, none, 0), FQ_DONE + 6);
-    SAME(fq_write_entries(frame, sizeof frame, 1, true, bytes, 7, many, FQ_ENTRY_GIVEN * FQ_TABLE_KEYS), FQ_DONE + 6 + 3 * FQ_TABLE_KEYS);
-    SAME(fq_write_entries(frame, sizeof frame, 1, true, bytes, 7, many, FQ_ENTRY_GIVEN * (FQ_TABLE_KEYS + 1)), FQ_BAD_MESSAGE);
+    SAME(fq_write_reply(frame, sizeof frame, 12, 0x19, false, empty, FQ_REPLY_GIVEN, none, 0, none, 0), FQ_DONE + 6);
+    SAME(fq_write_entries(frame, sizeof frame, 12, 1, true, bytes, 7, many, FQ_ENTRY_GIVEN * FQ_TABLE_KEYS), FQ_DONE + 6 + 3 * FQ_TABLE_KEYS);
+    SAME(fq_write_entries(frame, sizeof frame, 12, 1, true, bytes, 7, many, FQ_ENTRY_GIVEN * (FQ_TABLE_KEYS + 1)), FQ_BAD_MESSAGE);
     frame[5 + 3 * FQ_TABLE_KEYS] = 1;
-    SAME(fq_read_reply(frame, 6 + 3 * FQ_TABLE_KEYS, 0x19, false, answer, FQ_REPLY_TOLD), FQ_TOO_LONG);
+    SAME(fq_read_reply(frame, 6 + 3 * FQ_TABLE_KEYS, 12, 0x19, false, answer, FQ_REPLY_TOLD), FQ_TOO_LONG);
 }
 
 /* A ping, a bulkGet and a ping: the replies fill the buffer, the whole buffer is too small, all are served. */
@@ -328,7 +328,7 @@ static void short_lists(void) {
     memset(answer, 0x55, sizeof answer);
     memcpy(untold, answer, sizeof answer);
     SAME(fq_read_request(put, sizeof put, answer, FQ_REQUEST_TOLD - 1), FQ_NO_ROOM);
-    SAME(fq_read_reply(pong, sizeof pong, 0x17, false, answer, FQ_REPLY_TOLD - 1), FQ_NO_ROOM);
+    SAME(fq_read_reply(pong, sizeof pong, 12, 0x17, false, answer, FQ_REPLY_TOLD - 1), FQ_NO_ROOM);
     SAME(fq_next_entry(pong, sizeof pong, 3, true, answer, FQ_ENTRY_TOLD - 1), FQ_NO_ROOM);
     SAME(fq_same_key(put, 1, put, 1, answer, FQ_SAME_KEY_TOLD - 1), FQ_NO_ROOM);
     SAME(fq_serve(put, sizeof put, other, sizeof other, 0, reply, FQ_REPLY_ROOM, answer, FQ_SERVE_TOLD - 1), FQ_NO_ROOM);
@@ -354,7 +354,7 @@ static void longest_file(void) {
     SAME(n, FQ_DONE + 18);
     SAME(fq_serve(frame, 18, other, sizeof other, 0, reply, FQ_BULK_ROOM, answer, FQ_SERVE_TOLD), FQ_DONE);
     SAME(answer[1], FQ_LONGEST_BULK);
-    SAME(fq_read_reply(reply, sizeof reply, 0x19, false, answer, FQ_REPLY_TOLD), FQ_DONE + FQ_LONGEST_BULK);
+    SAME(fq_read_reply(reply, sizeof reply, 12, 0x19, false, answer, FQ_REPLY_TOLD), FQ_DONE + FQ_LONGEST_BULK);
     SAME(answer[18], FQ_TABLE_KEYS);
 }
 

@@ -61,7 +61,12 @@ fn is_awaited(reply: &Reply) -> bool {
 pub fn receive(stream: &mut TcpStream, asked: Asked, bytes: &mut [u8]) -> Result<Reply, Failure> {
     let mut held = 0;
     loop {
-        match read_reply(&bytes[..held], asked.operation, asked.previous) {
+        match read_reply(
+            &bytes[..held],
+            asked.version,
+            asked.operation,
+            asked.previous,
+        ) {
             Found::Whole(reply) if is_awaited(&reply) => return Ok(reply),
             Found::Whole(_) => return Err("the reply is to another request".to_string()),
             Found::Refused(number) => {

@@ -116,7 +116,7 @@ impl Operation {
 }
 
 /// The protocol version in which requests are written: 1.2.
-const PROTOCOL: u64 = 12;
+pub const PROTOCOL: u8 = 12;
 /// A client that knows of no cluster.
 const BASIC: u64 = 1;
 /// The message id of the one request that is sent.
@@ -190,6 +190,7 @@ impl Command {
     /// What a reply to it has to be read as.
     pub fn asked(&self) -> Asked {
         Asked {
+            version: PROTOCOL,
             operation: self.operation.code,
             previous: self.previous,
         }
@@ -200,7 +201,7 @@ impl Command {
         let mut out = vec![0; LONGEST_REQUEST];
         let numbers = [
             ID,
-            PROTOCOL,
+            u64::from(PROTOCOL),
             u64::from(self.operation.code),
             u64::from(self.previous),
             BASIC,

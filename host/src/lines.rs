@@ -5,7 +5,7 @@ use std::fs::File;
 use std::io::{self, BufRead, BufReader, Write};
 
 use crate::border::library::{read_reply, read_request, Found};
-use crate::command::{Command, Operation, PING};
+use crate::command::{Command, Operation, PING, PROTOCOL};
 use crate::failure::{because, Failure};
 use crate::hex::{from_digits, to_digits};
 use crate::server::second;
@@ -73,7 +73,7 @@ fn reply_in_words(digits: &[u8], asked: Asked) -> String {
     let Some(bytes) = from_digits(digits) else {
         return "not a reply line".to_string();
     };
-    match read_reply(&bytes, asked.operation, asked.previous) {
+    match read_reply(&bytes, asked.version, asked.operation, asked.previous) {
         Found::Whole(reply) if reply.size == bytes.len() => {
             of_reply(asked, &reply, &bytes).1.replace('\n', "; ")
         }
@@ -86,6 +86,7 @@ fn reply_in_words(digits: &[u8], asked: Asked) -> String {
 /// any operation.
 fn asked_by(line: &[u8]) -> (String, Asked) {
     let unknown = Asked {
+        version: PROTOCOL,
         operation: PING,
         previous: false,
     };
@@ -103,6 +104,7 @@ fn asked_by(line: &[u8]) -> (String, Asked) {
         (key, _) => format!("{} {}", operation.word, shown(key)),
     };
     let asked = Asked {
+        version: request.version,
         operation: request.operation,
         previous: request.flags & 1 == 1,
     };

@@ -8,7 +8,7 @@ use std::time::{Duration, Instant, SystemTime, UNIX_EPOCH};
 use crate::batch::{Batch, Rest};
 use crate::border::library::{write_error, Table};
 use crate::border::system::{Event, Poll, Signals, READABLE};
-use crate::command::{ERROR, PING};
+use crate::command::{ERROR, PING, PROTOCOL};
 use crate::connection::{is_later, Connection};
 use crate::failure::{because, plain, say, Failure};
 use crate::haste::{Haste, LOOK};
@@ -367,7 +367,13 @@ fn turn_away(connection: &mut Connection, now: Instant) {
     const SERVER_ERROR: u64 = 0x85;
     let mut reply = [0; REPLY_ROOM];
     let numbers = [0, u64::from(ERROR), SERVER_ERROR, 0];
-    if let Ok(size) = write_error(&mut reply, PING, &numbers, b"too many connections") {
+    if let Ok(size) = write_error(
+        &mut reply,
+        PROTOCOL,
+        PING,
+        &numbers,
+        b"too many connections",
+    ) {
         let _ = connection.send(&reply[..size], now);
     }
     connection.leave();

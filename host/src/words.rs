@@ -19,9 +19,11 @@ pub enum Went {
     Failed,
 }
 
-/// What was asked: the operation, and whether with the value before.
+/// What was asked: the version and the operation, and whether with the value
+/// before.
 #[derive(Clone, Copy)]
 pub struct Asked {
+    pub version: u8,
     pub operation: u8,
     pub previous: bool,
 }

@@ -97,9 +97,9 @@ unfoldable pub sendReply : Asked → List ℕ → List ℕ → List ℕ → List
 sendReply a ns value text old = cond (isReplyHead ns) (send (reply a) (replyOf (replyHeadWith ns) value text) old) (kept 16, old)
 
 -- the nine of a stats reply: a list of another length is none of them
-unfoldable pub sendStatistics : ℕ → List ℕ → List ℕ → Sent × List ℕ
-sendStatistics id ns old = cond (eqb (length ns) 9) (send (reply (asked 0x15 false)) (statisticsReply id ns) old) (kept 16, old)
+unfoldable pub sendStatistics : ℕ → ℕ → List ℕ → List ℕ → Sent × List ℕ
+sendStatistics version id ns old = cond (eqb (length ns) 9) (send (reply (asked version 0x15 false)) (statisticsReply id ns) old) (kept 16, old)
 
 -- the entries of a bulk reply, which numbers name in bytes that are lent, four for each
-unfoldable pub sendEntries : Bool → ℕ → List ℕ → List ℕ → List ℕ → Sent × List ℕ
-sendEntries values id bytes ns old = send (reply (asked (codeOf (bulkOperation values)) false)) (bulkReply values id (listedIn bytes ns)) old
+unfoldable pub sendEntries : ℕ → Bool → ℕ → List ℕ → List ℕ → List ℕ → Sent × List ℕ
+sendEntries version values id bytes ns old = send (reply (asked version (codeOf (bulkOperation values)) false)) (bulkReply values id (listedIn bytes ns)) old

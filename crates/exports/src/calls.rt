@@ -32,10 +32,15 @@ pub(crate) fn read_request(input: &[u8], answer: &mut [u64]) -> u64
     }
 }
 
-pub(crate) fn read_reply(input: &[u8], op: u8, flag: bool, answer: &mut [u64]) -> u64
-    ensures { λ r. ⌜ (r, now (answer .exit)) ≡ told wholeReply (mapped replyAt (reply (asked op flag) .dec (now (input .entry)))) (now (answer .entry)) ⌝ }
+pub(crate) fn read_reply(input: &[u8], version: u8, op: u8, flag: bool, answer: &mut [u64]) -> u64
+    ensures { λ r. ⌜ (r, now (answer .exit)) ≡ told wholeReply (mapped replyAt (reply (asked version op flag) .dec (now (input .entry)))) (now (answer .entry)) ⌝ }
 {
-    let a = reply_reader::read_reply(input, Asked { op: op, flag: flag });
+    let asked = Asked {
+        version: version,
+        op: op,
+        flag: flag,
+    };
+    let a = reply_reader::read_reply(input, asked);
     match a {
         ReplyRead::Whole(q, n) => {
             tell::reply(answer, q, n);

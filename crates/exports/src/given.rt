@@ -6,6 +6,9 @@ use message::ReplyHead;
 use statistics::Statistics;
 ghost use mathlib.Core.Path.{_≡_};
 ghost use lib.ListN.{length};
+ghost use lib.Dec.{eqb};
+ghost use Rattle.message.specs.Operation.{codeOf};
+ghost use Rattle.message.specs.Reply.{bulkOperation};
 ghost use Rattle.statistics.specs.Statistics.{listOf};
 ghost use Rattle.exports.specs.Messages.{isHead, headWith, HeadFits, isReplyHead, replyHeadWith, ReplyHeadFits};
 
@@ -84,4 +87,14 @@ pub(crate) fn statistics(ns: &[u64]) -> Statistics
         removehits: ns[7],
         removemisses: ns[8],
     }
+}
+
+// The code of bulkGet, or of bulkGetKeys where values are not asked for.
+pub(crate) fn bulk_code(values: bool) -> u8
+    ensures { λ r. ⌜ (r ≡ codeOf (bulkOperation values)) × (eqb r 0x19 ≡ values) ⌝ }
+{
+    if values {
+        return 0x19;
+    }
+    0x1d
 }

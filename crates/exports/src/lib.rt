@@ -61,17 +61,23 @@ pub extern "C" fn fq_read_request(input: &[u8], answer: &mut [u64]) -> u64
     calls::read_request(input, answer)
 }
 
-// The reply at the front of the input, to an operation that was asked with flag 0x0001 or without (flag is this bit alone, and not the number of the
-// flags). Numbers told: count of bytes, id, operation, status, entry version, the start and length of value and text, the nine statistics, which are 0
+// The reply at the front of the input, to an operation that was asked in a version with flag 0x0001 or without (flag is this bit alone, and not the number of
+// the flags). Numbers told: count of bytes, id, operation, status, entry version, the start and length of value and text, the nine statistics, which are 0
 // where it is no stats reply, how many entries there are, and the start and length of their bytes, which are 0 where it is no bulk reply.
 #[no_mangle]
-pub extern "C" fn fq_read_reply(input: &[u8], op: u8, flag: bool, answer: &mut [u64]) -> u64
-    ensures { λ r. ⌜ (r, now (answer .exit)) ≡ inRoom 21 (now (answer .entry)) (told wholeReply (mapped replyAt (reply (asked op flag) .dec (now (input .entry)))) (now (answer .entry))) ⌝ }
+pub extern "C" fn fq_read_reply(
+    input: &[u8],
+    version: u8,
+    op: u8,
+    flag: bool,
+    answer: &mut [u64],
+) -> u64
+    ensures { λ r. ⌜ (r, now (answer .exit)) ≡ inRoom 21 (now (answer .entry)) (told wholeReply (mapped replyAt (reply (asked version op flag) .dec (now (input .entry)))) (now (answer .entry))) ⌝ }
 {
     if answer.len() < Told::REPLY {
         return 12;
     }
-    calls::read_reply(input, op, flag, answer)
+    calls::read_reply(input, version, op, flag, answer)
 }
 
 // Writes a request at the front of `out`. Its numbers: id, version, operation, flags, intelligence, topology, lifespan, max idle, entry version, and
@@ -101,19 +107,25 @@ pub extern "C" fn fq_write_request(
 #[no_mangle]
 pub extern "C" fn fq_write_reply(
     out: &mut [u8],
+    version: u8,
     op: u8,
     flag: bool,
     numbers: &[u64],
     value: &[u8],
     text: &[u8],
 ) -> u64
-    ensures { λ r. ⌜ (r, now (out .exit)) ≡ coded (sendReply (asked op flag) (now (numbers .entry)) (now (value .entry)) (now (text .entry)) (now (out .entry))) ⌝ }
+    ensures { λ r. ⌜ (r, now (out .exit)) ≡ coded (sendReply (asked version op flag) (now (numbers .entry)) (now (value .entry)) (now (text .entry)) (now (out .entry))) ⌝ }
 {
     if !given::is_reply_head(numbers) {
         return 16;
     }
     let h = given::reply_head(numbers);
-    tell::sent(reply_writer::write_reply(out, Asked { op: op, flag: flag }, h, value, text))
+    let a = Asked {
+        version: version,
+        op: op,
+        flag: flag,
+    };
+    tell::sent(reply_writer::write_reply(out, a, h, value, text))
 }
 
 // The entry of a bulk reply, or the end of its entries, at a place of the input: with its value, or its key alone. Numbers told: count of bytes, 1 for an
@@ -133,14 +145,21 @@ pub extern "C" fn fq_next_entry(input: &[u8], at: u64, values: bool, answer: &mu
 #[no_mangle]
 pub extern "C" fn fq_write_entries(
     out: &mut [u8],
+    version: u8,
     id: u64,
     values: bool,
     bytes: &[u8],
     numbers: &[u64],
 ) -> u64
-    ensures { λ r. ⌜ (r, now (out .exit)) ≡ coded (sendEntries values id (now (bytes .entry)) (now (numbers .entry)) (now (out .entry))) ⌝ }
+    ensures { λ r. ⌜ (r, now (out .exit)) ≡ coded (sendEntries version values id (now (bytes .entry)) (now (numbers .entry)) (now (out .entry))) ⌝ }
 {
-    tell::sent(reply_writer::write_entries(out, id, values, bytes, numbers))
+    let op = given::bulk_code(values);
+    let a = Asked {
+        version: version,
+        op: op,
+        flag: false,
+    };
+    tell::sent(reply_writer::write_entries(out, a, id, bytes, numbers))
 }
 
 // Compares two keys, by their lengths and then by their bytes from the end. Numbers told: 1 where they are equal or 0, and how many pairs of bytes were
@@ -158,14 +177,19 @@ pub extern "C" fn fq_same_key(a: &[u8], b: &[u8], answer: &mut [u64]) -> u64
 
 // Writes the reply to stats at the front of `out`, of an id and the nine statistics in the order of their fields. A list of another length is 16.
 #[no_mangle]
-pub extern "C" fn fq_write_statistics(out: &mut [u8], id: u64, numbers: &[u64]) -> u64
-    ensures { λ r. ⌜ (r, now (out .exit)) ≡ coded (sendStatistics id (now (numbers .entry)) (now (out .entry))) ⌝ }
+pub extern "C" fn fq_write_statistics(out: &mut [u8], version: u8, id: u64, numbers: &[u64]) -> u64
+    ensures { λ r. ⌜ (r, now (out .exit)) ≡ coded (sendStatistics version id (now (numbers .entry)) (now (out .entry))) ⌝ }
 {
     if numbers.len() != 9 {
         return 16;
     }
     let x = given::statistics(numbers);
-    tell::sent(reply_writer::write_statistics(out, id, x))
+    let a = Asked {
+        version: version,
+        op: 0x15,
+        flag: false,
+    };
+    tell::sent(reply_writer::write_statistics(out, a, id, x))
 }
 
 // Whether the memory is a sound table.

@@ -17,7 +17,7 @@ use Rattle.map.specs.State.{Entry, State, without}
 use Rattle.map.specs.Deadline.{deadline, expired}
 use Rattle.map.specs.Plan.{Change, keep, store, drop, empty}
 use Rattle.map.specs.Shown.{shows, listedBy}
-use Rattle.map.specs.Step.{Context, Result, answered, lastVersion, entry, stored, dropped, emptied, isNone, names, held, versionOf, full, planned, statistics, result, act, core, present, swept, noted, arrive, step}
+use Rattle.map.specs.Step.{Context, Result, answered, lastVersion, entry, stored, dropped, emptied, isNone, names, held, versionOf, full, planned, statistics, statusOf, result, act, core, present, swept, noted, arrive, step}
 use Rattle.map.specs.Table.{Each}
 use Rattle.map.specs.Revalue.{entriesWith, stateWith, foundWith, shownWith, resultWith, outcomeWith, outcomeState}
 use Rattle.map.proofs.Each.{each-without}
@@ -63,8 +63,8 @@ module _ (v : ℕ) (w : List ℕ) where
     statistics-with = rw length-with
 
     result-with : result c r (stateWith v w st) ≡ resultWith v w (result c r st)
-    unfolding result resultWith
-    result-with = rw (planned-with, held-with, statistics-with, listed-with r v w st, shows-with)
+    unfolding result statusOf resultWith
+    result-with = rw (planned-with, held-with, none-with, statistics-with, listed-with r v w st, shows-with)
 
     drops : dropped r (stateWith v w st) ≡ stateWith v w (dropped r st)
     unfolding dropped stateWith
@@ -130,7 +130,7 @@ module _ (w : List ℕ) (c : Context) (r : Request) (st : State) (h : Each (λ e
       )
 
   core-value : core c (withValue w r) st ≡ outcomeState (suc (st .last)) w (core c r st)
-  unfolding core outcomeState planned result held listedBy
+  unfolding core outcomeState planned result statusOf held listedBy
   core-value =
       rw (act-value (result c r st) (planned r st .change), cond-of (outcomeState (suc (st .last)) w) (isEmpty (r .name)))
 

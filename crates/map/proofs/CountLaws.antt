@@ -1,7 +1,7 @@
 -- Over every run each count is the number of steps that it counts, up to the largest. Assumes nothing.
 use mathlib.Core.Path.{_≡_, refl, sym, ap, _∙_}
 use mathlib.Core.List.{List, [], _∷_}
-use mathlib.Core.Bool.{Bool, true, false, cond, not, _&&_}
+use mathlib.Core.Bool.{Bool, true, false, cond, not, _&&_, _||_}
 use mathlib.Core.Option.{Option, none, some}
 use mathlib.Core.Logic.{_⊎_, inl, inr}
 use Prim.Native.Nat.{ℕ, zero, suc, _+_, _-_, _≤_, _<_}
@@ -15,12 +15,12 @@ use Rattle.wire.proofs.Laws.{and-false}
 use Rattle.message.specs.declared.Operation.{Operation}
 use Rattle.message.specs.declared.Operation.the-variants.{Put, Get, PutIfAbsent, Replace, ReplaceIfUnmodified, Remove, RemoveIfUnmodified, ContainsKey, GetWithVersion, Clear, Stats, Ping, BulkGet, BulkGetKeys}
 use Rattle.message.specs.Request.{Request}
-use Rattle.message.specs.ReplyTable.{bodyAt}
+use Rattle.message.specs.ReplyTable.{bodyAt, toldStatus}
 use Rattle.map.specs.History.{countsHeld, mostCount, onward, is, adds, marked, tally, retrievals, hits, misses, noHistory, startOf}
 use Rattle.map.specs.State.{Entry, State, fresh, find, without}
 use Rattle.map.specs.Plan.{Change, keep, store, drop, empty, plans, plan}
 use Rattle.map.specs.Shown.{shows, counted}
-use Rattle.map.specs.Step.{Context, Result, Outcome, refused, answered, entry, stored, dropped, emptied, isNone, names, held, versionOf, planned, statistics, result, present, swept, noted, arrive, step, stateAfter, run}
+use Rattle.map.specs.Step.{Context, Result, Outcome, refused, answered, entry, stored, dropped, emptied, isNone, names, held, versionOf, tellsOld, planned, statistics, statusOf, result, present, swept, noted, arrive, step, stateAfter, run}
 use Rattle.map.specs.Table.{Counts}
 use Rattle.map.specs.Counted.{says, absentAt, number, ends, atMost}
 use Rattle.map.proofs.Each.{each-left}
@@ -47,45 +47,50 @@ gone-after r st empty = refl
 abbrev saysOf : Operation → ℕ → Bool → Bool → List Bool
 saysOf o s before after =
     (before && not after)
-    ∷ (is Put o && eqb s 0x00)
+    ∷ (is Put o && (eqb s 0x00 || eqb s 0x03))
     ∷ (is Get o && true)
-    ∷ (is Get o && eqb s 0x00)
+    ∷ (is Get o && (eqb s 0x00 || eqb s 0x03))
     ∷ (is Get o && eqb s 0x02)
-    ∷ (is Remove o && eqb s 0x00)
+    ∷ (is Remove o && (eqb s 0x00 || eqb s 0x03))
     ∷ (is Remove o && eqb s 0x02)
     ∷ []
 
--- a plan's status and change say what is counted
-plan-says : (o : Operation) (v : ℕ) (h : Option ℕ) → saysOf o (plan o v h .status) (isNone h) (after (plan o v h .change) (isNone h)) ≡ adds o (isNone h)
-unfolding plan plans adds
-plan-says Put v none = refl
-plan-says Put v (some w) = refl
-plan-says Get v none = refl
-plan-says Get v (some w) = refl
-plan-says PutIfAbsent v none = refl
-plan-says PutIfAbsent v (some w) = refl
-plan-says Replace v none = refl
-plan-says Replace v (some w) = refl
-plan-says ReplaceIfUnmodified v none = refl
-plan-says ReplaceIfUnmodified v (some w) = refl
-plan-says Remove v none = refl
-plan-says Remove v (some w) = refl
-plan-says RemoveIfUnmodified v none = refl
-plan-says RemoveIfUnmodified v (some w) = refl
-plan-says ContainsKey v none = refl
-plan-says ContainsKey v (some w) = refl
-plan-says GetWithVersion v none = refl
-plan-says GetWithVersion v (some w) = refl
-plan-says Clear v none = refl
-plan-says Clear v (some w) = refl
-plan-says Stats v none = refl
-plan-says Stats v (some w) = refl
-plan-says Ping v none = refl
-plan-says Ping v (some w) = refl
-plan-says BulkGet v none = refl
-plan-says BulkGet v (some w) = refl
-plan-says BulkGetKeys v none = refl
-plan-says BulkGetKeys v (some w) = refl
+-- a plan's status, told or not, and its change say what is counted
+plan-says : (t : Bool) (o : Operation) (v : ℕ) (h : Option ℕ)
+    → saysOf o (toldStatus t o (not (isNone h)) (plan o v h .status)) (isNone h) (after (plan o v h .change) (isNone h)) ≡ adds o (isNone h)
+unfolding plan plans adds toldStatus
+plan-says true Put v none = refl
+plan-says true Put v (some w) = refl
+plan-says false Put v none = refl
+plan-says false Put v (some w) = refl
+plan-says t Get v none = refl
+plan-says t Get v (some w) = refl
+plan-says t PutIfAbsent v none = refl
+plan-says t PutIfAbsent v (some w) = refl
+plan-says t Replace v none = refl
+plan-says t Replace v (some w) = refl
+plan-says t ReplaceIfUnmodified v none = refl
+plan-says t ReplaceIfUnmodified v (some w) = refl
+plan-says true Remove v none = refl
+plan-says true Remove v (some w) = refl
+plan-says false Remove v none = refl
+plan-says false Remove v (some w) = refl
+plan-says t RemoveIfUnmodified v none = refl
+plan-says t RemoveIfUnmodified v (some w) = refl
+plan-says t ContainsKey v none = refl
+plan-says t ContainsKey v (some w) = refl
+plan-says t GetWithVersion v none = refl
+plan-says t GetWithVersion v (some w) = refl
+plan-says t Clear v none = refl
+plan-says t Clear v (some w) = refl
+plan-says t Stats v none = refl
+plan-says t Stats v (some w) = refl
+plan-says t Ping v none = refl
+plan-says t Ping v (some w) = refl
+plan-says t BulkGet v none = refl
+plan-says t BulkGet v (some w) = refl
+plan-says t BulkGetKeys v none = refl
+plan-says t BulkGetKeys v (some w) = refl
 
 none-version : (h : Option Entry) → isNone (versionOf h) ≡ isNone h
 none-version none = refl
@@ -109,12 +114,12 @@ module _ (c : Context) (r : Request) (st : State) (a : Result) (t : State) (e : 
   latest-step = rw history-step
 
   result-says : says (r .op) (answered a t) (absentAt (t .history .latest) r st) (isNone (held r t)) ≡ adds (r .op) (isNone (held r (swept c st)))
-  unfolding says result planned held arrive noted swept
+  unfolding says result statusOf planned held arrive noted swept
   result-says =
       let d = did c r st a t e in
       let x = arrive c r st in
       rw (latest-step, d .same, d .state, gone-after r x (planned r x .change))
-      (rw (none-version (held r x)) at (plan-says (r .op) (r .args .entryVersion) (versionOf (held r x))))
+      (rw (none-version (held r x)) at (plan-says (tellsOld r) (r .op) (r .args .entryVersion) (versionOf (held r x))))
 
 -- what is refused counts nowhere
 abbrev nowhere : List Bool
@@ -284,7 +289,7 @@ module _ (c : Context) (r : Request) (st : State) (a : Result) (t : State) (e : 
 
   -- a stats reply shows the statistics behind the arrival of its own call
   pub stats-shown : r .op ≡ Stats → a .shown ≡ counted (statistics c (arrive c r st))
-  unfolding result planned plan plans shows bodyAt
+  unfolding result statusOf toldStatus planned plan plans shows bodyAt
   stats-shown q = rw (did c r st a t e .same, q)
 
   -- "the first call served": the first one that is answered

@@ -1,7 +1,7 @@
 -- The pieces of a reply are its published format, and the reply of a table is valid. Assumes nothing.
 use mathlib.Core.Path.{_≡_, refl, ap, _∙_}
 use mathlib.Core.List.{List, [], _∷_, _++_, map, append-assoc, append-nil}
-use mathlib.Core.Bool.{Bool, true, false, cond}
+use mathlib.Core.Bool.{Bool, true, false, cond, not}
 use mathlib.Core.Option.{Option, none, some}
 use Prim.Native.Nat.{ℕ, zero, suc, _+_, _-_, _≤_, _<_}
 use native.Mathlib.Omega.{arith}
@@ -10,23 +10,24 @@ use lib.Dec.{eqb}
 use Rattle.wire.specs.Codec.{Valid, isBytes, empty, byte, raw, guard, seq, as-type}
 use Rattle.wire.specs.Number.{number, numberEnc, vInt, vLong}
 use Rattle.wire.specs.Field.{entryVersion, limited}
-use Rattle.wire.proofs.Laws.{seq-good, type-good, bytes-are}
+use Rattle.wire.proofs.Laws.{guard-valid, type-valid, seq-good, type-good, bytes-are}
 use Rattle.wire.proofs.FieldLaws.{big-good, limited-good}
 use Rattle.wire.proofs.Basics.{pick}
 use Rattle.message.specs.declared.Operation.{Operation}
 use Rattle.message.specs.declared.Operation.the-variants.{Put, Get, PutIfAbsent, Replace, ReplaceIfUnmodified, Remove, RemoveIfUnmodified, ContainsKey, GetWithVersion, Clear, Stats, Ping, BulkGet, BulkGetKeys}
 use Rattle.message.specs.Operation.{codeOf}
 use Rattle.message.specs.Arguments.{valueLimit}
-use Rattle.message.specs.Request.{Request, request}
+use Rattle.message.specs.Request.{opFits, operation, isVersion, editionAt, Request, request}
 use Rattle.message.specs.ReplyTable as m
-use Rattle.message.specs.ReplyTable.{Body, table, bodyAt, isAllowed, allowed}
+use Rattle.message.specs.ReplyTable.{Body, table, bodyAt, isAllowed, allowed, toldStatus}
 use Rattle.message.specs.Payload.{Payload, noBody, valueBody, versionedBody, statisticsBody, listedBody, fieldsOf, formOf}
-use Rattle.message.specs.Reply.{Reply, fields, message, isAwaited, statusesOf, bulkOperation, bulkReply, reply, longestReply}
+use Rattle.message.specs.Reply.{Reply, fields, message, isAwaited, statusesOf, Awaits, bulkOperation, bulkReply, reply, longestReply}
 use Rattle.message.specs.Listing.{mostListed}
 use Rattle.message.proofs.RequestLaws.{code-found}
 use Rattle.message.proofs.RequestParts as asked
 use Rattle.message.proofs.Every.{every, statuses-are}
 use Rattle.message.proofs.ReplyParts.{whole-reply}
+use Rattle.message.proofs.ReplyLaws.{reply-is, awaits}
 use Rattle.message.proofs.ReplySize.{reply-most}
 use Rattle.statistics.specs.Statistics as stats
 use Rattle.statistics.proofs.Writing.{statistics-good}
@@ -34,7 +35,7 @@ use Rattle.map.specs.History.{startOf}
 use Rattle.map.specs.State.{Entry, State}
 use Rattle.map.specs.Plan.{Plan, plans, plan}
 use Rattle.map.specs.Shown.{Shown, nothing, noValue, value, shows, listedBy}
-use Rattle.map.specs.Step.{mostKeys, Context, lastVersion, Result, wantsOld, names, held, versionOf, planned, statistics, result}
+use Rattle.map.specs.Step.{mostKeys, Context, lastVersion, Result, wantsOld, tellsOld, isNone, names, held, versionOf, planned, statistics, statusOf, result}
 use Rattle.map.specs.Table.{Each, Sizes, Issued, IsTable}
 use Rattle.map.specs.Reply.{askedBy, pairOf, payloadOf, replyTo, flat, shownPieces, pieces}
 use Rattle.map.proofs.ListedLaws.{listed-each, listed-few}
@@ -55,43 +56,57 @@ Fit m.text f = ⊥
 Fit m.entries f = Unit {0}
 Fit m.keys f = Unit {0}
 
--- the status of a plan is one of the operation's, and its body fits the entry found
-abbrev Told : Operation → Option Entry → Plan → Type 0
-Told o f p = Valid (guard (λ s. isAllowed (bodyAt s (table o))) 8 byte) (p .status) × Fit (allowed (bodyAt (p .status) (table o))) f
+-- the status that is told of a plan is one of the operation's, and its body fits the entry found
+abbrev Told : Bool → Operation → Option Entry → Plan → Type 0
+Told t o f p =
+    let s = toldStatus t o (not (isNone f)) (p .status) in
+    Valid (guard (λ s. isAllowed (bodyAt s (table t o))) 8 byte) s × Fit (allowed (bodyAt s (table t o))) f
 
-told : (o : Operation) (x : ℕ) (f : Option Entry) → Told o f (plan o x (versionOf f))
-unfolding plan plans bodyAt guard byte
-told Put x none = (refl, tt)
-told Put x (some e) = (refl, tt)
-told PutIfAbsent x none = (refl, tt)
-told PutIfAbsent x (some e) = (refl, tt)
-told Replace x none = (refl, tt)
-told Replace x (some e) = (refl, tt)
-told ReplaceIfUnmodified x none = (refl, tt)
-told ReplaceIfUnmodified x (some e) = pick (Told ReplaceIfUnmodified (some e)) (eqb (e .version) x) (λ q. (refl, tt)) (refl, tt)
-told Remove x none = (refl, tt)
-told Remove x (some e) = (refl, tt)
-told RemoveIfUnmodified x none = (refl, tt)
-told RemoveIfUnmodified x (some e) = pick (Told RemoveIfUnmodified (some e)) (eqb (e .version) x) (λ q. (refl, tt)) (refl, tt)
-told Get x none = (refl, tt)
-told Get x (some e) = (refl, tt)
-told GetWithVersion x none = (refl, tt)
-told GetWithVersion x (some e) = (refl, tt)
-told ContainsKey x none = (refl, tt)
-told ContainsKey x (some e) = (refl, tt)
-told Clear x f = (refl, tt)
-told Stats x f = (refl, tt)
-told Ping x f = (refl, tt)
-told BulkGet x f = (refl, tt)
-told BulkGetKeys x f = (refl, tt)
+told : (t : Bool) (o : Operation) (x : ℕ) (f : Option Entry) → Told t o f (plan o x (versionOf f))
+unfolding plan plans bodyAt guard byte toldStatus
+told true Put x none = (refl, tt)
+told true Put x (some e) = (refl, tt)
+told false Put x none = (refl, tt)
+told false Put x (some e) = (refl, tt)
+told t Get x none = (refl, tt)
+told t Get x (some e) = (refl, tt)
+told true PutIfAbsent x none = (refl, tt)
+told true PutIfAbsent x (some e) = (refl, tt)
+told false PutIfAbsent x none = (refl, tt)
+told false PutIfAbsent x (some e) = (refl, tt)
+told true Replace x none = (refl, tt)
+told true Replace x (some e) = (refl, tt)
+told false Replace x none = (refl, tt)
+told false Replace x (some e) = (refl, tt)
+told true ReplaceIfUnmodified x none = (refl, tt)
+told true ReplaceIfUnmodified x (some e) = pick (Told true ReplaceIfUnmodified (some e)) (eqb (e .version) x) (λ q. (refl, tt)) (refl, tt)
+told false ReplaceIfUnmodified x none = (refl, tt)
+told false ReplaceIfUnmodified x (some e) = pick (Told false ReplaceIfUnmodified (some e)) (eqb (e .version) x) (λ q. (refl, tt)) (refl, tt)
+told true Remove x none = (refl, tt)
+told true Remove x (some e) = (refl, tt)
+told false Remove x none = (refl, tt)
+told false Remove x (some e) = (refl, tt)
+told true RemoveIfUnmodified x none = (refl, tt)
+told true RemoveIfUnmodified x (some e) = pick (Told true RemoveIfUnmodified (some e)) (eqb (e .version) x) (λ q. (refl, tt)) (refl, tt)
+told false RemoveIfUnmodified x none = (refl, tt)
+told false RemoveIfUnmodified x (some e) = pick (Told false RemoveIfUnmodified (some e)) (eqb (e .version) x) (λ q. (refl, tt)) (refl, tt)
+told t ContainsKey x none = (refl, tt)
+told t ContainsKey x (some e) = (refl, tt)
+told t GetWithVersion x none = (refl, tt)
+told t GetWithVersion x (some e) = (refl, tt)
+told t Clear x f = (refl, tt)
+told t Stats x f = (refl, tt)
+told t Ping x f = (refl, tt)
+told t BulkGet x f = (refl, tt)
+told t BulkGetKeys x f = (refl, tt)
 
 -- the code of an operation's reply is awaited, and its rows are the operation's
-abbrev Coded : Operation → Type 0
-Coded o = Valid (guard (isAwaited o) 4 byte) (codeOf o + 1) × (statusesOf o (codeOf o + 1) ≡ table o)
+abbrev Coded : Bool → Operation → Type 0
+Coded t o = Valid (guard (isAwaited o) 4 byte) (codeOf o + 1) × (statusesOf t o (codeOf o + 1) ≡ table t o)
 
-coded : (o : Operation) → Coded o
+coded : (t : Bool) (o : Operation) → Coded t o
 unfolding guard byte
-coded o = (every (λ o. guard (isAwaited o) 4 byte .ok (codeOf o + 1)) refl o, statuses-are o)
+coded t o = (every (λ o. guard (isAwaited o) 4 byte .ok (codeOf o + 1)) refl o, statuses-are t o)
 
 -- the bytes of what is shown
 abbrev carried : Shown → Payload
@@ -189,37 +204,42 @@ pieces-enc : (r : Request) (a : Result) → flat (pieces r a) ≡ 0xa1 ∷ (vLon
 unfolding flat pieces
 pieces-enc r a = ap (λ (s : List ℕ). 0xa1 ∷ s) (append-assoc (vLong .enc (r .id)) ((codeOf (r .op) + 1) ∷ a .status ∷ 0 ∷ []) (flat (shownPieces (a .shown))))
 
-module _ (c : Context) (r : Request) (st : State) where
-  reply-is : reply (askedBy r) ≡ message (isAwaited (r .op)) (statusesOf (r .op)) (wantsOld r)
-  unfolding reply
-  reply-is = rw (code-found (r .op))
+-- a well-formed request asks for what is served
+pub asks : (r : Request) → Valid request r → Awaits (askedBy r) (editionAt (r .version)) (r .op)
+unfolding operation
+asks r v =
+    let p = asked.parts r v in
+    let w = guard-valid (opFits (editionAt (r .version))) 4 byte (codeOf (r .op)) (type-valid _ _ _ _ (r .op) (p .op) .1) .0 in
+    awaits (r .version) (r .op) (wantsOld r) (guard-valid isVersion 3 byte (r .version) (p .version) .0)
+    (rw (code-found (r .op)) at w)
 
+module _ (c : Context) (r : Request) (st : State) where
   -- the row of the reply table
   abbrev pub row : Body
-  row = allowed (bodyAt (planned r st .status) (table (r .op)))
+  row = allowed (bodyAt (statusOf r st) (table (tellsOld r) (r .op)))
 
-  planned-told : Told (r .op) (held r st) (planned r st)
+  planned-told : Told (tellsOld r) (r .op) (held r st) (planned r st)
   unfolding planned
-  planned-told = told (r .op) (r .args .entryVersion) (held r st)
+  planned-told = told (tellsOld r) (r .op) (r .args .entryVersion) (held r st)
 
   few : length (st .entries) ≤ mostKeys → Few (listedBy r st)
   few l = omega (arith, listed-few r st)
 
   -- the pieces of a reply are the bytes of its format
-  pub pieces-reply : length (st .entries) ≤ mostKeys → flat (pieces r (result c r st)) ≡ reply (askedBy r) .enc (replyTo r (result c r st))
-  unfolding result
-  pieces-reply l =
+  pub pieces-reply : Valid request r → length (st .entries) ≤ mostKeys → flat (pieces r (result c r st)) ≡ reply (askedBy r) .enc (replyTo r (result c r st))
+  unfolding result statusOf
+  pieces-reply v l =
       pieces-enc r (result c r st)
       ∙ rw (
-        reply-is,
-        message-enc (isAwaited (r .op)) (statusesOf (r .op)) (wantsOld r) (replyTo r (result c r st)),
-        coded (r .op) .1,
+        reply-is (asks r v),
+        message-enc (isAwaited (r .op)) (statusesOf (tellsOld r) (r .op)) (wantsOld r) (replyTo r (result c r st)),
+        coded (tellsOld r) (r .op) .1,
         shown-enc (wantsOld r) row (statistics c st) (listedBy r st) (held r st) (few l) (planned-told .1),
       )
 
   -- the reply to a bulk request has the entries that it lists, and nothing else
   pub bulk-reply : (values : Bool) → r .op ≡ bulkOperation values → replyTo r (result c r st) ≡ bulkReply values (r .id) (map (pairOf values) (listedBy r st))
-  unfolding result planned plan plans shows bodyAt
+  unfolding result statusOf toldStatus planned plan plans shows bodyAt
   bulk-reply true e = rw e
   bulk-reply false e = rw e
 
@@ -235,19 +255,19 @@ module _ (c : Context) (r : Request) (st : State) where
   module _ (v : Valid request r) (s : IsTable st) (h : c .second < 0x1_0000_0000) where
     -- the reply to a well-formed request from a table is valid
     pub reply-valid : Valid (reply (askedBy r)) (replyTo r (result c r st))
-    unfolding result
+    unfolding result statusOf
     reply-valid =
-        rw reply-is
-        (whole-reply (isAwaited (r .op)) (statusesOf (r .op)) (wantsOld r) (replyTo r (result c r st))
+        rw (reply-is (asks r v))
+        (whole-reply (isAwaited (r .op)) (statusesOf (tellsOld r) (r .op)) (wantsOld r) (replyTo r (result c r st))
         (record {
           id = asked.parts r v .id;
-          op = coded (r .op) .0;
-          status = rw (coded (r .op) .1) (planned-told .0);
-          body = rw (coded (r .op) .1)
+          op = coded (tellsOld r) (r .op) .0;
+          status = rw (coded (tellsOld r) (r .op) .1) (planned-told .0);
+          body = rw (coded (tellsOld r) (r .op) .1)
               (shown-good (wantsOld r) row (statistics c st) (listedBy r st) (held r st) (statistics-valid c st s h)
               (few (s .few)) (listed-each r st Sizes (s .sizes)) (planned-told .1) (held-fits r st s));
         }))
 
     -- no reply is longer than the longest one to its operation
     pub result-most : length (flat (pieces r (result c r st))) ≤ longestReply (r .op)
-    result-most = rw (pieces-reply (s .few)) (reply-most (r .op) (wantsOld r) (replyTo r (result c r st)) reply-valid)
+    result-most = rw (pieces-reply v (s .few)) (reply-most (asks r v) (replyTo r (result c r st)) reply-valid)

@@ -19,3 +19,4 @@ pub mod Sent
 pub mod ListedFormat
 pub mod Format
 pub mod CombineLaws
+pub mod ToldLaws

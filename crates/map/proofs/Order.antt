@@ -10,7 +10,7 @@ use Rattle.message.specs.Request.{Request}
 use Rattle.map.specs.State.{Entry, State, find, without, hasKey}
 use Rattle.map.specs.Deadline.{expired}
 use Rattle.map.specs.Plan.{Change, keep, store, drop, empty}
-use Rattle.map.specs.Step.{Context, Result, Outcome, lastVersion, stored, dropped, emptied, names, held, full, planned, statistics, result, act, core, present, swept, noted, arrive, step}
+use Rattle.map.specs.Step.{Context, Result, Outcome, lastVersion, stored, dropped, emptied, names, held, full, planned, statistics, statusOf, result, act, core, present, swept, noted, arrive, step}
 use Rattle.map.specs.Table.{Pairs, OtherKey, OtherVersion, IsTable}
 use Rattle.map.specs.Order.{SameState, SameOutcome}
 use Rattle.wire.proofs.SameLaws.{same-true}
@@ -81,7 +81,7 @@ module _ (c : Context) (r : Request) (st us : State) (s : SameState st us) (keys
   same-statistics = rw (s .history, same-length (s .entries))
 
   same-result : result c r st ≡ result c r us
-  unfolding result
+  unfolding result statusOf
   same-result = rw (same-planned, same-held, same-statistics, same-listed r st us s versions)
 
   same-rest : Perm (without (names r) (st .entries)) (without (names r) (us .entries))

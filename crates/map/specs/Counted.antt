@@ -1,6 +1,6 @@
 -- What each count is the number of, over the steps of a run (document 02, C-11 and C-15). The law `counts-run` holds the map's counts to it.
 use mathlib.Core.List.{List, [], _∷_}
-use mathlib.Core.Bool.{Bool, true, false, cond, not, _&&_}
+use mathlib.Core.Bool.{Bool, true, false, cond, not, _&&_, _||_}
 use Prim.Native.Nat.{ℕ, suc}
 use lib.ListN.{getD}
 use lib.Dec.{eqb, leb}
@@ -21,20 +21,24 @@ abbrev pub answers : Outcome → ℕ → Bool
 answers (refused k) s = false
 answers (answered a st) s = eqb (a .status) s
 
+-- "C-11's counts take 03 as 00"
+abbrev pub succeeds : Outcome → Bool
+succeeds x = answers x 0x00 || answers x 0x03
+
 -- Whether a step counts, for each count, by its operation, its outcome, and whether no entry that stood had its key before and none has it after.
 unfoldable pub says : Operation → Outcome → Bool → Bool → List Bool
 says o x before after =
     -- totalNumberOfEntries: "writes that added a key not held then"
     (isAnswered x && (before && not after))
     -- stores: "put requests answered 00"
-    ∷ (is Put o && answers x 0x00)
+    ∷ (is Put o && succeeds x)
     -- "retrievals get requests served"
     ∷ (is Get o && isAnswered x)
     -- "split into hits and misses"
-    ∷ (is Get o && answers x 0x00)
+    ∷ (is Get o && succeeds x)
     ∷ (is Get o && answers x 0x02)
     -- "as removes into removeHits and removeMisses"
-    ∷ (is Remove o && answers x 0x00)
+    ∷ (is Remove o && succeeds x)
     ∷ (is Remove o && answers x 0x02)
     ∷ []
 

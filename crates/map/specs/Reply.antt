@@ -19,7 +19,7 @@ use Rattle.map.specs.Step.{Result, wantsOld}
 
 -- what was asked by a request
 abbrev pub askedBy : Request → Asked
-askedBy r = asked (codeOf (r .op)) (wantsOld r)
+askedBy r = asked (r .version) (codeOf (r .op)) (wantsOld r)
 
 abbrev pub versionIn : Shown → ℕ
 versionIn nothing = 0

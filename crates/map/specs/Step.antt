@@ -1,13 +1,13 @@
 -- A step of the simple map (document 01, 'The table' and 'A reply').
 use mathlib.Core.List.{List, [], _∷_, _++_}
-use mathlib.Core.Bool.{Bool, true, false, cond, _&&_}
+use mathlib.Core.Bool.{Bool, true, false, cond, not, _&&_}
 use mathlib.Core.Option.{Option, none, some}
 use Prim.Native.Nat.{ℕ, suc, _-_, _%_, max}
 use lib.ListN.{length}
 use lib.Dec.{eqb, leb, ltb}
 use Rattle.message.specs.Arguments.{isEmpty}
-use Rattle.message.specs.Request.{Request}
-use Rattle.message.specs.ReplyTable.{bodyAt, allowed, table}
+use Rattle.message.specs.Request.{Request, editionAt}
+use Rattle.message.specs.ReplyTable.{bodyAt, allowed, table, toldStatus}
 use Rattle.message.specs.Payload.{formOf}
 use Rattle.map.specs.History.{tally, startOf}
 use Rattle.map.specs.State.{Entry, State, withEntries, withLast, withHistory, find, without, hasKey}
@@ -39,6 +39,10 @@ pub data Outcome : Type 0 where
 -- flag 0x0001
 abbrev pub wantsOld : Request → Bool
 wantsOld r = eqb (r .flags % 2) 1
+
+-- whether the status of its reply tells of an old value
+abbrev pub tellsOld : Request → Bool
+tellsOld r = editionAt (r .version) .tells && wantsOld r
 
 -- the entry that a request writes at a present second
 unfoldable pub entry : ℕ → Request → ℕ → Entry
@@ -84,11 +88,15 @@ planned r st = plan (r .op) (r .args .entryVersion) (versionOf (held r st))
 unfoldable pub statistics : Context → State → List ℕ
 statistics c st = (c .second - startOf (st .history .first) (c .second)) ∷ length (st .entries) ∷ st .history .counts
 
+-- the plan's status, as the reply tells it
+unfoldable pub statusOf : Request → State → ℕ
+statusOf r st = toldStatus (tellsOld r) (r .op) (not (isNone (held r st))) (planned r st .status)
+
 unfoldable pub result : Context → Request → State → Result
 result c r st =
     record {
-      status = planned r st .status;
-      shown = shows (formOf (wantsOld r) (allowed (bodyAt (planned r st .status) (table (r .op))))) (statistics c st) (listedBy r st) (held r st);
+      status = statusOf r st;
+      shown = shows (formOf (wantsOld r) (allowed (bodyAt (statusOf r st) (table (tellsOld r) (r .op))))) (statistics c st) (listedBy r st) (held r st);
     }
 
 -- "11: the write would take effect and no version is left"

@@ -18,51 +18,54 @@ use Rattle.text.specs.Text.{isText, textAfter, stepOf, leadOf}
 use Rattle.field.specs.FieldRead.{limitedText}
 use Rattle.message.specs.declared.Operation.{Operation}
 use Rattle.message.specs.declared.Asked.{Asked}
-use Rattle.message.specs.Operation.{codeOf, findCode}
+use Rattle.message.specs.Edition.{Edition}
+use Rattle.message.specs.Operation.{codeOf}
 use Rattle.message.specs.ReplyTable.{text, errors, errorCode, bodyAt, isAllowed, allowed}
 use Rattle.message.specs.Payload.{textLimit, payload, textBody, fieldsOf, formOf}
-use Rattle.message.specs.Reply.{Reply, fields, message, isAwaited, statusesOf, reply, errorReply}
+use Rattle.message.specs.Reply.{Reply, fields, message, isAwaited, statusesOf, reply, Awaits, errorReply}
 use Rattle.message.specs.Refusal.{WireError, errorTable, errorIn, refusal}
 use Rattle.message.proofs.ReplyParts.{Parts, parts, whole-reply}
+use Rattle.message.proofs.ReplyLaws.{reply-is}
 use Rattle.message.proofs.ReplySize.{error-text}
 
 or-true : (x : Bool) → (x || true) ≡ true
 or-true true = refl
 or-true false = refl
 
-module _ (o : Operation) (flag : Bool) (r : Reply) (e : eqb (r .op) errorCode ≡ true) (t : isAllowed (bodyAt (r .status) errors) ≡ true) where
-  awaited : isAwaited o (r .op) ≡ true
-  awaited = rw e (or-true (eqb (r .op) (codeOf o + 1)))
+module _ (tells : Bool) (o : Operation) (flag : Bool) (r : Reply) (e : eqb (r .op) errorCode ≡ true) (t : isAllowed (bodyAt (r .status) errors) ≡ true) where
+  comes : isAwaited o (r .op) ≡ true
+  comes = rw e (or-true (eqb (r .op) (codeOf o + 1)))
 
-  error-statuses : statusesOf o (r .op) ≡ errors
+  error-statuses : statusesOf tells o (r .op) ≡ errors
   error-statuses = rw e
 
   -- what an error carries does not go by the flag
-  error-body : fieldsOf (formOf flag (allowed (bodyAt (r .status) (statusesOf o (r .op))))) ≡ fieldsOf (formOf false (allowed (bodyAt (r .status) errors)))
+  error-body : fieldsOf (formOf flag (allowed (bodyAt (r .status) (statusesOf tells o (r .op))))) ≡ fieldsOf (formOf false (allowed (bodyAt (r .status) errors)))
   unfolding fieldsOf
   error-body = rw (error-statuses, error-text (r .status) t)
 
-  error-parts : Parts (λ op. eqb op errorCode) (λ op. errors) false r → Parts (isAwaited o) (statusesOf o) flag r
+  error-parts : Parts (λ op. eqb op errorCode) (λ op. errors) false r → Parts (isAwaited o) (statusesOf tells o) flag r
   error-parts p =
       record {
         id = p .id;
-        op = guard-good (isAwaited o) 4 byte awaited (guard-valid _ 4 byte (r .op) (p .op) .1);
+        op = guard-good (isAwaited o) 4 byte comes (guard-valid _ 4 byte (r .op) (p .op) .1);
         status = rw error-statuses (p .status);
         body = rw error-body (p .body);
       }
 
-  error-same : message (isAwaited o) (statusesOf o) flag .enc r ≡ errorReply .enc r
+  error-same : message (isAwaited o) (statusesOf tells o) flag .enc r ≡ errorReply .enc r
   unfolding message errorReply fields seq guard as-type
   error-same = rw error-body
 
-pub error-reply : (a : Asked) (o : Operation) → findCode (a .op) ≡ some o → (r : Reply) → Valid errorReply r
+pub error-reply : {a : Asked} {e : Edition} {o : Operation} → Awaits a e o → (r : Reply) → Valid errorReply r
     → Valid (reply a) r × (reply a .enc r ≡ errorReply .enc r)
-unfolding reply errorReply
-error-reply a o f r v =
+unfolding errorReply
+error-reply {a} {e} {o} s r v =
     let p = parts (λ op. eqb op errorCode) (λ op. errors) false r v in
-    let e = guard-valid _ 4 byte (r .op) (p .op) .0 in
-    let t = guard-valid _ 8 byte (r .status) (p .status) .0 in
-    rw f (whole-reply (isAwaited o) (statusesOf o) (a .flag) r (error-parts o (a .flag) r e t p), error-same o (a .flag) r e t)
+    let x = guard-valid _ 4 byte (r .op) (p .op) .0 in
+    let y = guard-valid _ 8 byte (r .status) (p .status) .0 in
+    let t = e .tells && a .flag in
+    rw (reply-is s) (whole-reply (isAwaited o) (statusesOf t o) (a .flag) r (error-parts t o (a .flag) r x y p), error-same t o (a .flag) r x y)
 
 -- an error reply of any id, status and text
 error-good : (id s : ℕ) (t : List ℕ) → id < 0x8000_0000_0000_0000 → Valid (guard (λ s. isAllowed (bodyAt s errors)) 8 byte) s → Valid (limitedText textLimit) t

@@ -19,13 +19,16 @@ use Rattle.message.specs.declared.Operation.{Operation}
 use Rattle.message.specs.declared.Form.{Form}
 use Rattle.message.specs.declared.Form.the-variants as form
 use Rattle.message.specs.declared.Asked.{Asked}
-use Rattle.message.specs.Operation.{findCode}
+use Rattle.message.specs.Operation.{codeOf}
+use Rattle.message.specs.Edition.{Edition}
+use Rattle.message.specs.Request.{isVersion, editionAt}
 use Rattle.message.specs.Arguments.{valueLimit}
 use Rattle.message.specs.ReplyTable.{Body, bodyAt, isAllowed, allowed}
 use Rattle.message.specs.Payload.{textLimit, Payload, payload, counted, noEntryVersion, noValue, noText, noStatistics, noEntries, noLists, bulkPayload, noBody, valueBody, versionedBody, textBody, statisticsBody, listedBody, fieldsOf, formOf}
-use Rattle.message.specs.Reply.{Fields, fields, toReply, fromReply, message, isAwaited, statusesOf, replyTo, reply}
+use Rattle.message.specs.Reply.{Fields, fields, toReply, fromReply, message, isAwaited, statusesOf, asked, Awaited, known, refused, awaited, Awaits, replyTo, reply}
 use Rattle.message.specs.Listing.{listing}
-use Rattle.message.proofs.RequestLaws.{is-empty, is-zero, text-laws}
+use Rattle.message.proofs.RequestLaws.{code-found, is-empty, is-zero, text-laws}
+use Rattle.message.proofs.Editions.{edition-is}
 use Rattle.message.proofs.ListingLaws.{listing-laws}
 
 -- what a reply carries
@@ -129,10 +132,21 @@ module _ (comes : ℕ → Bool) (statuses : ℕ → List (ℕ × Body)) (flag : 
   unfolding message
   message-laws = type-laws all toReply fromReply (fields comes statuses flag) fields-laws (λ r e. refl) (λ p v. (fields-back p v, refl))
 
-reply-to-laws : (o : Option Operation) (flag : Bool) → Laws (replyTo o flag)
-reply-to-laws none flag = refuse-laws 4
-reply-to-laws (some o) flag = message-laws (isAwaited o) (statusesOf o) flag
+-- over the edition
+reply-to-laws : (flag : Bool) (w : Awaited) → Laws (replyTo flag w)
+reply-to-laws flag (known e o) = message-laws (isAwaited o) (statusesOf (e .tells && flag) o) flag
+reply-to-laws flag (refused k) = refuse-laws k
 
 pub reply-laws : (a : Asked) → Laws (reply a)
 unfolding reply
-reply-laws a = reply-to-laws (findCode (a .op)) (a .flag)
+reply-laws a = reply-to-laws (a .flag) (awaited a)
+
+-- the reply that is awaited
+pub reply-is : {a : Asked} {e : Edition} {o : Operation} → Awaits a e o → reply a ≡ message (isAwaited o) (statusesOf (e .tells && a .flag) o) (a .flag)
+unfolding reply
+reply-is s = rw (s .is)
+
+-- one to an operation that a served version has
+pub awaits : (v : ℕ) (o : Operation) (flag : Bool) → isVersion v ≡ true → editionAt v .serves o ≡ true → Awaits (asked v (codeOf o) flag) (editionAt v) o
+unfolding awaited
+awaits v o flag h s = record { is = rw (edition-is v h, code-found o, s) }

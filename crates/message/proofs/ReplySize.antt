@@ -2,7 +2,7 @@
 use mathlib.Core.Path.{_≡_, refl, subst}
 use mathlib.Core.List.{List}
 use mathlib.Core.Option.{Option, some}
-use mathlib.Core.Bool.{Bool, true, false, cond}
+use mathlib.Core.Bool.{Bool, true, false, cond, _&&_}
 use Prim.Native.Nat.{ℕ, _+_, _-_, _*_, _≤_, zero-le}
 use native.Mathlib.Omega.{arith}
 use lib.ListN.{length}
@@ -15,11 +15,13 @@ use Rattle.statistics.proofs.Writing.{statistics-most}
 use Rattle.message.specs.declared.Operation.{Operation}
 use Rattle.message.specs.Operation.{codeOf}
 use Rattle.message.specs.Arguments.{valueLimit}
+use Rattle.message.specs.Edition.{Edition}
+use Rattle.message.specs.declared.Asked.{Asked}
 use Rattle.message.specs.ReplyTable.{table, Body, nothing, old, oldNone, value, versioned, text, statistics, entries, keys, errors, errorCode, bodyAt, isAllowed, allowed}
 use Rattle.message.specs.Payload.{textLimit, noBody, valueBody, versionedBody, textBody, statisticsBody, listedBody, fieldsOf, formOf}
-use Rattle.message.specs.Reply.{asked, Reply, fields, message, isAwaited, statusesOf, reply, errorReply, longestReply}
+use Rattle.message.specs.Reply.{Awaits, Reply, fields, message, isAwaited, statusesOf, reply, errorReply, longestReply}
 use Rattle.message.proofs.Every.{every, bodies, every-body}
-use Rattle.message.proofs.RequestLaws.{code-found}
+use Rattle.message.proofs.ReplyLaws.{reply-is}
 use Rattle.message.proofs.ListingLaws.{longest, listing-most}
 use Rattle.message.proofs.Most.{Most, most-less, seq-most, guard-most, type-most, empty-most, byte-most, big-most, vLong-most, limited-most, text-most}
 
@@ -96,18 +98,22 @@ mostCarried o = longestReply o - 13
 carried-is : (o : Operation) → 13 + mostCarried o ≡ longestReply o
 carried-is o = eqb-true (13 + mostCarried o) (longestReply o) (every (λ o. eqb (13 + mostCarried o) (longestReply o)) refl o)
 
-under-statuses : (o : Operation) (op s : ℕ) → bodyLongest (allowed (bodyAt s (statusesOf o op))) ≤ mostCarried o
-under-statuses o op s =
-    leb-true (bodyLongest (allowed (bodyAt s (statusesOf o op)))) (mostCarried o)
-    (every-body (short (mostCarried o)) s (statusesOf o op) (le-leb 0 (mostCarried o) zero-le)
-    (pick (λ rs. bodies (short (mostCarried o)) rs ≡ true) (eqb op errorCode) (λ e. every (λ o. bodies (short (mostCarried o)) errors) refl o)
-    (every (λ o. bodies (short (mostCarried o)) (table o)) refl o)))
+under-table : (tells : Bool) (o : Operation) → bodies (short (mostCarried o)) (table tells o) ≡ true
+under-table true o = every (λ o. bodies (short (mostCarried o)) (table true o)) refl o
+under-table false o = every (λ o. bodies (short (mostCarried o)) (table false o)) refl o
 
-pub reply-most : (o : Operation) (flag : Bool) (r : Reply) → Valid (reply (asked (codeOf o) flag)) r → length (reply (asked (codeOf o) flag) .enc r) ≤ longestReply o
-unfolding reply
-reply-most o flag r v =
-    let m = message-most (isAwaited o) (statusesOf o) flag (mostCarried o) (λ op s e. most-less (under-statuses o op s) (body-most flag (allowed (bodyAt s (statusesOf o op))))) in
-    subst (λ n. length (reply (asked (codeOf o) flag) .enc r) ≤ n) (carried-is o) (rw (code-found o) (m .most r (rw (code-found o) at v)))
+under-statuses : (tells : Bool) (o : Operation) (op s : ℕ) → bodyLongest (allowed (bodyAt s (statusesOf tells o op))) ≤ mostCarried o
+under-statuses tells o op s =
+    leb-true (bodyLongest (allowed (bodyAt s (statusesOf tells o op)))) (mostCarried o)
+    (every-body (short (mostCarried o)) s (statusesOf tells o op) (le-leb 0 (mostCarried o) zero-le)
+    (pick (λ rs. bodies (short (mostCarried o)) rs ≡ true) (eqb op errorCode) (λ e. every (λ o. bodies (short (mostCarried o)) errors) refl o)
+    (under-table tells o)))
+
+pub reply-most : {a : Asked} {e : Edition} {o : Operation} → Awaits a e o → (r : Reply) → Valid (reply a) r → length (reply a .enc r) ≤ longestReply o
+reply-most {a} {e} {o} s r v =
+    let t = e .tells && a .flag in
+    let m = message-most (isAwaited o) (statusesOf t o) (a .flag) (mostCarried o) (λ op k z. most-less (under-statuses t o op k) (body-most (a .flag) (allowed (bodyAt k (statusesOf t o op))))) in
+    subst (λ n. length (reply a .enc r) ≤ n) (carried-is o) (rw (reply-is s) (m .most r (rw (reply-is s) at v)))
 
 -- each error carries a text
 record Told (x : Option Body) : Type 0 where

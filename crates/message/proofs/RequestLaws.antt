@@ -1,5 +1,5 @@
 -- A request keeps the laws of a codec. Assumes nothing.
-use mathlib.Core.Path.{_≡_, refl, sym, ap}
+use mathlib.Core.Path.{_≡_, refl, sym, ap, _∙_}
 use mathlib.Core.List.{List, [], _∷_}
 use mathlib.Core.Option.{Option, some}
 use mathlib.Core.Bool.{Bool, true, false, cond, _&&_}
@@ -41,6 +41,13 @@ code-found Stats = refl
 code-found Ping = refl
 code-found BulkGet = refl
 code-found BulkGetKeys = refl
+
+-- an operation is told by its code
+pub same-code : (o p : Operation) → codeOf o ≡ codeOf p → o ≡ p
+same-code o p e = same-some (sym (code-found o) ∙ ap findCode e ∙ code-found p)
+  where
+    same-some : {x y : Operation} → some x ≡ some y → x ≡ y
+    same-some {x} {y} q = ap (λ (z : Option Operation). known z) q
 
 -- a code that is known is that of the operation found
 record Coded (n : ℕ) (x : Option Operation) : Type 0 where

@@ -72,7 +72,7 @@ pub record RequestSmall (r : Request) : Type 0 where
   pub id : r .id < 0x8000_0000_0000_0000
   pub name : length (r .name) ≤ nameLimit
   pub nameBytes : isBytes (r .name) ≡ true
-  pub flags : r .flags ≤ 7
+  pub flags : r .flags ≤ 31
   pub intelligence : r .intelligence ≤ 3
   pub topology : r .topology < 0x1_0000_0000
   pub args : Small (r .args)

@@ -15,18 +15,25 @@ pub record Edition : Type 0 where
   pub transaction : Bool
   -- the operations that it has
   pub serves : Operation → Bool
+  -- whether a reply's status tells that the value held before the call follows
+  pub tells : Bool
 
 abbrev edition : ℕ → (Operation → Bool) → Edition
-edition n s = record { flags = n; transaction = true; serves = s }
+edition n s = record { flags = n; transaction = true; serves = s; tells = false }
+
+-- "The request header has no transaction type or id; flags are 0 to 31"
+abbrev pub twenty : Edition
+twenty = record { flags = 31; transaction = false; serves = λ o. true; tells = true }
 
 -- "bulkGetKeys (0x1D) from 12 on": every other operation is in all served versions
 abbrev pub early : Operation → Bool
 early o = not (eqb (codeOf o) (codeOf BulkGetKeys))
 
--- "Served versions: 10, 11, 12"; "flags: 0 or 1 in versions 10 and 11, 0 to 7 in 12"
+-- "Served versions: 10, 11, 12"; "flags: 0 or 1 in versions 10 and 11, 0 to 7 in 12"; "Serve version 20 beside the others"
 unfoldable pub editionOf : ℕ → Option Edition
 editionOf v =
-    cond (eqb v 10) (some (edition 1 early)) (cond (eqb v 11) (some (edition 1 early)) (cond (eqb v 12) (some (edition 7 (λ o. true))) none))
+    cond (eqb v 10) (some (edition 1 early))
+    (cond (eqb v 11) (some (edition 1 early)) (cond (eqb v 12) (some (edition 7 (λ o. true))) (cond (eqb v 20) (some twenty) none)))
 
 abbrev pub isServed : Option Edition → Bool
 isServed none = false

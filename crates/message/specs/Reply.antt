@@ -1,7 +1,8 @@
 -- A reply (document 01, 'A reply'). Its format goes by what was asked.
+use mathlib.Core.Path.{_≡_}
 use mathlib.Core.List.{List}
 use mathlib.Core.Option.{Option, none, some}
-use mathlib.Core.Bool.{Bool, true, false, cond, _||_}
+use mathlib.Core.Bool.{Bool, true, false, cond, _&&_, _||_}
 use Prim.Native.Nat.{ℕ, _+_}
 use lib.Dec.{eqb}
 use Rattle.wire.specs.Codec.{Codec, refuse, byte, guard, seq, as-type, all}
@@ -13,12 +14,13 @@ use Rattle.message.specs.declared.Asked.{Asked}
 use Rattle.message.specs.declared.ReplyHead.{ReplyHead}
 use Rattle.message.specs.declared.Reply as code-reply
 use Rattle.message.specs.Operation.{codeOf, findCode}
+use Rattle.message.specs.Edition.{Edition, editionOf}
 use Rattle.message.specs.ReplyTable.{Body, table, errorCode, errors, bodyAt, isAllowed, allowed}
 use Rattle.message.specs.Payload.{Payload, payload, counted, bulkPayload, fieldsOf, formOf}
 
--- what was asked: the operation's code, and whether flag 0x0001 was set
-abbrev pub asked : ℕ → Bool → Asked
-asked op flag = record { op = op; flag = flag }
+-- what was asked: the version, the operation's code, and whether flag 0x0001 was set
+abbrev pub asked : ℕ → ℕ → Bool → Asked
+asked version op flag = record { version = version; op = op; flag = flag }
 
 -- a reply: a header and a payload
 pub record Reply : Type 0 where
@@ -52,16 +54,34 @@ message comes statuses flag = as-type all toReply fromReply (fields comes status
 abbrev pub isAwaited : Operation → ℕ → Bool
 isAwaited o op = eqb op (codeOf o + 1) || eqb op errorCode
 
-abbrev pub statusesOf : Operation → ℕ → List (ℕ × Body)
-statusesOf o op = cond (eqb op errorCode) errors (table o)
+abbrev pub statusesOf : Bool → Operation → ℕ → List (ℕ × Body)
+statusesOf tells o op = cond (eqb op errorCode) errors (table tells o)
 
-abbrev pub replyTo : Option Operation → Bool → Codec Reply
-replyTo none flag = refuse 4
-replyTo (some o) flag = message (isAwaited o) (statusesOf o) flag
+-- What reply is awaited, by what was asked: that to an operation in an edition, or none, by the refusal's number.
+pub data Awaited : Type 0 where
+  known : Edition → Operation → Awaited
+  refused : ℕ → Awaited
 
--- "An operation not served gives the reader 4 before any byte is looked at."
+-- A version that is not served "gives the reader 3 before all else"; "an operation not served gives the reader 4 before any byte is looked at", and so does one that
+-- the edition does not have.
+abbrev pub awaitedIn : Option Edition → Option Operation → Awaited
+awaitedIn none o = refused 3
+awaitedIn (some e) none = refused 4
+awaitedIn (some e) (some o) = cond (e .serves o) (known e o) (refused 4)
+
+unfoldable pub awaited : Asked → Awaited
+awaited a = awaitedIn (editionOf (a .version)) (findCode (a .op))
+
+-- the reply to the operation o in the edition e is awaited
+pub record Awaits (a : Asked) (e : Edition) (o : Operation) : Type 0 where
+  pub is : awaited a ≡ known e o
+
+abbrev pub replyTo : Bool → Awaited → Codec Reply
+replyTo flag (known e o) = message (isAwaited o) (statusesOf (e .tells && flag) o) flag
+replyTo flag (refused k) = refuse k
+
 unfoldable pub reply : Asked → Codec Reply
-reply a = replyTo (findCode (a .op)) (a .flag)
+reply a = replyTo (a .flag) (awaited a)
 
 -- an error reply alone, which the server sends whatever was asked
 unfoldable pub errorReply : Codec Reply
@@ -93,6 +113,10 @@ bulkOperation false = BulkGetKeys
 -- the reply of an id and the entries to one of them
 abbrev pub bulkReply : Bool → ℕ → List (List ℕ × List ℕ) → Reply
 bulkReply values id es = record { id = id; op = codeOf (bulkOperation values) + 1; status = 0x00; payload = bulkPayload es }
+
+-- the same to what was asked: with values where it is bulkGet
+abbrev pub entriesReply : Asked → ℕ → List (List ℕ × List ℕ) → Reply
+entriesReply a id es = bulkReply (eqb (a .op) (codeOf BulkGet)) id es
 
 -- The greatest length of a reply to an operation: "No reply is longer than 279 bytes", but "a stats reply may pass 279 bytes and stays under 512", and the
 -- replies to bulkGet and bulkGetKeys "may pass 279 bytes".

@@ -47,8 +47,9 @@ pub struct Request {
     pub value: Span,
 }
 
-// What was asked: the operation's code, and whether flag 0x0001 was set.
+// What was asked: the version, the operation's code, and whether flag 0x0001 was set.
 pub struct Asked {
+    pub version: u8,
     pub op: u8,
     pub flag: bool,
 }

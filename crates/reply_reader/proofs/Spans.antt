@@ -2,7 +2,7 @@
 use mathlib.Core.Path.{_≡_, refl, sym, subst, _∙_}
 use mathlib.Core.List.{List}
 use mathlib.Core.Option.{Option, none, some}
-use mathlib.Core.Bool.{Bool, true}
+use mathlib.Core.Bool.{Bool, true, _&&_}
 use Prim.Native.Nat.{ℕ}
 use Rattle.wire.specs.Codec.{whole, after, mapped, Codec, Bytes, byte, guard, refuse, readAt}
 use Rattle.wire.specs.Listed.{Steps}
@@ -15,12 +15,11 @@ use Rattle.message.specs.declared.Operation.{Operation}
 use Rattle.message.specs.declared.Asked.{Asked}
 use Rattle.message.specs.declared.Form.{Form}
 use Rattle.message.specs.declared.Form.the-variants as form
-use Rattle.message.specs.Operation.{findCode}
 use Rattle.message.specs.Arguments.{valueLimit}
 use Rattle.message.specs.Listing.{mostListed, itemOf, listing}
 use Rattle.message.specs.ReplyTable.{bodyAt, isAllowed}
 use Rattle.message.specs.Payload.{textLimit, Payload, noBody, valueBody, versionedBody, textBody, statisticsBody, listedBody, fieldsOf}
-use Rattle.message.specs.Reply.{Reply, fields, message, isAwaited, statusesOf, replyTo, reply}
+use Rattle.message.specs.Reply.{Reply, fields, message, isAwaited, statusesOf, Awaited, known, refused, awaited, replyTo, reply}
 use Rattle.message.proofs.ListingLaws.{listing-laws}
 use Rattle.reply_reader.specs.ReplyRead.{asReply, replyAt, bulkOf, listedOf, entriesAt, entriesIn, answered}
 use Rattle.reply_reader.specs.declared.ReplyRead.{ReplyRead}
@@ -110,9 +109,9 @@ module _ (s : List ℕ) (b : Bytes s) where
     same : answered s (replyAt m n) ≡ m
     steps : Stepped (bulkOf (m .op)) (m .payload .entries) n
 
-  message-shown : (o : Operation) (flag : Bool) (m : Reply) (n : ℕ) → readAt (message (isAwaited o) (statusesOf o) flag) s 0 ≡ whole m n → Shown m n
+  message-shown : (tells : Bool) (o : Operation) (flag : Bool) (m : Reply) (n : ℕ) → readAt (message (isAwaited o) (statusesOf tells o) flag) s 0 ≡ whole m n → Shown m n
   unfolding message fields replyAt
-  message-shown o flag m n e =
+  message-shown tells o flag m n e =
       let x = typed _ _ _ _ s 0 m n e in
       let a = halves _ _ s 0 _ n (x .read) in
       let i = halves _ _ s _ _ n (a .second) in
@@ -122,21 +121,21 @@ module _ (s : List ℕ) (b : Bytes s) where
       let d = body-stands (k .mid) _ n _ (k .second) in
       let w = x .val .1 .1 .0 in
       let u = x .val .1 .1 .1 .0 in
-      let g = bulk-form flag o w u (passed-at (isAwaited o) 4 byte s _ w _ (c .first)) (passed-at (λ y. isAllowed (bodyAt y (statusesOf o w))) 8 byte s _ u _ (t .first)) in
+      let g = bulk-form flag tells o w u (passed-at (isAwaited o) 4 byte s _ w _ (c .first)) (passed-at (λ y. isAllowed (bodyAt y (statusesOf tells o w))) 8 byte s _ u _ (t .first)) in
       subst (λ (q : Reply). Shown q n) (x .same) (record { same = rw (d .value, d .text, g, d .entries); steps = rw g (d .steps) })
 
-  shown : (o : Option Operation) (flag : Bool) (m : Reply) (n : ℕ) → replyTo o flag .dec s ≡ whole m n → Shown m n
+  shown : (flag : Bool) (w : Awaited) (m : Reply) (n : ℕ) → replyTo flag w .dec s ≡ whole m n → Shown m n
   unfolding refuse
-  shown none flag m n e = never (cc)
-  shown (some o) flag m n e = message-shown o flag m n (at-front _ s ∙ e)
+  shown flag (known e o) m n x = message-shown (e .tells && flag) o flag m n (at-front _ s ∙ x)
+  shown flag (refused k) m n x = never (cc)
 
   -- the entries of a bulk reply are read step by step from where they stand: `listing::next_entry` is such a step
   pub entries-steps : (a : Asked) (m : Reply) (n : ℕ) (values : Bool) → reply a .dec s ≡ whole m n → bulkOf (m .op) ≡ some values
       → Steps (itemOf values) s (replyAt m n .1 .1 .part .start) (m .payload .entries) n
   unfolding reply replyAt
-  entries-steps a m n values e k = rw k (rw k at (shown (findCode (a .op)) (a .flag) m n e .steps))
+  entries-steps a m n values e k = rw k (rw k at (shown (a .flag) (awaited a) m n e .steps))
 
   -- what reading finds, by the reader's answer
   pub reply-in : (a : Asked) (r x : ReplyRead) → asReply r ≡ mapped replyAt (reply a .dec s) → r ≡ x → reply a .dec s ≡ after (asReply x) (λ q n. whole (answered s q) n)
   unfolding mapped reply
-  reply-in a r x e p = sym (rw (← p, e) (mapped-back (reply a .dec s) replyAt (λ q n. answered s q) (λ m n h. shown (findCode (a .op)) (a .flag) m n h .same)))
+  reply-in a r x e p = sym (rw (← p, e) (mapped-back (reply a .dec s) replyAt (λ q n. answered s q) (λ m n h. shown (a .flag) (awaited a) m n h .same)))

@@ -3,9 +3,9 @@ mod read;
 
 use field::Span;
 use message::Asked;
-use message::Found;
 use message::Reply;
 use message::ReplyHead;
+use rules::Awaited;
 use statistics::Statistics;
 ghost use mathlib.Core.Path.{_≡_};
 ghost use Rattle.wire.specs.Codec.{mapped};
@@ -32,9 +32,12 @@ pub enum ReplyRead {
 pub fn read_reply(s: &[u8], asked: Asked) -> ReplyRead
     ensures { λ r. ⌜ asReply r ≡ mapped replyAt (reply asked .dec (now (s .entry))) ⌝ }
 {
-    let found = message::find(asked.op);
-    let Found::Known(o) = found else {
-        return ReplyRead::Refused(4);
-    };
-    read::read_message(s, o, asked.flag)
+    let awaited = rules::awaited_by(asked);
+    match awaited {
+        Awaited::Known(o) => {
+            let tells = rules::tells(asked.version, asked.flag);
+            read::read_message(s, o, tells, asked.flag)
+        }
+        Awaited::Refused(k) => ReplyRead::Refused(k),
+    }
 }

@@ -1,15 +1,16 @@
 -- The laws of a reply's writer: its rules, its length, and its fields one after the other. Assumes nothing.
 use mathlib.Core.Path.{_≡_, refl, sym, ap, _∙_}
 use mathlib.Core.List.{List, [], _∷_, _++_, append-assoc}
-use mathlib.Core.Bool.{Bool, true, false, _&&_}
+use mathlib.Core.Bool.{Bool, true, false, _&&_, _||_}
+use mathlib.Core.Option.{Option, some}
 use Prim.Native.Nat.{ℕ, _+_, _≤_, _<_}
 use native.Mathlib.Nat.{add-zero}
 use native.Mathlib.Decide.{decLt}
 use native.Mathlib.Omega.{arith}
 use lib.ListN.{length, length-append}
 use lib.Dec.{eqb, ltb, leb, lit<}
-use borrow.Author.Tests.{lt-ltb, leb-true, leb-false}
-use Rattle.wire.specs.Codec.{Codec, Valid, Bytes, empty, byte, seq, guard, as-type, all}
+use borrow.Author.Tests.{lt-ltb, leb-true, leb-false, eqb-true, ne-eqb}
+use Rattle.wire.specs.Codec.{Codec, Valid, Bytes, empty, refuse, byte, seq, guard, as-type, all}
 use Rattle.wire.specs.Number.{vLong}
 use Rattle.wire.specs.Field.{entryVersion, limited}
 use Rattle.wire.specs.Listed.{moreByte, behind, item, others, listed}
@@ -22,14 +23,19 @@ use Rattle.text.specs.Text.{isText}
 use Rattle.field.specs.FieldRead.{limitedText}
 use Rattle.statistics.specs.Statistics.{statistics}
 use Rattle.statistics.proofs.Writing.{none-bad}
-use Rattle.message.specs.declared.Operation.the-variants.{BulkGet, BulkGetKeys}
-use Rattle.message.specs.Operation.{codeOf, findCode}
+use Rattle.message.specs.declared.Operation.{Operation}
+use Rattle.message.specs.declared.Operation.the-variants.{Stats, BulkGet, BulkGetKeys}
+use Rattle.message.specs.declared.Asked.{Asked}
+use Rattle.message.specs.Operation.{codeOf}
+use Rattle.message.proofs.RequestLaws.{same-code}
+use Rattle.message.proofs.Every.{code-small, statuses-are}
 use Rattle.message.specs.Arguments.{isEmpty, valueLimit}
 use Rattle.message.specs.Listing.{itemOf, listing}
-use Rattle.message.specs.ReplyTable.{Body, bodyAt, isAllowed, allowed}
+use Rattle.message.specs.ReplyTable as m
+use Rattle.message.specs.ReplyTable.{Body, table, bodyAt, isAllowed, allowed}
 use Rattle.message.specs.Payload.{Payload, payload, counted, bulkPayload, noEntryVersion, noValue, noText, noLists, textLimit, noBody, valueBody, versionedBody, textBody, statisticsBody, listedBody, fieldsOf, formOf}
-use Rattle.message.specs.Reply.{asked, Reply, bulkOperation, bulkReply, toReply, fromReply, fields, message, isAwaited, statusesOf, reply}
-use Rattle.reply_writer.specs.Frame.{framed}
+use Rattle.message.specs.Reply.{Reply, bulkOperation, bulkReply, toReply, fromReply, fields, message, isAwaited, statusesOf, Awaited, known, refused, awaited, replyTo, reply}
+use Rattle.reply_writer.specs.Frame.{framed, answersTo}
 
 -- a body that carries nothing
 none-sent : (x y z : Bool) → ((x && (y && z)) && true) ≡ ((x && y) && z)
@@ -312,9 +318,42 @@ bulk-behind values id es old v g h e f =
     send-done (framed (listedBody values)) _ old (bulk-valid values id es v g) (omega (arith, bulk-length values id es)) _ _
     (record { next = w .next ∙ rw (bulk-enc values id es); list = w .list ∙ rw (bulk-enc values id es); long = w .long })
 
--- it answers its operation, whatever the flag
-pub send-bulk : (values flag : Bool) (id : ℕ) (es : List (List ℕ × List ℕ)) (old : List ℕ)
-    → send (framed (listedBody values)) (bulkReply values id es) old ≡ send (reply (asked (codeOf (bulkOperation values)) flag)) (bulkReply values id es) old
-unfolding reply findCode bodyAt fieldsOf
-send-bulk true flag id es old = send-framed (isAwaited BulkGet) (statusesOf BulkGet) flag (bulkReply true id es) old refl refl
-send-bulk false flag id es old = send-framed (isAwaited BulkGetKeys) (statusesOf BulkGetKeys) flag (bulkReply false id es) old refl refl
+-- what is not awaited is 16
+pub send-unawaited : (a : Asked) (r : Reply) (old : List ℕ) → answersTo (r .op) (awaited a) ≡ false → (kept 16, old) ≡ send (reply a) r old
+unfolding reply send refuse
+send-unawaited a r old = go (awaited a)
+  where
+    go : (w : Awaited) → answersTo (r .op) w ≡ false → (kept 16, old) ≡ send (replyTo (a .flag) w) r old
+    go (known e o) h = send-other (isAwaited o) (statusesOf (e .tells && a .flag) o) (a .flag) r old h
+    go (refused k) h = refl
+
+-- the operation whose reply has a code, which is not that of an error
+code-is : (o p : Operation) → isAwaited o (codeOf p + 1) ≡ true → o ≡ p
+code-is o p h = same-code o p (go (eqb (codeOf p + 1) (codeOf o + 1)) refl (rw (ne-eqb (codeOf p + 1) 0x50 (λ e. omega (arith, code-small p))) at h))
+  where
+    go : (t : Bool) → eqb (codeOf p + 1) (codeOf o + 1) ≡ t → (t || false) ≡ true → codeOf o ≡ codeOf p
+    go true e q = let x = eqb-true (codeOf p + 1) (codeOf o + 1) e in omega arith
+    go false e q = never (cc)
+
+-- a reply of status 00 to an operation that has no old value, which is awaited
+pub send-awaited : (a : Asked) (p : Operation) (r : Reply) (old : List ℕ) (b : Body) → r .op ≡ codeOf p + 1
+    → ((tells : Bool) → bodyAt (r .status) (table tells p) ≡ some b) → answersTo (r .op) (awaited a) ≡ true
+    → send (framed (fieldsOf (formOf (a .flag) b))) r old ≡ send (reply a) r old
+unfolding reply
+send-awaited a p r old b c h = go (awaited a)
+  where
+    go : (w : Awaited) → answersTo (r .op) w ≡ true → send (framed (fieldsOf (formOf (a .flag) b))) r old ≡ send (replyTo (a .flag) w) r old
+    go (known e o) q =
+        let t = e .tells && a .flag in
+        let i : o ≡ p = code-is o p (rw c at q) in
+        let s : bodyAt (r .status) (statusesOf t o (r .op)) ≡ some b = rw (i, c, statuses-are t p) (h t) in
+        sym (ap (λ (x : Option Body). send (framed (fieldsOf (formOf (a .flag) (allowed x)))) r old) s)
+        ∙ send-framed (isAwaited o) (statusesOf t o) (a .flag) r old q (ap isAllowed s)
+    go (refused k) q = never (cc)
+
+-- the reply to bulkGet and to bulkGetKeys
+pub send-bulk : (a : Asked) (values : Bool) (id : ℕ) (es : List (List ℕ × List ℕ)) (old : List ℕ) → answersTo (codeOf (bulkOperation values) + 1) (awaited a) ≡ true
+    → send (framed (listedBody values)) (bulkReply values id es) old ≡ send (reply a) (bulkReply values id es) old
+unfolding fieldsOf bodyAt
+send-bulk a true id es old = send-awaited a BulkGet (bulkReply true id es) old m.entries refl (λ tells. refl)
+send-bulk a false id es old = send-awaited a BulkGetKeys (bulkReply false id es) old m.keys refl (λ tells. refl)

@@ -1,13 +1,19 @@
 -- A reply by its header and its body.
 use mathlib.Core.List.{List, []}
+use mathlib.Core.Bool.{Bool, false}
 use Prim.Native.Nat.{ℕ}
 use lib.Dec.{eqb}
 use Rattle.wire.specs.Codec.{Codec, byte, guard, seq, as-type, all}
 use Rattle.wire.specs.Number.{vLong}
 use Rattle.message.specs.ReplyTable.{errorCode}
 use Rattle.message.specs.Payload.{Payload, payload}
-use Rattle.message.specs.Reply.{Reply, toReply, fromReply}
+use Rattle.message.specs.Reply.{Reply, toReply, fromReply, isAwaited, Awaited, known, refused}
 use Rattle.message.specs.declared.ReplyHead.{ReplyHead}
+
+-- whether a reply with an operation is the one awaited
+abbrev pub answersTo : ℕ → Awaited → Bool
+answersTo op (known e o) = isAwaited o op
+answersTo op (refused k) = false
 
 -- the body of an answer, a value and a text
 abbrev pub payloadOf : ReplyHead → List ℕ → List ℕ → Payload

@@ -6,55 +6,72 @@ mod write;
 use field::EntryVersion;
 use field::put;
 use message::Asked;
-use message::Found;
 use message::ReplyHead;
 use message::Sent;
+use rules::Awaited;
 use statistics::Statistics;
 ghost use mathlib.Core.Path.{_≡_};
 ghost use mathlib.Core.List.{[]};
-ghost use mathlib.Core.Bool.{Bool};
 ghost use Prim.Native.Nat.{_≤_};
 ghost use Rattle.wire.specs.Write.{putAt, send};
 ghost use Rattle.message.specs.Sent.{asSent};
 ghost use Rattle.statistics.specs.Statistics.{listOf};
 ghost use Rattle.listing.specs.EntryWrite.{listedIn};
-ghost use Rattle.message.specs.Operation.{codeOf};
 ghost use Rattle.message.specs.Payload.{noBody};
-ghost use Rattle.message.specs.Reply.{asked, reply, replyOf, errorReply, statisticsReply, bulkOperation, bulkReply};
+ghost use Rattle.message.specs.Reply.{awaited, reply, replyOf, errorReply, statisticsReply, bulkReply, entriesReply};
 ghost use Rattle.message.specs.Refusal.{refusal};
-ghost use Rattle.reply_writer.specs.Frame.{framed, errorOf};
+ghost use Rattle.reply_writer.specs.Frame.{framed, errorOf, answersTo};
 
 // The reply to what was asked: its numbers, value and text. What is not sent is 0 or empty. A reply to stats has no written form without its
 // statistics: it is 16 here, and `write_statistics` writes it. A reply to bulkGet or bulkGetKeys has no entries here: `write_entries` writes those.
 pub fn write_reply(out: &mut [u8], asked: Asked, head: ReplyHead, value: &[u8], text: &[u8]) -> Sent
     ensures { λ r. ⌜ (asSent r, now (out .exit)) ≡ send (reply asked) (replyOf head (now (value .entry)) (now (text .entry))) (now (out .entry)) ⌝ }
 {
-    let found = message::find(asked.op);
-    let Found::Known(o) = found else {
+    let awaited = rules::awaited_by(asked);
+    let Awaited::Known(o) = awaited else {
         return Sent::Refused(16);
     };
     if !rules::is_awaited(o, head.op) {
         return Sent::Refused(16);
     }
-    let b = rules::body_at(o, head.op, head.status);
+    let tells = rules::tells(asked.version, asked.flag);
+    let b = rules::body_at(tells, o, head.op, head.status);
     if !rules::is_allowed(b) {
         return Sent::Refused(16);
     }
     write::write_message(out, head, rules::form_of(asked.flag, b), value, text)
 }
 
-// The reply to stats, with flag 0x0001 or without: the nine statistics.
-pub fn write_statistics(out: &mut [u8], id: u64, x: Statistics) -> Sent
-    ensures { λ r. ⌜ ((flag : Bool) → (asSent r, now (out .exit)) ≡ send (reply (asked 0x15 flag)) (statisticsReply id (listOf x)) (now (out .entry))) ⌝ }
+// Is the reply with an operation awaited, by what was asked?
+fn is_reply(asked: Asked, op: u8) -> bool
+    ensures { λ r. ⌜ r ≡ answersTo op (awaited asked) ⌝ }
 {
+    let awaited = rules::awaited_by(asked);
+    let Awaited::Known(o) = awaited else {
+        return false;
+    };
+    rules::is_awaited(o, op)
+}
+
+// The reply to stats: the nine statistics. Where something else was asked it is 16.
+pub fn write_statistics(out: &mut [u8], asked: Asked, id: u64, x: Statistics) -> Sent
+    ensures { λ r. ⌜ (asSent r, now (out .exit)) ≡ send (reply asked) (statisticsReply id (listOf x)) (now (out .entry)) ⌝ }
+{
+    if !is_reply(asked, 0x16) {
+        return Sent::Refused(16);
+    }
     counted::write_counted(out, id, x)
 }
 
-// The reply to bulkGet, or to bulkGetKeys where values are not asked for, with flag 0x0001 or without. Four numbers name each entry: the start and the
-// length of its key in `bytes`, and those of its value.
-pub fn write_entries(out: &mut [u8], id: u64, values: bool, bytes: &[u8], numbers: &[u64]) -> Sent
-    ensures { λ r. ⌜ ((flag : Bool) → (asSent r, now (out .exit)) ≡ send (reply (asked (codeOf (bulkOperation values)) flag)) (bulkReply values id (listedIn (now (bytes .entry)) (now (numbers .entry)))) (now (out .entry))) ⌝ }
+// The reply to bulkGet or to bulkGetKeys. Where something else was asked it is 16. Four numbers name each entry: the start and the length of its key in
+// `bytes`, and those of its value.
+pub fn write_entries(out: &mut [u8], asked: Asked, id: u64, bytes: &[u8], numbers: &[u64]) -> Sent
+    ensures { λ r. ⌜ (asSent r, now (out .exit)) ≡ send (reply asked) (entriesReply asked id (listedIn (now (bytes .entry)) (now (numbers .entry)))) (now (out .entry)) ⌝ }
 {
+    let values = asked.op == 0x19;
+    if !is_reply(asked, listed::bulk_code(values)) {
+        return Sent::Refused(16);
+    }
     listed::write_listed(out, id, values, bytes, numbers)
 }
 
@@ -104,6 +121,7 @@ fn write_text(out: &mut [u8], id: u64, status: u8, text: &[u8]) -> Sent
         entry: EntryVersion(0),
     };
     let ping = Asked {
+        version: 10,
         op: 0x17,
         flag: false,
     };

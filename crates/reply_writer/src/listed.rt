@@ -16,7 +16,7 @@ ghost use Rattle.message.specs.Reply.{bulkOperation, bulkReply};
 ghost use Rattle.reply_writer.specs.Frame.{framed};
 
 // The operation of a reply to bulkGet, or to bulkGetKeys.
-fn bulk_code(values: bool) -> u8
+pub(crate) fn bulk_code(values: bool) -> u8
     ensures { λ r. ⌜ r ≡ codeOf (bulkOperation values) + 1 ⌝ }
 {
     if values { 0x1a } else { 0x1e }

@@ -27,7 +27,7 @@ use Rattle.message.specs.Request.{opFits, operation, transaction, isVersion, ed
 use Rattle.message.proofs.RequestLaws.{text-laws, operation-laws, transaction-laws}
 use Rattle.message.specs.Start.{start, idFound}
 use Rattle.request_reader.specs.RequestRead.{requestAt, front, options}
-use Rattle.request_reader.specs.Parts.{asFront, asOptions, asArgs, optionsAt, argsAt, argsWith, togetherOf, sendsOf, partIn, intIn, entryIn, bulkIn}
+use Rattle.request_reader.specs.Parts.{asFront, asOptions, asArgs, optionsAt, argsAt, argsWith, togetherOf, sendsOf, transactionIn, partIn, intIn, entryIn, bulkIn}
 use Rattle.request_reader.specs.declared.Args as code
 use Rattle.request_reader.specs.declared.FrontRead.{FrontRead}
 use Rattle.request_reader.specs.declared.FrontRead.the-variants as f
@@ -38,7 +38,6 @@ use Rattle.request_reader.specs.declared.ArgsRead.the-variants as a
 use Rattle.request_reader.proofs.FrontRead as front-read
 use Rattle.request_reader.proofs.OptionsRead as options-read
 use Rattle.request_reader.proofs.ArgsRead as args-read
-use Rattle.message.proofs.Editions.{has-transaction}
 
 start-laws : Laws start
 unfolding start
@@ -61,9 +60,14 @@ options-laws v =
     seq-laws _ _ vInt-laws λ _. transaction-laws (editionAt v .transaction)
 
 module _ (s : List ℕ) where
-  at-transaction : (v at : ℕ) → readAt (transaction (editionAt v .transaction)) s at ≡ after (readAt (between 0 0 8) s at) (λ b j. whole tt j)
-  unfolding transaction
-  at-transaction v at = rw (has-transaction v) (simp (at-type, at-guard, at-between, after-after, at-cond, only))
+  at-empty : (at : ℕ) → readAt empty s at ≡ whole tt at
+  unfolding readAt empty
+  at-empty at = simp add-zero
+
+  at-transaction : (t : Bool) (at : ℕ) → readAt (transaction t) s at ≡ after (transactionIn s t at) (λ b j. whole tt j)
+  unfolding transaction transactionIn
+  at-transaction true at = simp (at-type, at-guard, at-between, after-after, at-cond, only)
+  at-transaction false at = at-empty at
 
   -- the number is judged once it is whole; one that is not sent is 0, which no greatest one is under
   pub at-bulk : (most : ℕ) (sent : Bool) (at : ℕ) → bulkIn s most sent at ≡ after (intIn s sent at) (λ n j. cond (leb n most) (whole n j) (refused 8))
@@ -99,7 +103,7 @@ module _ (s : List ℕ) where
         cond (leb f (editionAt v .flags))
         (after (readAt (between 1 3 8) s i) (λ x i.
         after (readAt vInt s i) (λ t i.
-        after (readAt (between 0 0 8) s i) (λ _ j. whole (record { name = name; flags = f; intelligence = x; topology = t }) j))))
+        after (transactionIn s (editionAt v .transaction) i) (λ _ j. whole (record { name = name; flags = f; intelligence = x; topology = t }) j))))
         (refused 8)))
     unfolding mapped options optionsAt
     at-options v at =
@@ -109,10 +113,6 @@ module _ (s : List ℕ) where
     module _ (at : ℕ) where
       exact : (bs : List ℕ) (n : ℕ) → readAt (limited keyLimit) s at ≡ whole bs n → n ≡ at + length (limited keyLimit .enc bs)
       exact bs n e = at-exact (limited keyLimit) (limited-laws keyLimit) s at bs n b e
-
-      at-none : readAt empty s at ≡ whole tt at
-      unfolding readAt empty
-      at-none = simp add-zero
 
       -- each argument stands behind the one before, where the shape has it
       pub at-args : (sh : Shape) → mapped (argsAt at) (readAt (argsOf sh) s at)
@@ -127,7 +127,7 @@ module _ (s : List ℕ) where
       at-args writes = simp (at-type, at-seq, after-after) (after-on (readAt (limited keyLimit) s at) (λ bs n e. rw (exact bs n e)))
       at-args writesIf = simp (at-type, at-seq, after-after) (after-on (readAt (limited keyLimit) s at) (λ bs n e. rw (exact bs n e)))
       at-args keyedIf = simp (at-type, at-seq, after-after) (after-on (readAt (limited keyLimit) s at) (λ bs n e. rw (exact bs n e)))
-      at-args bare = simp (at-type, at-none)
+      at-args bare = simp (at-type, at-empty)
       at-args (bulk most) = simp (at-type, after-after)
 
     -- a request is its three parts

@@ -7,7 +7,7 @@ use lib.Dec.{leb}
 use Rattle.wire.specs.Codec.{Read, whole, more, refused, guard, mapped, readAt}
 use Rattle.wire.specs.Number.{vInt}
 use Rattle.wire.specs.Field.{limited, entryVersion}
-use Rattle.field.specs.FieldRead.{limitedText, nowhere, spanTo}
+use Rattle.field.specs.FieldRead.{limitedText, between, nowhere, spanTo}
 use Rattle.field.specs.declared.Span.{Span}
 use Rattle.message.specs.declared.Request.{Request}
 use Rattle.message.specs.Arguments.{Shape, keyed, writes, writesIf, keyedIf, bare, bulk, Args, nameLimit, keyLimit}
@@ -89,6 +89,10 @@ sendsOf writesIf = sends true true true
 sendsOf keyedIf = sends true false true
 sendsOf bare = sends false false false
 sendsOf (bulk most) = sendsNumber most
+
+-- the transaction type, which is 0, where the edition has one
+unfoldable pub transactionIn : List ℕ → (has : Bool) → ℕ → Read ℕ
+transactionIn s has at = cond has (readAt (between 0 0 8) s at) (whole 0 at)
 
 -- an argument that is not sent takes no bytes, and is blank: a part that stands nowhere, or 0
 unfoldable pub partIn : List ℕ → (lim : ℕ) → (sent : Bool) → ℕ → Read Span

@@ -16,10 +16,10 @@ ghost use mathlib.Core.Path.{_≡_};
 ghost use Rattle.wire.specs.Codec.{readAt, mapped};
 ghost use Rattle.field.specs.FieldRead.{asNumber, asVersion, asSpan, stopped};
 ghost use Rattle.message.specs.Arguments.{shapeOf, argsOf};
-ghost use Rattle.message.specs.Request.{request};
+ghost use Rattle.message.specs.Request.{request, editionAt};
 ghost use Rattle.message.specs.Start.{start, idIn};
 ghost use Rattle.request_reader.specs.RequestRead.{asRequest, requestAt, front, options};
-ghost use Rattle.request_reader.specs.Parts.{asFront, asOptions, asArgs, optionsAt, argsAt, togetherOf, sends, sendsNumber, sendsOf, argsWith, partIn, intIn, entryIn, bulkIn};
+ghost use Rattle.request_reader.specs.Parts.{asFront, asOptions, asArgs, optionsAt, argsAt, togetherOf, sends, sendsNumber, sendsOf, argsWith, transactionIn, partIn, intIn, entryIn, bulkIn};
 
 // What reading a request finds: the request with the number of bytes it took, more needed, or a refusal by its number.
 pub enum RequestRead {
@@ -152,6 +152,16 @@ fn stop_args(r: NumberRead) -> ArgsRead
     }
 }
 
+// The transaction type, where the version has one.
+fn read_transaction(s: &[u8], c: Cursor, version: u8) -> NumberRead
+    ensures { λ r. ⌜ asNumber r ≡ transactionIn (now (s .entry)) (editionAt version .transaction) (c .at) ⌝ }
+{
+    if rules::has_transaction(version) {
+        return field::read_between(s, c, 0, 0, 8);
+    }
+    NumberRead::Whole(0, c)
+}
+
 fn read_options(s: &[u8], c: Cursor, version: u8) -> OptionsRead
     ensures { λ r. ⌜ asOptions r ≡ mapped (optionsAt (c .at)) (readAt (options version) (now (s .entry)) (c .at)) ⌝ }
 {
@@ -174,7 +184,7 @@ fn read_options(s: &[u8], c: Cursor, version: u8) -> OptionsRead
     let NumberRead::Whole(topology, c4) = r4 else {
         return stop_options(r4);
     };
-    let r5 = field::read_between(s, c4, 0, 0, 8);
+    let r5 = read_transaction(s, c4, version);
     let NumberRead::Whole(_, c5) = r5 else {
         return stop_options(r5);
     };

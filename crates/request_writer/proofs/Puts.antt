@@ -11,14 +11,13 @@ use Rattle.wire.specs.Codec.{Codec, empty, byte, guard, seq, as-type}
 use Rattle.wire.specs.Number.{vInt, vLong}
 use Rattle.wire.specs.Field.{entryVersion, limited}
 use Rattle.wire.specs.Write.{Wrote, putAt}
-use Rattle.wire.proofs.Laws.{never, seq-valid, guard-valid, type-valid}
-use Rattle.wire.proofs.WriteLaws.{wrote-seq, wrote-guard, wrote-type, put-wrote}
+use Rattle.wire.proofs.Laws.{seq-valid, guard-valid, type-valid}
+use Rattle.wire.proofs.WriteLaws.{laid-none, wrote-seq, wrote-guard, wrote-type, put-wrote}
 use Rattle.field.specs.FieldRead.{limitedText}
 use Rattle.message.specs.declared.Operation.{Operation}
 use Rattle.message.specs.Operation.{codeOf}
 use Rattle.message.specs.Arguments.{keyed, writes, writesIf, keyedIf, bare, bulk, shapeOf, Args, argsOf, nameLimit, keyLimit, valueLimit}
 use Rattle.message.specs.Request.{opFits, operation, transaction, isVersion, editionAt, fields, Request, request}
-use Rattle.message.proofs.Editions.{has-transaction}
 use Rattle.request_writer.specs.Parts.{Ready}
 
 -- the writer of a field
@@ -104,10 +103,14 @@ put-operation : (v : ℕ) {o : Operation} {at r : ℕ} {old new : List ℕ} → 
 unfolding operation
 put-operation v x b e f = wrote-type _ _ _ _ (put-guard (opFits (editionAt v)) 4 byte (ready-type _ _ _ _ x) (rw e at f))
 
-put-type : (t : Bool) → t ≡ true → {at r : ℕ} {old new : List ℕ} → Ready (transaction t) tt at old → (r, new) ≡ putAt byte 0 at old → Wrote (transaction t) tt old new at r
-unfolding transaction
-put-type true e x f = wrote-type _ _ _ _ (put-guard (λ n. eqb n 0) 8 byte (ready-type _ _ _ _ x) f)
-put-type false e x f = never (cc)
+-- the transaction type: a byte 0, or nothing
+pub put-type : (at : ℕ) (old : List ℕ) → putAt byte 0 at old ≡ putAt (transaction true) tt at old
+unfolding putAt transaction as-type guard byte
+put-type at old = refl
+
+pub put-no-type : (at : ℕ) (old : List ℕ) → (at, old) ≡ putAt (transaction false) tt at old
+unfolding putAt transaction empty
+put-no-type at old = laid-none at old
 
 -- a request whose header is written: its arguments can be, and then all of it is
 pub record Headed (q : Request) (old new : List ℕ) (at : ℕ) : Type 0 where
@@ -124,7 +127,7 @@ pub put-header : (q : Request) {o₀ o₁ o₂ o₃ o₄ o₅ o₆ o₇ o₈ o�
     → (r₆, o₆) ≡ putAt vInt (q .flags) r₅ o₅
     → (r₇, o₇) ≡ putAt byte (q .intelligence) r₆ o₆
     → (r₈, o₈) ≡ putAt vInt (q .topology) r₇ o₇
-    → (r₉, o₉) ≡ putAt byte 0 r₈ o₈
+    → (r₉, o₉) ≡ putAt (transaction (editionAt (q .version) .transaction)) tt r₈ o₈
     → Headed q o₀ o₉ r₉
 unfolding request fields
 put-header q x e₁ e₂ e₃ b p e₄ e₅ e₆ e₇ e₈ e₉ =
@@ -146,7 +149,7 @@ put-header q x e₁ e₂ e₃ b p e₄ e₅ e₆ e₇ e₈ e₉ =
     let x₈ = second _ _ x₇ w₇ in
     let w₈ = put vInt (first _ _ x₈) e₈ in
     let x₉ = second _ _ x₈ w₈ in
-    let w₉ = put-type (editionAt v .transaction) (has-transaction v) (first _ _ x₉) e₉ in
+    let w₉ = put (transaction (editionAt v .transaction)) (first _ _ x₉) e₉ in
     record {
       ready = second _ _ x₉ w₉;
       wrote = λ o r w.

@@ -1,5 +1,6 @@
 -- How many bytes a request takes. Assumes nothing.
 use mathlib.Core.Path.{_≡_, refl, ap}
+use mathlib.Core.Bool.{Bool, true, false, cond}
 use Prim.Native.Nat.{ℕ, _+_, _≤_, _<_, _^_}
 use native.Mathlib.Omega.{arith}
 use lib.ListN.{length, length-append}
@@ -10,7 +11,7 @@ use Rattle.wire.proofs.FieldLaws.{big-length, limited-length}
 use Rattle.field.specs.FieldRead.{limitedText}
 use Rattle.message.specs.Arguments.{Shape, keyed, writes, writesIf, keyedIf, bare, bulk, shapeOf, Args, argsOf, nameLimit, keyLimit, valueLimit}
 use Rattle.message.specs.Request.{operation, transaction, editionAt, fields, Request, request}
-use Rattle.message.proofs.Editions.{has-transaction, flags-small}
+use Rattle.message.proofs.Editions.{flags-small}
 use Rattle.request_writer.specs.Parts.{limitsOf, sizeOf, argsSize}
 use Rattle.request_writer.proofs.Rules.{Within, within, bulk-int, Rules}
 
@@ -42,14 +43,17 @@ module _ (a : Args) where
   args-small bare w = (omega (arith, w .key), omega (arith, w .value))
   args-small (bulk most) w = (omega (arith, w .key), omega (arith, w .value))
 
-transaction-size : (v : ℕ) → length (transaction (editionAt v .transaction) .enc tt) ≡ 1
-unfolding transaction as-type guard byte
-transaction-size v = rw (has-transaction v)
+-- the transaction type: a byte, or none
+pub transaction-size : (t : Bool) → length (transaction t .enc tt) ≡ cond t 1 0
+unfolding transaction as-type guard byte empty
+transaction-size true = refl
+transaction-size false = refl
 
 pub request-size : (q : Request) → q .args .entryVersion < 256 ^ 8 → Rules q → length (request .enc q)
-    ≡ 5 + length (vLong .enc (q .id)) + sizeOf (q .name) + length (vLong .enc (q .flags)) + length (vLong .enc (q .topology)) + argsSize (shapeOf (q .op)) (q .args)
+    ≡ 4 + length (vLong .enc (q .id)) + sizeOf (q .name) + length (vLong .enc (q .flags)) + length (vLong .enc (q .topology))
+    + length (transaction (editionAt (q .version) .transaction) .enc tt) + argsSize (shapeOf (q .op)) (q .args)
 unfolding request fields operation limitedText as-type seq guard byte
 request-size q h r =
     simp length-append
     (omega
-    (arith, limited-length nameLimit (q .name) (omega (arith, r .name)), int-size (q .flags) (omega (arith, r .flags, flags-small (q .version))), int-size (q .topology) (r .topology), transaction-size (q .version), args-size (q .args) (shapeOf (q .op)) (bulk-int (q .op)) (within (q .args) (shapeOf (q .op)) h (r .args))))
+    (arith, limited-length nameLimit (q .name) (omega (arith, r .name)), int-size (q .flags) (omega (arith, r .flags, flags-small (q .version))), int-size (q .topology) (r .topology), args-size (q .args) (shapeOf (q .op)) (bulk-int (q .op)) (within (q .args) (shapeOf (q .op)) h (r .args))))

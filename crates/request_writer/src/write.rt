@@ -9,9 +9,9 @@ ghost use mathlib.Core.Path.{_≡_};
 ghost use Prim.Native.Nat.{_+_, _≤_};
 ghost use lib.ListN.{length};
 ghost use Rattle.wire.specs.Codec.{Valid};
-ghost use Rattle.wire.specs.Write.{Wrote};
+ghost use Rattle.wire.specs.Write.{Wrote, putAt};
 ghost use Rattle.message.specs.Arguments.{argsOf, shapeOf, writes, writesIf, keyedIf, keyLimit, valueLimit};
-ghost use Rattle.message.specs.Request.{request, requestOf};
+ghost use Rattle.message.specs.Request.{request, requestOf, transaction, editionAt};
 ghost use Rattle.request_writer.specs.Parts.{argsWith, asLimits, limits, limitsOf, sizeOf, argsSize, Ready};
 
 // The greatest length or number of each argument: 0 where it is not sent.
@@ -146,6 +146,16 @@ fn args_len(h: Head, key: &[u8], value: &[u8]) -> usize
     }
 }
 
+// How many bytes the transaction type takes.
+fn transaction_len(version: u8) -> usize
+    ensures { λ r. ⌜ (r ≡ length (transaction (editionAt version .transaction) .enc tt)) × (r ≤ 1) ⌝ }
+{
+    if rules::has_transaction(version) {
+        return 1;
+    }
+    0
+}
+
 // How many bytes a request takes.
 pub(crate) fn length_of(h: Head, name: &[u8], key: &[u8], value: &[u8]) -> usize
     requires { ⌜ Valid request (requestOf h (now name) (now key) (now value)) ⌝ }
@@ -155,8 +165,9 @@ pub(crate) fn length_of(h: Head, name: &[u8], key: &[u8], value: &[u8]) -> usize
     let n = size(name);
     let flags = put::number_len(h.flags);
     let topology = put::number_len(h.topology);
+    let t = transaction_len(h.version);
     let a = args_len(h, key, value);
-    5 + id + n + flags + topology + a
+    4 + id + n + flags + topology + t + a
 }
 
 fn put_keyed_if(out: &mut [u8], at: usize, h: Head, key: &[u8], value: &[u8]) -> usize
@@ -211,6 +222,16 @@ fn put_args(out: &mut [u8], at: usize, h: Head, key: &[u8], value: &[u8]) -> usi
     }
 }
 
+// The transaction type, where the version has one.
+fn put_transaction(out: &mut [u8], at: usize, version: u8) -> usize
+    ensures { λ r. ⌜ (r, now (out .exit)) ≡ putAt (transaction (editionAt version .transaction)) tt at (now (out .entry)) ⌝ }
+{
+    if rules::has_transaction(version) {
+        return put::put_byte(out, at, 0);
+    }
+    at
+}
+
 // Writes a request that keeps the rules, and for which there is room, at the front.
 pub(crate) fn put_request(out: &mut [u8], h: Head, name: &[u8], key: &[u8], value: &[u8]) -> usize
     requires { ⌜ Ready request (requestOf h (now name) (now key) (now value)) 0 (now out) ⌝ }
@@ -231,6 +252,6 @@ pub(crate) fn put_request(out: &mut [u8], h: Head, name: &[u8], key: &[u8], valu
     let f = put::put_number(out, e, flags, Kind::VInt);
     let g = put::put_byte(out, f, intelligence);
     let i = put::put_number(out, g, topology, Kind::VInt);
-    let j = put::put_byte(out, i, 0);
+    let j = put_transaction(out, i, version);
     put_args(out, j, h, key, value)
 }

@@ -1,6 +1,6 @@
 -- The reply table by status. Assumes nothing.
 use mathlib.Core.Path.{_≡_, refl, sym}
-use mathlib.Core.List.{[], _∷_}
+use mathlib.Core.List.{List, [], _∷_}
 use mathlib.Core.Option.{Option, none, some}
 use mathlib.Core.Bool.{Bool, true, false, cond}
 use Prim.Native.Nat.{ℕ, _≤_}
@@ -11,7 +11,10 @@ use denote.Enum.Declared.{tagOf}
 use borrow.Author.Tests.{eqb-true, eqb-false, ne-eqb}
 use Rattle.wire.proofs.Basics.{if-none}
 use Rattle.message.specs.ReplyTable as m
-use Rattle.message.specs.ReplyTable.{isAllowed, errors, bodyAt}
+use Rattle.message.specs.declared.Operation.{Operation}
+use Rattle.message.specs.declared.Operation.the-variants.{Put, Get, PutIfAbsent, Replace, ReplaceIfUnmodified, Remove, RemoveIfUnmodified, ContainsKey, GetWithVersion, Clear, Stats, Ping, BulkGet, BulkGetKeys}
+use Rattle.message.specs.ReplyTable.{table, hasOld, isAllowed, errors, bodyAt}
+use Rattle.message.proofs.Operation as operation
 use Rattle.rules.specs.Body.{asBody}
 use Rattle.rules.specs.declared.Body.{Body}
 use Rattle.rules.specs.declared.Body.the-variants as b
@@ -74,3 +77,39 @@ is-listed b.Statistics k = refl
 is-listed b.Entries k = refl
 is-listed b.Keys k = refl
 is-listed b.NotAllowed k = absurd (miss (0 ∷ 1 ∷ 2 ∷ 3 ∷ 4 ∷ 5 ∷ 6 ∷ 7 ∷ 8 ∷ []) 9 tt k)
+
+-- the operations without an old value have one table
+abbrev plainTags : List ℕ
+plainTags = 1 ∷ 7 ∷ 8 ∷ 9 ∷ 10 ∷ 11 ∷ 12 ∷ 13 ∷ []
+
+pub told-same : (o : Operation) → OneOf plainTags (tagOf operation.the-type o) → table true o ≡ table false o
+told-same Put k = absurd (miss plainTags 0 tt k)
+told-same Get k = refl
+told-same PutIfAbsent k = absurd (miss plainTags 2 tt k)
+told-same Replace k = absurd (miss plainTags 3 tt k)
+told-same ReplaceIfUnmodified k = absurd (miss plainTags 4 tt k)
+told-same Remove k = absurd (miss plainTags 5 tt k)
+told-same RemoveIfUnmodified k = absurd (miss plainTags 6 tt k)
+told-same ContainsKey k = refl
+told-same GetWithVersion k = refl
+told-same Clear k = refl
+told-same Stats k = refl
+told-same Ping k = refl
+told-same BulkGet k = refl
+told-same BulkGetKeys k = refl
+
+pub no-old : (o : Operation) → OneOf plainTags (tagOf operation.the-type o) → hasOld o ≡ false
+no-old Put k = absurd (miss plainTags 0 tt k)
+no-old Get k = refl
+no-old PutIfAbsent k = absurd (miss plainTags 2 tt k)
+no-old Replace k = absurd (miss plainTags 3 tt k)
+no-old ReplaceIfUnmodified k = absurd (miss plainTags 4 tt k)
+no-old Remove k = absurd (miss plainTags 5 tt k)
+no-old RemoveIfUnmodified k = absurd (miss plainTags 6 tt k)
+no-old ContainsKey k = refl
+no-old GetWithVersion k = refl
+no-old Clear k = refl
+no-old Stats k = refl
+no-old Ping k = refl
+no-old BulkGet k = refl
+no-old BulkGetKeys k = refl

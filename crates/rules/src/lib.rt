@@ -1,18 +1,22 @@
 // The tables of the protocol: the served versions with their flags and operations, the arguments of each operation, and the reply table with the fields
 // of each body.
+use message::Asked;
 use message::Form;
+use message::Found;
 use message::Operation;
 use message::Reply;
 ghost use mathlib.Core.Path.{_≡_};
-ghost use mathlib.Core.Bool.{cond};
+ghost use mathlib.Core.Bool.{true, false, cond, _&&_};
 ghost use mathlib.Core.Option.{none};
 ghost use lib.Dec.{eqb};
 ghost use Rattle.message.specs.Edition.{early};
 ghost use Rattle.message.specs.Arguments.{shapeOf};
 ghost use Rattle.message.specs.Request.{isVersion, editionAt};
-ghost use Rattle.message.specs.ReplyTable.{bodyAt, table, errors, isAllowed, allowed};
+ghost use Rattle.message.specs.declared.Operation.the-variants.{ReplaceIfUnmodified};
+ghost use Rattle.message.specs.ReplyTable.{bodyAt, table, errors, isAllowed, allowed, hasOld, turned, toldStatus};
 ghost use Rattle.message.specs.Payload.{formOf, oldForm};
-ghost use Rattle.message.specs.Reply.{statusesOf, isAwaited};
+ghost use Rattle.message.specs.Reply.{statusesOf, isAwaited, awaited};
+ghost use Rattle.rules.specs.Awaited.{asAwaited};
 ghost use Rattle.rules.specs.Body.{asBody};
 ghost use Rattle.rules.specs.Shape.{asShape};
 
@@ -55,6 +59,7 @@ pub fn is_served(version: u8) -> bool
         10 => true,
         11 => true,
         12 => true,
+        20 => true,
         _ => false,
     }
 }
@@ -67,6 +72,7 @@ pub fn greatest_flags(version: u8) -> u64
         10 => 1,
         11 => 1,
         12 => 7,
+        20 => 31,
         _ => 0,
     }
 }
@@ -87,6 +93,44 @@ pub fn serves(version: u8, op: Operation) -> bool
         11 => is_early(op),
         _ => true,
     }
+}
+
+// Does the request header of a version end with a transaction type?
+pub fn has_transaction(version: u8) -> bool
+    ensures { λ r. ⌜ r ≡ editionAt version .transaction ⌝ }
+{
+    version != 20
+}
+
+// Does the status of a reply tell that an old value follows, where flag 0x0001 was set or not?
+pub fn tells(version: u8, flag: bool) -> bool
+    ensures { λ r. ⌜ r ≡ (editionAt version .tells && flag) ⌝ }
+{
+    version == 20 && flag
+}
+
+// What reply is awaited: that to an operation, or none, by the refusal's number.
+pub enum Awaited {
+    Known(Operation),
+    Refused(u8),
+}
+
+// "An unserved version gives the reader 3 before all else", and then an operation not served 4.
+pub fn awaited_by(a: Asked) -> Awaited
+    ensures { λ r. ⌜ asAwaited (a .version) r ≡ awaited a ⌝ }
+{
+    let version = a.version;
+    if !is_served(version) {
+        return Awaited::Refused(3);
+    }
+    let found = message::find(a.op);
+    let Found::Known(o) = found else {
+        return Awaited::Refused(4);
+    };
+    if !serves(version, o) {
+        return Awaited::Refused(4);
+    }
+    Awaited::Known(o)
 }
 
 // What a reply carries behind its marker.
@@ -125,9 +169,9 @@ fn pick(status: u8, a: Body, b: Body, c: Body) -> Body
     }
 }
 
-// The reply table.
+// The reply table, where the status does not tell of an old value, ..
 fn in_table(o: Operation, status: u8) -> Body
-    ensures { λ r. ⌜ asBody r ≡ bodyAt status (table o) ⌝ }
+    ensures { λ r. ⌜ asBody r ≡ bodyAt status (table false o) ⌝ }
 {
     match o {
         Operation::Put => pick(status, Body::Old, Body::NotAllowed, Body::NotAllowed),
@@ -147,6 +191,97 @@ fn in_table(o: Operation, status: u8) -> Body
     }
 }
 
+// The body of a status, where two of them, or three, have one.
+fn of_two(status: u8, s: u8, a: Body, t: u8, b: Body) -> Body
+    ensures { λ r. ⌜ asBody r ≡ cond (eqb status s) (asBody a) (cond (eqb status t) (asBody b) none) ⌝ }
+{
+    if status == s {
+        return a;
+    }
+    if status == t {
+        return b;
+    }
+    Body::NotAllowed
+}
+
+fn of_three(status: u8, s: u8, a: Body, t: u8, b: Body, u: u8, c: Body) -> Body
+    ensures { λ r. ⌜ asBody r ≡ cond (eqb status s) (asBody a) (cond (eqb status t) (asBody b) (cond (eqb status u) (asBody c) none)) ⌝ }
+{
+    if status == s {
+        return a;
+    }
+    of_two(status, t, b, u, c)
+}
+
+// .. and where it does.
+fn in_told(o: Operation, status: u8) -> Body
+    ensures { λ r. ⌜ asBody r ≡ bodyAt status (table true o) ⌝ }
+{
+    match o {
+        Operation::Put => of_two(status, 0x00, Body::Nothing, 0x03, Body::Value),
+        Operation::PutIfAbsent => of_two(status, 0x00, Body::Nothing, 0x04, Body::Value),
+        Operation::Replace => of_two(status, 0x03, Body::Value, 0x01, Body::Nothing),
+        Operation::ReplaceIfUnmodified => told_if(status),
+        Operation::Remove => of_two(status, 0x03, Body::Value, 0x02, Body::Nothing),
+        Operation::RemoveIfUnmodified => told_if(status),
+        _ => in_table(o, status),
+    }
+}
+
+fn told_if(status: u8) -> Body
+    ensures { λ r. ⌜ asBody r ≡ bodyAt status (table true ReplaceIfUnmodified) ⌝ }
+{
+    of_three(
+        status,
+        0x03,
+        Body::Value,
+        0x04,
+        Body::Value,
+        0x02,
+        Body::Nothing,
+    )
+}
+
+// Is it an operation with an old value?
+fn has_old(op: Operation) -> bool
+    ensures { λ r. ⌜ r ≡ hasOld op ⌝ }
+{
+    match op {
+        Operation::Put => true,
+        Operation::PutIfAbsent => true,
+        Operation::Replace => true,
+        Operation::ReplaceIfUnmodified => true,
+        Operation::Remove => true,
+        Operation::RemoveIfUnmodified => true,
+        _ => false,
+    }
+}
+
+fn turn(status: u8) -> u8
+    ensures { λ r. ⌜ r ≡ turned status ⌝ }
+{
+    match status {
+        0x00 => 0x03,
+        0x01 => 0x04,
+        _ => status,
+    }
+}
+
+// The status that a reply tells, of the one planned.
+pub fn told_status(tells: bool, op: Operation, held: bool, status: u8) -> u8
+    ensures { λ r. ⌜ r ≡ toldStatus tells op held status ⌝ }
+{
+    if !has_old(op) {
+        return status;
+    }
+    if tells {
+        if held {
+            return turn(status);
+        }
+    }
+    status
+}
+
 // The statuses of an error reply.
 fn in_errors(status: u8) -> Body
     ensures { λ r. ⌜ asBody r ≡ bodyAt status errors ⌝ }
@@ -160,11 +295,14 @@ fn in_errors(status: u8) -> Body
     Body::Text
 }
 
-pub fn body_at(o: Operation, op: u8, status: u8) -> Body
-    ensures { λ r. ⌜ asBody r ≡ bodyAt status (statusesOf o op) ⌝ }
+pub fn body_at(tells: bool, o: Operation, op: u8, status: u8) -> Body
+    ensures { λ r. ⌜ asBody r ≡ bodyAt status (statusesOf tells o op) ⌝ }
 {
     if op == 0x50 {
-        in_errors(status)
+        return in_errors(status);
+    }
+    if tells {
+        in_told(o, status)
     } else {
         in_table(o, status)
     }

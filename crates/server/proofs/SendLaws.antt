@@ -21,10 +21,12 @@ use Rattle.wire.proofs.WriteLaws.{send-room}
 use Rattle.message.specs.declared.Operation.{Operation}
 use Rattle.message.specs.declared.Operation.the-variants.{Stats}
 use Rattle.message.specs.Operation.{codeOf}
-use Rattle.message.specs.Request.{Request}
-use Rattle.message.specs.ReplyTable.{table, bodyAt, allowed}
+use Rattle.message.specs.declared.Asked.{Asked}
+use Rattle.message.specs.Edition.{Edition}
+use Rattle.message.specs.Request.{Request, editionAt}
+use Rattle.message.specs.ReplyTable.{table, bodyAt, allowed, toldStatus}
 use Rattle.message.specs.Payload.{payload, formOf}
-use Rattle.message.specs.Reply.{asked, Reply, statusesOf, reply, errorReply, statisticsReply, bulkOperation, bulkReply}
+use Rattle.message.specs.Reply.{Reply, statusesOf, awaited, Awaits, reply, errorReply, statisticsReply, bulkOperation, bulkReply}
 use Rattle.message.specs.Listing.{listing}
 use Rattle.message.specs.Refusal.{refusal}
 use Rattle.message.proofs.ErrorLaws.{refusal-good}
@@ -33,9 +35,10 @@ use Rattle.message.proofs.ReplySize.{error-most}
 use Rattle.map.specs.State.{Entry}
 use Rattle.map.specs.Plan.{plans, plan}
 use Rattle.map.specs.Shown.{noValue, value, shows, wanted, lowest, listedBy}
-use Rattle.map.specs.Step.{mostKeys, Context, wantsOld, held, planned, statistics, result}
+use Rattle.map.specs.Step.{mostKeys, Context, wantsOld, tellsOld, isNone, versionOf, held, planned, statistics, statusOf, result}
 use Rattle.map.specs.Reply.{Piece, flat, pieces, payloadOf, pairOf, replyTo, askedBy}
-use Rattle.map.proofs.Format.{pieces-reply, reply-valid, bulk-reply, result-most}
+use Rattle.reply_writer.specs.Frame.{answersTo}
+use Rattle.map.proofs.Format.{asks, pieces-reply, reply-valid, bulk-reply, result-most}
 use Rattle.map.specs.Table.{Sizes}
 use Rattle.map.proofs.ListedLaws.{each-take, listed-is}
 use Rattle.map.proofs.ListedFormat.{listing-good}
@@ -51,7 +54,8 @@ use Rattle.service.specs.Serve as stream
 use Rattle.service.specs.Serve.{room, bulkRoom, roomOf, errorPieces}
 use Rattle.service.proofs.Bounds.{reply-room}
 use Rattle.plan.specs.declared.Held.{Held}
-use Rattle.plan.specs.Plan.{heldAt}
+use Rattle.plan.specs.Plan.{Holds, heldVersion, heldAt}
+use Rattle.plan.proofs.PlanLaws.{version-held}
 use Rattle.server.specs.declared.Answer.{Answer}
 use Rattle.server.specs.CallDone.{Says, Sends}
 use Rattle.server.specs.Act.{isPlain, valueShown, versionShown, sentTo, Planned}
@@ -120,13 +124,15 @@ shown-same f.Statistics ns es o p = never (cc)
 shown-same (f.Listed values) ns es o p = never (cc)
 
 -- the reply to such an operation is of such a form, by the rows of the reply table
-plain-test : (t : Bool) (o : Operation) → (not (isPlain o) || bodies (λ b. plain (formOf t b)) (table o)) ≡ true
+plain-test : (u t : Bool) (o : Operation) → (not (isPlain o) || bodies (λ b. plain (formOf t b)) (table u o)) ≡ true
 unfolding isPlain
-plain-test true = every (λ o. not (isPlain o) || bodies (λ b. plain (formOf true b)) (table o)) refl
-plain-test false = every (λ o. not (isPlain o) || bodies (λ b. plain (formOf false b)) (table o)) refl
+plain-test true true = every (λ o. not (isPlain o) || bodies (λ b. plain (formOf true b)) (table true o)) refl
+plain-test true false = every (λ o. not (isPlain o) || bodies (λ b. plain (formOf false b)) (table true o)) refl
+plain-test false true = every (λ o. not (isPlain o) || bodies (λ b. plain (formOf true b)) (table false o)) refl
+plain-test false false = every (λ o. not (isPlain o) || bodies (λ b. plain (formOf false b)) (table false o)) refl
 
-plain-bodies : (o : Operation) (t : Bool) → isPlain o ≡ true → bodies (λ b. plain (formOf t b)) (table o) ≡ true
-plain-bodies o t n = rw n at (plain-test t o)
+plain-bodies : (o : Operation) (u t : Bool) → isPlain o ≡ true → bodies (λ b. plain (formOf t b)) (table u o) ≡ true
+plain-bodies o u t n = rw n at (plain-test u t o)
 
 -- the tags of the operations whose replies show at most one entry, and of those that ask for no more room than any call has
 abbrev plainTags : List ℕ
@@ -143,45 +149,64 @@ pub room-tags : (o : Operation) → OneOf shortTags (tagOf operation-code.the-ty
 unfolding roomOf
 room-tags o k = eqb-true room (roomOf o) (every-of shortTags (λ o. eqb room (roomOf o)) refl o k)
 
+-- what the code holds is what the map finds
+pub held-told : (t k : List ℕ) (x : Held) → Holds t k x → isNone (heldVersion x) ≡ isNone (heldAt t k)
+held-told t k x h = ap isNone (version-held t k x h) ∙ go (heldAt t k)
+  where
+    go : (o : Option Entry) → isNone (versionOf o) ≡ isNone o
+    go none = refl
+    go (some e) = refl
+
 -- the form of the reply to a request, by the status
 abbrev pub form : Request → ℕ → Form
-form q s = formOf (wantsOld q) (allowed (bodyAt s (statusesOf (q .op) (codeOf (q .op) + 1))))
+form q s = formOf (wantsOld q) (allowed (bodyAt s (statusesOf (tellsOld q) (q .op) (codeOf (q .op) + 1))))
 
 module _ (c : Context) {t : List ℕ} {q : Request} {y : Held} {s : ℕ} (g : Planned t q y s) where
   -- the reply to a request of such an operation, of its code, a version and a value
-  abbrev made : ℕ → ℕ → List ℕ → Reply
-  made code e v = record { id = q .id; op = code + 1; status = s; payload = payload e v [] }
+  abbrev made : ℕ → ℕ → ℕ → List ℕ → Reply
+  made code u e v = record { id = q .id; op = code + 1; status = u; payload = payload e v [] }
 
-  pub held-sent : {code e : ℕ} {v : List ℕ} {x : wire.Sent} (old : List ℕ) {new : List ℕ} → isPlain (q .op) ≡ true → code ≡ codeOf (q .op)
-      → e ≡ versionShown (form q s) (heldAt t (q .args .key)) → v ≡ valueShown (form q s) (heldAt t (q .args .key))
-      → (x, new) ≡ send (reply (asked code (wantsOld q))) (made code e v) old → (x, new) ≡ sentTo c q (stateOf t) old
-  unfolding result held planned
-  held-sent old n o e w z =
-      let f = shown-same (formOf (wantsOld q) (allowed (bodyAt (planned q (stateOf t) .status) (table (q .op))))) (statistics c (stateOf t)) (listedBy q (stateOf t)) (heldAt t (q .args .key)) (every-body (λ b. plain (formOf (wantsOld q) b)) (planned q (stateOf t) .status) (table (q .op)) refl (plain-bodies (q .op) (wantsOld q) n)) in
-      z ∙ rw (o, e, w, statuses-are (q .op), ← (g .status), f)
+  -- the status that is told of the one planned
+  abbrev toldOf : ℕ → ℕ
+  toldOf n = toldStatus (tellsOld q) (q .op) (not (isNone (heldAt t (q .args .key)))) n
+
+  pub held-sent : {code u e : ℕ} {v : List ℕ} {x : wire.Sent} (old : List ℕ) {new : List ℕ} → isPlain (q .op) ≡ true → code ≡ codeOf (q .op) → u ≡ toldOf s
+      → e ≡ versionShown (form q u) (heldAt t (q .args .key)) → v ≡ valueShown (form q u) (heldAt t (q .args .key))
+      → (x, new) ≡ send (reply (askedBy q)) (made code u e v) old → (x, new) ≡ sentTo c q (stateOf t) old
+  unfolding result statusOf held planned
+  held-sent old n o p e w z =
+      let k = toldOf (planned q (stateOf t) .status) in
+      let f = shown-same (formOf (wantsOld q) (allowed (bodyAt k (table (tellsOld q) (q .op))))) (statistics c (stateOf t)) (listedBy q (stateOf t)) (heldAt t (q .args .key)) (every-body (λ b. plain (formOf (wantsOld q) b)) k (table (tellsOld q) (q .op)) refl (plain-bodies (q .op) (tellsOld q) (wantsOld q) n)) in
+      z ∙ rw (o, e, w, p, statuses-are (tellsOld q) (q .op), ← (g .status), f)
 
   -- the reply to stats
   pub stats-sent : {x : wire.Sent} {ns : List ℕ} (old : List ℕ) {new : List ℕ} → q .op ≡ Stats → ns ≡ statistics c (stateOf t)
-      → ((flag : Bool) → (x, new) ≡ send (reply (asked 0x15 flag)) (statisticsReply (q .id) ns) old) → (x, new) ≡ sentTo c q (stateOf t) old
-  unfolding result planned plan plans bodyAt shows
-  stats-sent old o e z = rw (o, ← e) (z (wantsOld q))
+      → (x, new) ≡ send (reply (askedBy q)) (statisticsReply (q .id) ns) old → (x, new) ≡ sentTo c q (stateOf t) old
+  unfolding result statusOf toldStatus planned plan plans bodyAt shows
+  stats-sent old o e z = z ∙ rw (o, ← e)
 
   -- the reply to bulkGet and to bulkGetKeys: a table's entries ascend
   pub bulk-sent : (values : Bool) {x : wire.Sent} {n : ℕ} (old : List ℕ) {new : List ℕ} → q .op ≡ bulkOperation values → n ≡ wanted q
-      → ((flag : Bool) → (x, new) ≡ sentListed flag values (q .id) n (stateOf t) old) → (x, new) ≡ sentTo c q (stateOf t) old
+      → ((a : Asked) (e : Edition) → Awaits a e (bulkOperation values) → (x, new) ≡ sentListed a values (q .id) n (stateOf t) old)
+      → (x, new) ≡ sentTo c q (stateOf t) old
   bulk-sent values old o e z =
       let l = listed-is q (stateOf t) (g .sound .layout .order) ∙ ap (λ (n : ℕ). lowest n (stateOf t .entries)) (sym e) in
       let r = bulk-reply c q (stateOf t) values o ∙ ap (λ (es : List Entry). bulkReply values (q .id) (map (pairOf values) es)) l in
-      z (wantsOld q) ∙ sym (ap₂ (λ (k : ℕ) (a : Reply). send (reply (asked k (wantsOld q))) a old) (ap codeOf o) r)
+      z (askedBy q) (editionAt (q .version)) (rw (← o) (asks q (g .valid))) ∙ sym (ap (λ (a : Reply). send (reply (askedBy q)) a old) r)
 
   -- the map's reply to a request is sent
   pub reply-sent : {x : wire.Sent} (old : List ℕ) {new : List ℕ} {n : ℕ} {d : stream.Verdict} {r : Answer} → c .second < 0x1_0000_0000 → roomOf (q .op) ≤ length old
       → (x, new) ≡ sentTo c q (stateOf t) old → ((m : ℕ) → x ≡ written m → Says n m d r) → Sends (pieces q (result c q (stateOf t))) n d old new r
   reply-sent old k l z h =
-      let p = pieces-reply c q (stateOf t) (g .sound .table .few) in
+      let p = pieces-reply c q (stateOf t) (g .valid) (g .sound .table .few) in
       let b = result-most c q (stateOf t) (g .valid) (g .sound .table) k in
       sent (reply (askedBy q)) (replyTo q (result c q (stateOf t))) z (reply-valid c q (stateOf t) (g .valid) (g .sound .table) k)
       (omega (arith, ap length p, b, reply-room (q .op), l)) p h
+
+-- the reply to a bulk request is awaited
+pub bulk-awaited : (a : Asked) (e : Edition) (values : Bool) → Awaits a e (bulkOperation values) → answersTo (codeOf (bulkOperation values) + 1) (awaited a) ≡ true
+bulk-awaited a e true w = rw (w .is)
+bulk-awaited a e false w = rw (w .is)
 
 longest-most : (values : Bool) → longest values ≤ 323
 longest-most true = omega arith

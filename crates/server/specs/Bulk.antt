@@ -6,9 +6,9 @@ use Prim.Native.Nat.{ℕ}
 use lib.ListN.{length}
 use Rattle.wire.specs.Codec.{Valid}
 use Rattle.wire.specs.Write.{Room, Sent, send}
-use Rattle.message.specs.Operation.{codeOf}
+use Rattle.message.specs.declared.Asked.{Asked}
 use Rattle.message.specs.Listing.{listing}
-use Rattle.message.specs.Reply.{asked, reply, bulkOperation, bulkReply}
+use Rattle.message.specs.Reply.{reply, bulkReply}
 use Rattle.map.specs.State.{State}
 use Rattle.map.specs.Shown.{lowest}
 use Rattle.map.specs.Reply.{pairOf}
@@ -29,6 +29,5 @@ pub record Listable (values : Bool) (n m : ℕ) (t : List ℕ) (at : ℕ) (old :
   pub room : Room (listing values) (listedPairs values n (stateOf t)) at old
 
 -- the reply to bulkGet, or to bulkGetKeys where values are not asked for, as a writer sends it into a buffer
-abbrev pub sentListed : Bool → Bool → ℕ → ℕ → State → List ℕ → Sent × List ℕ
-sentListed flag values id n st old =
-    send (reply (asked (codeOf (bulkOperation values)) flag)) (bulkReply values id (listedPairs values n st)) old
+abbrev pub sentListed : Asked → Bool → ℕ → ℕ → State → List ℕ → Sent × List ℕ
+sentListed a values id n st old = send (reply a) (bulkReply values id (listedPairs values n st)) old

@@ -19,7 +19,7 @@ use table::Found;
 use table::Table;
 ghost use mathlib.Core.Path.{_≡_};
 ghost use mathlib.Core.List.{List};
-ghost use mathlib.Core.Bool.{true};
+ghost use mathlib.Core.Bool.{true, not};
 ghost use mathlib.Core.Option.{some};
 ghost use Prim.Native.Nat.{ℕ, _+_, _≤_, _<_};
 ghost use lib.ListN.{length};
@@ -28,6 +28,7 @@ ghost use Rattle.wire.specs.Write.{written};
 ghost use Rattle.message.specs.Sent.{asSent};
 ghost use Rattle.message.specs.Request.{request, requestOf, requestIn};
 ghost use Rattle.map.specs.Step as map;
+ghost use Rattle.map.specs.Reply.{askedBy};
 ghost use Rattle.map.specs.Deadline as expiry;
 ghost use Rattle.table.specs.Memory.{stateOf, Sound};
 ghost use Rattle.table.specs.Found.{entryAt};
@@ -106,32 +107,47 @@ fn shown_version(f: Form, held: Held) -> EntryVersion
     }
 }
 
+// Is an entry held?
+fn is_held(held: Held) -> bool
+    ensures { λ r. ⌜ r ≡ not (map.isNone (heldVersion held)) ⌝ }
+{
+    match held {
+        Held::Row(_, _) => true,
+        Held::Absent => false,
+    }
+}
+
+// What was asked by a request.
+fn asked_by(h: Head) -> Asked
+    ensures { λ r. ⌜ ((name key value : List ℕ) → r ≡ askedBy (requestOf h name key value)) ⌝ }
+{
+    let op = h.op;
+    Asked {
+        version: h.version,
+        op: message::code(op),
+        flag: h.flags % 2 == 1,
+    }
+}
+
 // Writes the reply of a status, with what it shows of the entry held. Replies to stats, bulkGet and bulkGetKeys show something else.
 fn write_held(out: &mut [u8], t: &[u8], h: Head, status: u8, held: Held) -> Sent
     ensures { λ r. ⌜ ((c : map.Context) (name key value : List ℕ) → isPlain (h .op) ≡ true → Planned (now (t .entry)) (requestOf h name key value) held status → (asSent r, now (out .exit)) ≡ sentTo c (requestOf h name key value) (stateOf (now (t .entry))) (now (out .entry))) ⌝ }
 {
     let op = h.op;
-    let code = message::code(op);
-    let flag = h.flags % 2 == 1;
-    let awaited = code + 1;
-    let f = rules::form_of(flag, rules::body_at(op, awaited, status));
+    let asked = asked_by(h);
+    let flag = asked.flag;
+    let awaited = message::code(op) + 1;
+    let tells = rules::tells(h.version, flag);
+    let told = rules::told_status(tells, op, is_held(held), status);
+    let f = rules::form_of(flag, rules::body_at(tells, op, awaited, told));
     let a = ReplyHead {
         id: h.id,
         op: awaited,
-        status: status,
+        status: told,
         entry: shown_version(f, held),
     };
     let value = table::value_at(t, shown_row(f, held));
-    reply_writer::write_reply(
-        out,
-        Asked {
-            op: code,
-            flag: flag,
-        },
-        a,
-        value,
-        b"",
-    )
+    reply_writer::write_reply(out, asked, a, value, b"")
 }
 
 // Writes the reply of a status: the statistics at the second, the entries listed, or what it shows of the entry held.
@@ -141,7 +157,10 @@ fn write(out: &mut [u8], t: &[u8], h: Head, status: u8, held: Held, second: Seco
 {
     let op = h.op;
     match op {
-        Operation::Stats => reply_writer::write_statistics(out, h.id, table::statistics(t, second)),
+        Operation::Stats => {
+            let x = table::statistics(t, second);
+            reply_writer::write_statistics(out, asked_by(h), h.id, x)
+        }
         Operation::BulkGet => bulk::write_bulk(out, t, h.id, h.bulk, true),
         Operation::BulkGetKeys => bulk::write_bulk(out, t, h.id, 0, false),
         _ => write_held(out, t, h, status, held),

@@ -14,6 +14,7 @@ extern "C" {
     fn fq_read_reply(
         input: *const u8,
         len: usize,
+        version: u8,
         op: u8,
         flag: bool,
         answer: *mut u64,
@@ -42,6 +43,7 @@ extern "C" {
     fn fq_write_reply(
         out: *mut u8,
         out_len: usize,
+        version: u8,
         op: u8,
         flag: bool,
         numbers: *const u64,
@@ -79,6 +81,7 @@ pub enum Found<T> {
 /// A request's size, its numbers, and where its parts are in the bytes read.
 pub struct Request {
     pub size: usize,
+    pub version: u8,
     pub operation: u8,
     pub flags: u64,
     /// How many entries a bulkGet asks for, 0 for all; the scope of bulkGetKeys.
@@ -117,6 +120,7 @@ pub fn read_request(input: &[u8]) -> Found<Request> {
         1..DONE => Found::Refused(code),
         _ => Found::Whole(Request {
             size: told[0] as usize,
+            version: told[2] as u8,
             operation: told[3] as u8,
             flags: told[4],
             bulk: told[10],
@@ -125,15 +129,16 @@ pub fn read_request(input: &[u8]) -> Found<Request> {
     }
 }
 
-/// Reads the reply at the front of the input, to a request with this operation
-/// and with or without the flag for the value before.
-pub fn read_reply(input: &[u8], operation: u8, flag: bool) -> Found<Reply> {
+/// Reads the reply at the front of the input, to a request of this version and
+/// operation, with or without the flag for the value before.
+pub fn read_reply(input: &[u8], version: u8, operation: u8, flag: bool) -> Found<Reply> {
     let mut told = [0; REPLY_TOLD];
     // SAFETY: both slices are lent for the call, with their lengths.
     let code = unsafe {
         fq_read_reply(
             input.as_ptr(),
             input.len(),
+            version,
             operation,
             flag,
             told.as_mut_ptr(),
@@ -229,9 +234,10 @@ pub fn write_request(
 }
 
 /// Writes an error reply with this id, status and text, as one to a request of
-/// a served operation; answers its length or the refusal.
+/// a served version and operation; answers its length or the refusal.
 pub fn write_error(
     out: &mut [u8],
+    version: u8,
     operation: u8,
     numbers: &[u64; REPLY_GIVEN],
     text: &[u8],
@@ -242,6 +248,7 @@ pub fn write_error(
         fq_write_reply(
             out.as_mut_ptr(),
             out.len(),
+            version,
             operation,
             false,
             numbers.as_ptr(),

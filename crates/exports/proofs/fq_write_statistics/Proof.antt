@@ -20,7 +20,7 @@ statistics-requires c κs = c .if1 .left
 sent-requires : tie.Need-sent-requires
 sent-requires c κs =
     let w = c .before .before in
-    sent-fits _ _ _ (omega (arith, w .before .before .before .before .before .before .good .0 .1)) _ _ (w .write-statistics .ensures false)
+    sent-fits _ _ _ (omega (arith, w .before .before .before .before .before .before .good .0 .1)) _ _ (w .write-statistics .ensures)
 
 returns-2 : tie.Need-returns-2
 unfolding sendStatistics
@@ -28,7 +28,7 @@ returns-2 c =
     let w = c .before .before .before in
     let a = w .before .before in
     rw (eq-eqb _ 9 (a .before .if1 .left), c .sent .ensures)
-    (rw (a .statistics .ensures) at (ap coded (w .write-statistics .ensures false)))
+    (rw (a .statistics .ensures) at (ap coded (w .write-statistics .ensures)))
 
 pub fq-write-statistics-spec : {M : Type 1} → statement M
 fq-write-statistics-spec =

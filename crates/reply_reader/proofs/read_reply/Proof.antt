@@ -1,4 +1,4 @@
--- `reply_reader::read_reply` meets its contract: an operation not served is 4, before any byte is looked at. Assumes nothing.
+-- `reply_reader::read_reply` meets its contract: what is not awaited is refused before any byte is looked at. Assumes nothing.
 use mathlib.Core.Path.{ap, _∙_}
 use Rattle.wire.specs.Codec.{refuse, mapped}
 use Rattle.message.specs.Reply.{reply}
@@ -9,15 +9,17 @@ use Rattle.reply_reader.proofs.read_reply.Statement.{statement}
 use Rattle.reply_reader.proofs.read_reply.Tie as tie
 
 returns : tie.Need-returns
-unfolding reply refuse mapped
-returns c = rw (← (c .before .before .find .ensures), c .enum-told .given .1)
+unfolding reply
+returns c =
+    let a = c .before .before .before in
+    rw (← (a .before .before .awaited-by .ensures), a .awaited .given .1, ← (c .before .tells .ensures))
+    (c .read-message .ensures ∙ ap (mapped replyAt) (at-front _ _))
 
 returns-2 : tie.Need-returns-2
-unfolding reply
-returns-2 c = let r = c .before .before in
-    rw (← (r .before .before .find .ensures), r .found .given .1) (c .read-message .ensures ∙ ap (mapped replyAt) (at-front _ _))
+unfolding reply refuse mapped
+returns-2 c = let a = c .before in rw (← (a .before .before .awaited-by .ensures), a .awaited2 .given .1)
 
 pub read-reply-spec : {M : Type 1} → statement M
 read-reply-spec =
     tie.close
-    (tie.spec (λ c κs. search needs) (λ c. search needs) (λ c. search needs) returns (λ c κs. search needs) returns-2)
+    (tie.spec (λ c κs. search needs) (λ c. search needs) (λ c κs. search needs) (λ c κs. search needs) (λ c. search needs) returns returns-2)

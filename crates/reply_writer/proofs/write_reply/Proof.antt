@@ -1,63 +1,68 @@
 -- `reply_writer::write_reply` meets its contract: the operation and the status are judged first. Assumes nothing.
 use mathlib.Core.Path.{_≡_, sym, ap, _∙_}
-use mathlib.Core.Option.{some}
+use mathlib.Core.Bool.{_&&_}
 use borrow.Author.Tests.{not-true, not-false}
 use Rattle.wire.specs.Codec.{refuse}
 use Rattle.wire.specs.Write.{send}
-use Rattle.message.specs.Operation.{findCode}
+use Rattle.message.specs.Request.{editionAt}
 use Rattle.message.specs.ReplyTable.{bodyAt, isAllowed}
-use Rattle.message.specs.Reply.{reply, replyOf, isAwaited, statusesOf}
+use Rattle.message.specs.Reply.{known, awaited, reply, replyOf, isAwaited, statusesOf}
 use Rattle.reply_writer.proofs.SendLaws.{send-other, send-unlisted, send-framed}
 use borrow.Author.Needs.{needs}
 use Rattle.reply_writer.proofs.write_reply.Statement.{statement}
 use Rattle.reply_writer.proofs.write_reply.Tie as tie
 
--- an operation that is found
-found : (c : tie.After-found) → let s = c .before .before .before .before .before .before in
-    findCode (s .args .asked .op) ≡ some (c .found .given .0 .0)
-found c = sym (c .before .before .find .ensures) ∙ rw (c .found .given .1)
+-- a reply that is awaited
+found : (c : tie.After-awaited) → let s = c .before .before .before .before .before .before in
+    awaited (s .args .asked) ≡ known (editionAt (s .args .asked .version)) (c .awaited .given .0 .0)
+found c = sym (c .before .before .awaited-by .ensures) ∙ rw (c .awaited .given .1)
 
-listed : (c : tie.After-is-allowed) → let f = c .before .before .before .before .before in let a = f .before .before .before .before .before .before .args .head in
-    isAllowed (bodyAt (a .status) (statusesOf (f .found .given .0 .0) (a .op))) ≡ c .is-allowed .result
-listed c = ap isAllowed (sym (c .before .body-at .ensures)) ∙ sym (c .is-allowed .ensures)
+-- its statuses
+listed : (c : tie.After-is-allowed) → let f = c .before .before .before .before .before .before in let a = f .before .before .before .before .before .before .args in
+    isAllowed (bodyAt (a .head .status) (statusesOf (editionAt (a .asked .version) .tells && a .asked .flag) (f .awaited .given .0 .0) (a .head .op))) ≡ c .is-allowed .result
+listed c = let b = c .before in rw (← (b .before .tells .ensures)) (ap isAllowed (sym (b .body-at .ensures)) ∙ sym (c .is-allowed .ensures))
 
 returns : tie.Need-returns
 unfolding reply refuse send
-returns c = rw (← (c .before .before .find .ensures), c .enum-told .given .1)
+returns c = rw (← (c .before .before .awaited-by .ensures), c .enum-told .given .1)
 
 returns-2 : tie.Need-returns-2
 unfolding reply
-returns-2 c = let i = c .before in
+returns-2 c =
+    let i = c .before in
     let f = i .before .before in
-    let s = f .before .before .before .before .before .before in
-    let o = f .found .given .0 .0 in
+    let a = f .before .before .before .before .before .before .args in
+    let o = f .awaited .given .0 .0 in
     rw (found f)
-    (send-other (isAwaited o) (statusesOf o) (s .args .asked .flag) (replyOf (s .args .head) (s .args .value .now) (s .args .text .now)) (s .args .out .now)
+    (send-other (isAwaited o) (statusesOf (editionAt (a .asked .version) .tells && a .asked .flag) o) (a .asked .flag) (replyOf (a .head) (a .value .now) (a .text .now)) (a .out .now)
     (sym (i .is-awaited .ensures) ∙ not-true _ (c .if1 .taken)))
 
 returns-3 : tie.Need-returns-3
 unfolding reply
-returns-3 c = let i = c .before in
-    let f = i .before .before .before .before .before in
-    let s = f .before .before .before .before .before .before in
-    let o = f .found .given .0 .0 in
+returns-3 c =
+    let i = c .before in
+    let f = i .before .before .before .before .before .before in
+    let a = f .before .before .before .before .before .before .args in
+    let o = f .awaited .given .0 .0 in
     rw (found f)
-    (send-unlisted (isAwaited o) (statusesOf o) (s .args .asked .flag) (replyOf (s .args .head) (s .args .value .now) (s .args .text .now)) (s .args .out .now)
+    (send-unlisted (isAwaited o) (statusesOf (editionAt (a .asked .version) .tells && a .asked .flag) o) (a .asked .flag) (replyOf (a .head) (a .value .now) (a .text .now)) (a .out .now)
     (listed i ∙ not-true _ (c .if2 .taken)))
 
 returns-4 : tie.Need-returns-4
 unfolding reply
-returns-4 c = let w = c .before .before in
+returns-4 c =
+    let w = c .before .before in
     let l = w .before .before .before in
     let i = l .before in
-    let e = i .before .before in
+    let b = i .before in
+    let e = b .before .before in
     let f = e .before .before .before in
-    let s = f .before .before .before .before .before .before in
-    let o = f .found .given .0 .0 in
-    rw (found f)
+    let a = f .before .before .before .before .before .before .args in
+    let o = f .awaited .given .0 .0 in
+    rw (found f, ← (b .before .tells .ensures))
     (w .write-message .ensures
-    ∙ (rw (← (i .before .body-at .ensures), ← (w .before .form-of .ensures)) at
-    (send-framed (isAwaited o) (statusesOf o) (s .args .asked .flag) (replyOf (s .args .head) (s .args .value .now) (s .args .text .now)) (s .args .out .now)
+    ∙ (rw (← (b .before .tells .ensures), ← (b .body-at .ensures), ← (w .before .form-of .ensures)) at
+    (send-framed (isAwaited o) (statusesOf (editionAt (a .asked .version) .tells && a .asked .flag) o) (a .asked .flag) (replyOf (a .head) (a .value .now) (a .text .now)) (a .out .now)
     (sym (e .before .is-awaited .ensures) ∙ not-false _ (e .if1 .left)) (listed i ∙ not-false _ (l .if2 .left)))))
 
 pub write-reply-spec : {M : Type 1} → statement M
@@ -70,6 +75,7 @@ write-reply-spec =
     returns
     (λ c κs. search needs)
     returns-2
+    (λ c κs. search needs)
     (λ c κs. search needs)
     (λ c κs. search needs)
     returns-3

@@ -67,7 +67,7 @@ returns-6 c =
     let r2 = e .before .before .before in
     let r1 = r2 .before .before .before .before in
     let v = r1 .before .before in
-    c .stop-options5 .ensures ∙ sym (at-options _ (bytes (v .before)) _ _ ∙ rw (← (v .read-text .ensures), r1 .r1 .given .1, ← (r2 .before .before .read-number .ensures), r2 .r2 .given .1, ← (e .before .greatest-flags .ensures), le-leb _ _ (e .if1 .left), ← (r3 .before .before .read-between .ensures), r3 .r3 .given .1, ← (r4 .before .before .read-number2 .ensures), r4 .r4 .given .1, ← (z .read-between2 .ensures)) (number-stops (z .read-between2 .result) (c .before .match5 .keys2) _))
+    c .stop-options5 .ensures ∙ sym (at-options _ (bytes (v .before)) _ _ ∙ rw (← (v .read-text .ensures), r1 .r1 .given .1, ← (r2 .before .before .read-number .ensures), r2 .r2 .given .1, ← (e .before .greatest-flags .ensures), le-leb _ _ (e .if1 .left), ← (r3 .before .before .read-between .ensures), r3 .r3 .given .1, ← (r4 .before .before .read-number2 .ensures), r4 .r4 .given .1, ← (z .read-transaction .ensures)) (number-stops (z .read-transaction .result) (c .before .match5 .keys2) _))
 
 cast-t22 : tie.Need-cast-t22
 cast-t22 c =
@@ -86,7 +86,7 @@ returns-7 c =
     let r2 = e .before .before .before in
     let r1 = r2 .before .before .before .before in
     let v = r1 .before .before in
-    sym (at-options _ (bytes (v .before)) _ _ ∙ rw (← (v .read-text .ensures), r1 .r1 .given .1, ← (r2 .before .before .read-number .ensures), r2 .r2 .given .1, ← (e .before .greatest-flags .ensures), le-leb _ _ (e .if1 .left), ← (r3 .before .before .read-between .ensures), r3 .r3 .given .1, ← (r4 .before .before .read-number2 .ensures), r4 .r4 .given .1, ← (r5 .before .before .read-between2 .ensures), r5 .r5 .given .1))
+    sym (at-options _ (bytes (v .before)) _ _ ∙ rw (← (v .read-text .ensures), r1 .r1 .given .1, ← (r2 .before .before .read-number .ensures), r2 .r2 .given .1, ← (e .before .greatest-flags .ensures), le-leb _ _ (e .if1 .left), ← (r3 .before .before .read-between .ensures), r3 .r3 .given .1, ← (r4 .before .before .read-number2 .ensures), r4 .r4 .given .1, ← (r5 .before .before .read-transaction .ensures), r5 .r5 .given .1))
 
 pub read-options-spec : {M : Type 1} → statement M
 read-options-spec =

@@ -9,7 +9,10 @@ returns : tie.Need-returns
 returns c = c .in-errors .ensures ∙ rw (eq-eqb _ _ (c .before .if1 .taken))
 
 returns-2 : tie.Need-returns-2
-returns-2 c = c .in-table .ensures ∙ rw (ne-eqb _ _ (c .before .if1 .left))
+returns-2 c = c .in-told .ensures ∙ rw (ne-eqb _ _ (c .before .before .if1 .left), c .before .if2 .taken)
+
+returns-3 : tie.Need-returns-3
+returns-3 c = c .in-table .ensures ∙ rw (ne-eqb _ _ (c .before .before .if1 .left), c .before .if2 .left)
 
 pub body-at-spec : {M : Type 1} → statement M
-body-at-spec = tie.close (tie.spec (λ c κs. search needs) (λ c κs. search needs) returns returns-2)
+body-at-spec = tie.close (tie.spec (λ c κs. search needs) returns (λ c κs. search needs) (λ c κs. search needs) returns-2 returns-3)

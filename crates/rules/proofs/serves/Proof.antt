@@ -22,8 +22,9 @@ returns-3 : tie.Need-returns-3
 unfolding editionOf
 returns-3 c =
     let a = c .before .args in
+    let all : Option Edition → Type 0 = λ e. true ≡ served e .serves (a .op) in
     rw (ne-eqb _ _ (c .match .rest .0 .1), ne-eqb _ _ (c .match .rest .1))
-    (pick (λ (e : Option Edition). true ≡ served e .serves (a .op)) (eqb (a .version) 12) (λ e. refl) refl)
+    (pick all (eqb (a .version) 12) (λ e. refl) (pick all (eqb (a .version) 20) (λ e. refl) refl))
 
 pub serves-spec : {M : Type 1} → statement M
 serves-spec = tie.close (tie.spec (λ c κs. search needs) (λ c κs. search needs) returns returns-2 returns-3)

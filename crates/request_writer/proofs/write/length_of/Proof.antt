@@ -15,18 +15,19 @@ fits s = omega arith
 
 args-len-requires : tie.Need-args-len-requires
 args-len-requires c κs =
-    let s = c .before .before .before .before .before .before .before in
+    let s = c .before .before .before .before .before .before .before .before in
     let q = requestOf (s .args .h) (s .args .name .now) (s .args .key .now) (s .args .value .now) in
     args-small (q .args) (shapeOf (q .op)) (within (q .args) (shapeOf (q .op)) (fits s) (rules q (s .pre) .args))
 
 returns : tie.Need-returns
 returns c =
-    let t = c .before in
+    let x = c .before in
+    let t = x .before in
     let n = t .before .before in
     let i = n .before in
     let s = i .before .before .before .before in
     let q = requestOf (s .args .h) (s .args .name .now) (s .args .key .now) (s .args .value .now) in
-    omega (arith, request-size q (fits s) (rules q (s .pre)), i .number-len .ensures, n .size .ensures, t .before .number-len2 .ensures, t .number-len3 .ensures, c .args-len .ensures)
+    omega (arith, request-size q (fits s) (rules q (s .pre)), i .number-len .ensures, n .size .ensures, t .before .number-len2 .ensures, t .number-len3 .ensures, x .transaction-len .ensures, c .args-len .ensures)
 
 pub length-of-spec : {M : Type 1} → statement M
 length-of-spec =
@@ -36,7 +37,9 @@ length-of-spec =
     (λ c κs. search needs)
     (λ c κs. search needs)
     (λ c κs. search needs)
+    (λ c κs. search needs)
     args-len-requires
+    (λ c. search needs)
     (λ c. search needs)
     (λ c. search needs)
     (λ c. search needs)

@@ -8,7 +8,7 @@ use Rattle.request_writer.proofs.write.put_request.Tie as tie
 
 -- what stands where the arguments begin
 header : (c : tie.After-slice-known10) → let w = c .before .before in let s = w .before .before .before .before .before .before .before .before .before .before .before .before .before .before .before .before .before .before .before .before .before .before .before .before .before .before .before .before .before .before .before .before .before .before .before .before .before .before .before in
-    Headed (requestOf (s .args .h) (s .args .name .now) (s .args .key .now) (s .args .value .now)) (s .args .out .now) (w .put-byte5 .last .0) (w .put-byte5 .result)
+    Headed (requestOf (s .args .h) (s .args .name .now) (s .args .key .now) (s .args .value .now)) (s .args .out .now) (w .put-transaction .last .0) (w .put-transaction .result)
 unfolding vInt vLong
 header c =
     let w9 = c .before .before in
@@ -22,7 +22,7 @@ header c =
     let w1 = w2 .before .before .before .before in
     let d = w1 .before .before in
     let s = d .before .before .before .before .before in
-    put-header _ (s .pre) (w1 .put-byte .ensures) (w2 .put-number .ensures) (w3 .put-byte2 .ensures) _ (d .code .ensures) (w4 .put-byte3 .ensures) (w5 .put-text .ensures) (w6 .put-number2 .ensures) (w7 .put-byte4 .ensures) (w8 .put-number3 .ensures) (w9 .put-byte5 .ensures)
+    put-header _ (s .pre) (w1 .put-byte .ensures) (w2 .put-number .ensures) (w3 .put-byte2 .ensures) _ (d .code .ensures) (w4 .put-byte3 .ensures) (w5 .put-text .ensures) (w6 .put-number2 .ensures) (w7 .put-byte4 .ensures) (w8 .put-number3 .ensures) (w9 .put-transaction .ensures)
 
 put-args-requires : tie.Need-put-args-requires
 put-args-requires c κs = header (c .before) .ready

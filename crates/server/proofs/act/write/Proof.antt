@@ -10,10 +10,11 @@ use Rattle.server.proofs.act.write.Tie as tie
 returns : tie.Need-returns
 returns c name key value l g =
     let w = c .before .before in
-    let x = w .before in
-    let e = x .before .before in
+    let q = w .before in
+    let x = q .before .before in
+    let e = x .before in
     let s = e .before .before .before .before in
-    stats-sent (at (s .args .second .0)) g _ (e .enum-told .given .1) (x .statistics .ensures) (w .write-statistics .ensures)
+    stats-sent (at (s .args .second .0)) g _ (e .enum-told .given .1) (x .statistics .ensures) (rw (q .asked-by .ensures name key value) at (w .write-statistics .ensures))
 
 returns-2 : tie.Need-returns-2
 returns-2 c name key value l g =
@@ -41,6 +42,7 @@ write-spec =
     tie.close
     (tie.spec
     (λ c. search needs)
+    (λ c κs. search needs)
     (λ c κs. search needs)
     (λ c κs. search needs)
     (λ c. search needs)

@@ -5,13 +5,13 @@ use Rattle.message.proofs.Most.{vLong-most}
 use Rattle.reply_writer.proofs.SendLaws.{bulk-behind, send-bulk}
 use Rattle.table.specs.Memory.{stateOf}
 use Rattle.server.specs.Bulk.{listedPairs}
-use Rattle.server.proofs.SendLaws.{listed-valid, listed-most}
+use Rattle.server.proofs.SendLaws.{listed-valid, listed-most, bulk-awaited}
 use borrow.Author.Needs.{needs}
 use Rattle.server.proofs.bulk.write_bulk.Statement.{statement}
 use Rattle.server.proofs.bulk.write_bulk.Tie as tie
 
 returns : tie.Need-returns
-returns c s v h flag =
+returns c s v h k e w =
     let p = c .before .before in
     let m = p .before in
     let b = m .before .before .before .before in
@@ -20,7 +20,7 @@ returns c s v h flag =
     let g = listed-valid (a .n) (a .t .now) (a .values) s in
     bulk-behind (a .values) (a .id) es (a .out .now) v g (omega (arith, h, vLong-most .most (a .id) v, listed-most (a .n) (a .t .now) (a .values) s)) (b .put-bulk-head .ensures)
     (λ r. p .put-entries .ensures (a .n) (record { many = m .many .ensures; valid = g; room = r }))
-    ∙ send-bulk (a .values) flag (a .id) es (a .out .now)
+    ∙ send-bulk k (a .values) (a .id) es (a .out .now) (bulk-awaited k e (a .values) w)
 
 pub write-bulk-spec : {M : Type 1} → statement M
 write-bulk-spec =

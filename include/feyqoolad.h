@@ -34,7 +34,7 @@ extern "C" {
 #define FQ_REPLY_FULL 257
 #define FQ_NO_ENDS 258
 
-#define FQ_TABLE_SIZE 45280     /* bytes of a table */
+#define FQ_TABLE_SIZE 45408     /* bytes of a table */
 #define FQ_TABLE_KEYS 128       /* keys that a table holds at most */
 #define FQ_NAME_LIMIT 32        /* bytes of a cache name */
 #define FQ_KEY_LIMIT 64         /* bytes of a key */

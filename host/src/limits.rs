@@ -2,7 +2,7 @@
 //! them to that file.
 
 /// Bytes of a table.
-pub const TABLE_SIZE: usize = 45280;
+pub const TABLE_SIZE: usize = 45408;
 /// Bytes of a key at most.
 pub const KEY_LIMIT: usize = 64;
 /// Bytes of a value at most.

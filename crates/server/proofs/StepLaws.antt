@@ -31,6 +31,7 @@ use Rattle.table.specs.declared.Found.the-variants as f
 use Rattle.table.proofs.Lists.{says-yes, says-no}
 use Rattle.table.proofs.Keys.{found-without, found-less}
 use Rattle.table.proofs.Sweeps.{below-bound, not-due}
+use Rattle.table.proofs.Order.{each-all}
 use Rattle.table.proofs.Changes.{added-changed, renewed-changed, removed-changed, arrived-sound}
 use Rattle.service.specs.Serve as stream
 use Rattle.service.specs.Serve.{effect, errorPieces, onStep, served}
@@ -79,9 +80,10 @@ module _ {t k v : List ℕ} {held : Held} {t′ : List ℕ} (s : Storable t k v 
       rw (found-less t k i (s .sound .table .keys) e, e .1) at (renewed-changed (s .sound) i v d (s .value) h (e .0) (s .version) l)
 
   pub none-stored : FoundIs t k f.Absent → Left t (added k v d t) t′ → Changed t t′ (replaced k v d (stateOf t))
+  unfolding entryAt
   none-stored e l =
       let w = found-without t k e in
-      rw w (added-changed (s .sound) k v d (s .key) (s .value) h (rw w at (s .room)) (s .version) l)
+      rw w (added-changed (s .sound) k v d (s .key) (s .value) h (rw w at (s .room)) (s .version) (each-all (λ x. x .key ≡ k → ⊥) (stateOf t .entries) (memory.entry [] [] 0 0) e) l)
 
 -- a request that is answered: the table is the one behind its change
 pub does-answered : (q : Request) {o : Outcome} {b : map.Result} {st : State} {n : ℕ} {old new t u t′ : List ℕ} {a : Answer} → o ≡ answered b st → IsTable st

@@ -18,7 +18,7 @@ use Rattle.map.specs.Step.{mostKeys, lastVersion}
 use Rattle.map.specs.Table.{Each, Pairs, lastDeadline, Sizes, OtherKey, OtherVersion, Issued, Counts, lastSecond, Seconds, IsTable, Ascending}
 use Rattle.wire.proofs.SameLaws.{same-true, other-differ}
 use Rattle.table.specs.Bytes.{be8}
-use Rattle.table.specs.Memory.{countIndex, boundIndex, size, numberOf, placeOf, rowAt, countOf, stateOf, Permutation, Layout, Sound}
+use Rattle.table.specs.Memory.{countIndex, boundIndex, size, numberOf, placeOf, rowAt, countOf, stateOf, Permutation, Layout, Sound, orderHeld, madeAfresh}
 
 decMap : {P Q : Type 0} → (P → Q) → (Q → P) → Dec P → Dec Q
 decMap f g (yes p) = yes (f p)
@@ -114,12 +114,13 @@ decPlaces t =
 
 decLayout : (t : List ℕ) → Dec (Layout t)
 decLayout t =
-    decMap (λ z. record { long = z .0; counted = z .1 .0; places = z .1 .1 .0; lengths = z .1 .1 .1 .0; order = z .1 .1 .1 .1 .0; bound = z .1 .1 .1 .1 .1 })
-    (λ f. (f .long, (f .counted, (f .places, (f .lengths, (f .order, f .bound))))))
+    decMap (λ z. record { long = z .0; counted = z .1 .0; places = z .1 .1 .0; lengths = z .1 .1 .1 .0; order = z .1 .1 .1 .1 .0; bound = z .1 .1 .1 .1 .1 .0; byKey = z .1 .1 .1 .1 .1 .1 })
+    (λ f. (f .long, (f .counted, (f .places, (f .lengths, (f .order, (f .bound, f .byKey)))))))
     (decBoth (decEq (length t) size) (decBoth (decLe (numberOf t countIndex) mostKeys) (decBoth (decPlaces t)
     (decBoth (decBelow _ (λ i. decBoth (decLe (be8 t (rowAt t i + 16)) keyLimit) (decLe (be8 t (rowAt t i + 24)) valueLimit)) (countOf t))
     (decBoth (decPairs (λ e f. decLt (e .version) (f .version)) (stateOf t .entries))
-    (decEach (λ e. decFrom (decLt 0 (e .deadline)) (decLe (numberOf t boundIndex) (e .deadline))) (stateOf t .entries)))))))
+    (decBoth (decEach (λ e. decFrom (decLt 0 (e .deadline)) (decLe (numberOf t boundIndex) (e .deadline))) (stateOf t .entries))
+    (decKey (orderHeld t) (madeAfresh t))))))))
 
 pub decSound : (t : List ℕ) → Dec (Sound t)
 decSound t = decMap (λ z. record { layout = z .0; table = z .1 }) (λ s. (s .layout, s .table)) (decBoth (decLayout t) (decTable (stateOf t)))

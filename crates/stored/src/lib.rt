@@ -169,10 +169,10 @@ pub fn load_lines(chunk: &[u8], t: &mut [u8], begun: bool) -> Loading
 }
 
 // Memory of a table.
-fn memory() -> [u8; 45280]
+fn memory() -> [u8; 45408]
     ensures { λ r. ⌜ size ≡ length r ⌝ }
 {
-    [0; 45280]
+    [0; 45408]
 }
 
 // Loads a stored file: the table is built in memory of its own, and takes the place of t only when the last line is good. Else it is 17.

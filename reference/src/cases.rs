@@ -9,7 +9,7 @@ use reference::number::LARGEST_VLONG;
 use reference::operation::{greatest_bulk, BULK_GET, BULK_GET_KEYS, STATS};
 use reference::{
     is_text, read_limited, read_limited_text, read_number, read_reply, read_request, read_version,
-    write_number, Read, Reply, Request,
+    write_number, Asked, Read, Reply, Request,
 };
 
 pub enum Command {
@@ -21,7 +21,7 @@ pub enum Command {
     Version,
     Fields,
     Request,
-    Reply(u8, bool),
+    Reply(Asked),
 }
 
 /// The command that the words of the command line say.
@@ -36,7 +36,11 @@ pub fn parse(words: &[&str]) -> Option<Command> {
         ["version"] => Command::Version,
         ["fields"] => Command::Fields,
         ["request"] => Command::Request,
-        ["reply", operation, flag] => Command::Reply(operation_code(operation)?, is_set(flag)?),
+        ["reply", version, operation, flag] => Command::Reply(Asked {
+            version: version.parse().ok()?,
+            op: operation_code(operation)?,
+            flag: is_set(flag)?,
+        }),
         _ => return None,
     };
     Some(command)
@@ -89,7 +93,7 @@ fn result_of(command: &Command, case: &[u8]) -> Option<String> {
         Command::LimitedText(limit) => shown(read_limited_text(&bytes, *limit), bytes_words),
         Command::Version => shown(read_version(&bytes), number_words),
         Command::Request => shown(read_request(&bytes), request_words),
-        Command::Reply(op, flag) => shown(read_reply(*op, *flag, &bytes), reply_words),
+        Command::Reply(asked) => shown(read_reply(*asked, &bytes), reply_words),
     };
     Some(result)
 }

@@ -51,21 +51,22 @@ impl History {
         }
     }
 
-    /// Remembers a call that was served at this second with this status;
-    /// `added` says whether it wrote a key that was not held.
-    pub fn remember(&mut self, second: u32, operation: u8, status: u8, added: bool) {
+    /// Remembers a call that was served at this second. `outcome` is the status
+    /// that its reply has in versions 10 to 12, so that 03 counts as 00; `added`
+    /// says whether it wrote a key that was not held.
+    pub fn remember(&mut self, second: u32, operation: u8, outcome: u8, added: bool) {
         self.first.get_or_insert(u64::from(second));
         self.latest = self.present(second);
         if added {
             self.count(TOTAL);
         }
         match operation {
-            PUT if status == 0 => self.count(STORES),
+            PUT if outcome == 0 => self.count(STORES),
             GET => {
                 self.count(RETRIEVALS);
-                self.count(if status == 0 { HITS } else { MISSES });
+                self.count(if outcome == 0 { HITS } else { MISSES });
             }
-            REMOVE if status == 0 => self.count(REMOVE_HITS),
+            REMOVE if outcome == 0 => self.count(REMOVE_HITS),
             REMOVE => self.count(REMOVE_MISSES),
             _ => {}
         }

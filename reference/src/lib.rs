@@ -1,4 +1,4 @@
-//! A second Hot Rod cache server for protocol versions 10, 11 and 12.
+//! A second Hot Rod cache server for protocol versions 10, 11, 12 and 20.
 //!
 //! It is written for comparison with another server, so it is kept plain:
 //! messages own their bytes, the table is a `BTreeMap`, and every message
@@ -31,6 +31,7 @@ pub use lines::{serve_line, serve_lines, serve_reader};
 pub use listing::Listed;
 pub use map::{is_table, step, Entry, Table};
 pub use number::{read_number, write_number};
+pub use operation::Asked;
 pub use reply::{error_reply, read_reply, write_reply, Reply};
 pub use request::{read_request, write_request, Request};
 pub use serve::{serve, serve_stream, Answer, StreamAnswer, Verdict};

@@ -27,7 +27,7 @@ const USAGE: &str = "usage:
   reference version
   reference fields
   reference request
-  reference reply OPERATION FLAG
+  reference reply VERSION OPERATION FLAG
 All but the first two read one case a line from standard input. Before a
 case of `fields` stands a letter: i vInt, l vLong, e entry version, t text,
 n name, k key, v value.";

@@ -6,8 +6,9 @@ use crate::fields::{KEY_LIMIT, VALUE_LIMIT};
 use crate::history::History;
 use crate::listing::Listed;
 use crate::operation::{
-    body, Body, BULK_GET, BULK_GET_KEYS, CLEAR, CONTAINS_KEY, GET, GET_WITH_VERSION, PUT,
-    PUT_IF_ABSENT, REMOVE, REMOVE_IF_UNMODIFIED, REPLACE, REPLACE_IF_UNMODIFIED, STATS,
+    body, Body, BULK_GET, BULK_GET_KEYS, CLEAR, CONTAINS_KEY, DONE_WITH_OLD, GET, GET_WITH_VERSION,
+    NOT_DONE_WITH_OLD, PUT, PUT_IF_ABSENT, REMOVE, REMOVE_IF_UNMODIFIED, REPLACE,
+    REPLACE_IF_UNMODIFIED, STATS,
 };
 use crate::reply::Reply;
 use crate::request::{keeps_rules, Request, FLAG_DEFAULT_LIFESPAN};
@@ -98,8 +99,9 @@ enum Effect {
     Clear,
 }
 
-/// The status of the reply, by the entry held before the step.
-fn status(request: &Request, held: Option<&Entry>) -> u8 {
+/// What comes of the request, by the entry held before the step: the status of
+/// the reply in versions 10 to 12.
+fn outcome(request: &Request, held: Option<&Entry>) -> u8 {
     match request.operation {
         PUT_IF_ABSENT if held.is_some() => 1,
         REPLACE if held.is_none() => 1,
@@ -113,9 +115,22 @@ fn status(request: &Request, held: Option<&Entry>) -> u8 {
     }
 }
 
-/// Only status 00 changes the table.
-fn effect(operation: u8, status: u8) -> Effect {
-    if status != 0 {
+/// The status of the reply. Where it says whether an old value follows, the key
+/// was held and its value is asked for, 03 stands for 00 and 04 for 01.
+fn status(request: &Request, outcome: u8, held: Option<&Entry>) -> u8 {
+    if held.is_none() || !request.asked().tells_by_status() {
+        return outcome;
+    }
+    match outcome {
+        0 => DONE_WITH_OLD,
+        1 => NOT_DONE_WITH_OLD,
+        _ => outcome,
+    }
+}
+
+/// Only the outcome 00 changes the table.
+fn effect(operation: u8, outcome: u8) -> Effect {
+    if outcome != 0 {
         return Effect::Nothing;
     }
     match operation {
@@ -149,7 +164,7 @@ fn answer(request: &Request, status: u8, held: Option<&Entry>) -> Reply {
     let Some(entry) = held else {
         return reply;
     };
-    match body(request.operation, request.wants_old_value(), status) {
+    match body(request.asked(), status) {
         Body::Nothing | Body::EmptyValue | Body::Statistics | Body::Entries | Body::Keys => {}
         Body::Value => reply.value = entry.value.clone(),
         Body::VersionAndValue => {
@@ -202,8 +217,8 @@ fn step_of_standing(request: &Request, second: u32, table: &mut Table) -> Result
         return Err(9);
     }
     let held = table.entries.get(&request.key);
-    let status = status(request, held);
-    let effect = effect(request.operation, status);
+    let outcome = outcome(request, held);
+    let effect = effect(request.operation, outcome);
     if effect == Effect::Store {
         if held.is_none() && table.entries.len() >= MOST_KEYS {
             return Err(10);
@@ -213,7 +228,7 @@ fn step_of_standing(request: &Request, second: u32, table: &mut Table) -> Result
         }
     }
     let added = effect == Effect::Store && held.is_none();
-    let mut reply = answer(request, status, held);
+    let mut reply = answer(request, status(request, outcome, held), held);
     match request.operation {
         STATS => reply.statistics = table.history.statistics(second, table.entries.len()),
         BULK_GET => reply.entries = listed(table, request.bulk, true),
@@ -224,7 +239,7 @@ fn step_of_standing(request: &Request, second: u32, table: &mut Table) -> Result
     apply(effect, request, table.history.present(second), table);
     table
         .history
-        .remember(second, request.operation, status, added);
+        .remember(second, request.operation, outcome, added);
     Ok(reply)
 }
 

@@ -5,7 +5,7 @@ use crate::fields::{
 };
 use crate::listing::{self, Listed};
 use crate::number::{write_number, LARGEST_VLONG};
-use crate::operation::{body, is_served, may_answer, Body, ERROR};
+use crate::operation::{body, may_answer, Asked, Body, ERROR, PING};
 use crate::statistics::{self, Statistics};
 use crate::text::is_text;
 
@@ -35,24 +35,25 @@ fn is_error_status(status: u8) -> bool {
     (0x81..=0x86).contains(&status)
 }
 
-/// Reads the reply at the front of the bytes. `op` is the code of the request
-/// it answers, `flag` says whether that request asked for the old value.
-pub fn read_reply(op: u8, flag: bool, bytes: &[u8]) -> Read<Reply> {
-    if !is_served(op) {
-        return Read::Refused(4);
+/// Reads the reply at the front of the bytes. A version that is not served is
+/// 3, then an operation that the version does not have 4, both before any byte
+/// is looked at.
+pub fn read_reply(asked: Asked, bytes: &[u8]) -> Read<Reply> {
+    if let Some(number) = asked.refusal() {
+        return Read::Refused(number);
     }
     let mut cursor = Cursor::new(bytes);
-    let reply = read_fields(op, flag, &mut cursor);
+    let reply = read_fields(asked, &mut cursor);
     cursor.answer(reply)
 }
 
-fn read_fields(op: u8, flag: bool, cursor: &mut Cursor) -> Result<Reply, Stop> {
-    let mut reply = read_header(op, cursor)?;
+fn read_fields(asked: Asked, cursor: &mut Cursor) -> Result<Reply, Stop> {
+    let mut reply = read_header(asked, cursor)?;
     if reply.operation == ERROR {
         reply.text = cursor.limited_text(TEXT_LIMIT)?;
         return Ok(reply);
     }
-    match body(op, flag, reply.status) {
+    match body(asked, reply.status) {
         Body::Nothing => {}
         Body::Value => reply.value = cursor.limited(VALUE_LIMIT)?,
         Body::EmptyValue => reply.value = cursor.limited(0)?,
@@ -67,11 +68,11 @@ fn read_fields(op: u8, flag: bool, cursor: &mut Cursor) -> Result<Reply, Stop> {
     Ok(reply)
 }
 
-fn read_header(op: u8, cursor: &mut Cursor) -> Result<Reply, Stop> {
+fn read_header(asked: Asked, cursor: &mut Cursor) -> Result<Reply, Stop> {
     cursor.byte(|byte| byte == MAGIC, 1)?;
     let id = cursor.vlong()?;
-    let operation = cursor.byte(|code| code == op + 1 || code == ERROR, 4)?;
-    let status = cursor.byte(|status| status_is_good(op, operation, status), 8)?;
+    let operation = cursor.byte(|code| code == asked.op + 1 || code == ERROR, 4)?;
+    let status = cursor.byte(|status| status_is_good(asked, operation, status), 8)?;
     cursor.byte(|marker| marker == 0, 8)?;
     Ok(Reply {
         id,
@@ -81,27 +82,27 @@ fn read_header(op: u8, cursor: &mut Cursor) -> Result<Reply, Stop> {
     })
 }
 
-/// `op` is the request's code, `operation` the reply's.
-fn status_is_good(op: u8, operation: u8, status: u8) -> bool {
+/// `operation` is the reply's code.
+fn status_is_good(asked: Asked, operation: u8, status: u8) -> bool {
     if operation == ERROR {
         is_error_status(status)
     } else {
-        may_answer(op, status)
+        may_answer(asked, status)
     }
 }
 
-/// Whether the reply breaks no rule as an answer to `op` with `flag`.
-pub fn keeps_rules(op: u8, flag: bool, reply: &Reply) -> bool {
-    if !is_served(op) || reply.id > LARGEST_VLONG {
+/// Whether the reply breaks no rule as an answer to this.
+pub fn keeps_rules(asked: Asked, reply: &Reply) -> bool {
+    if asked.refusal().is_some() || reply.id > LARGEST_VLONG {
         return false;
     }
     if reply.operation == ERROR {
         return error_keeps_rules(reply);
     }
-    reply.operation == op + 1
-        && may_answer(op, reply.status)
+    reply.operation == asked.op + 1
+        && may_answer(asked, reply.status)
         && reply.text.is_empty()
-        && body_keeps_rules(body(op, flag, reply.status), reply)
+        && body_keeps_rules(body(asked, reply.status), reply)
 }
 
 fn error_keeps_rules(reply: &Reply) -> bool {
@@ -139,7 +140,7 @@ fn body_keeps_rules(body: Body, reply: &Reply) -> bool {
 }
 
 /// The bytes of a reply that keeps the rules.
-pub fn reply_bytes(op: u8, flag: bool, reply: &Reply) -> Vec<u8> {
+pub fn reply_bytes(asked: Asked, reply: &Reply) -> Vec<u8> {
     let mut out = vec![MAGIC];
     write_number(reply.id, &mut out);
     out.push(reply.operation);
@@ -149,7 +150,7 @@ pub fn reply_bytes(op: u8, flag: bool, reply: &Reply) -> Vec<u8> {
         write_limited(&reply.text, &mut out);
         return out;
     }
-    match body(op, flag, reply.status) {
+    match body(asked, reply.status) {
         Body::Nothing => {}
         Body::Value | Body::EmptyValue => write_limited(&reply.value, &mut out),
         Body::VersionAndValue => {
@@ -164,13 +165,14 @@ pub fn reply_bytes(op: u8, flag: bool, reply: &Reply) -> Vec<u8> {
 }
 
 /// Writes the reply to the front of the buffer and gives its length.
-/// A reply that breaks a rule, or an operation not served, is 16; too little
-/// room is 12. On a refusal nothing is written.
-pub fn write_reply(op: u8, flag: bool, reply: &Reply, out: &mut [u8]) -> Result<usize, u8> {
-    if !keeps_rules(op, flag, reply) {
+/// A reply that breaks a rule is 16, and so is a version not served or an
+/// operation that it does not have; too little room is 12. On a refusal nothing
+/// is written.
+pub fn write_reply(asked: Asked, reply: &Reply, out: &mut [u8]) -> Result<usize, u8> {
+    if !keeps_rules(asked, reply) {
         return Err(16);
     }
-    copy_out(&reply_bytes(op, flag, reply), out)
+    copy_out(&reply_bytes(asked, reply), out)
 }
 
 /// The wire status and text of a refusal, for 1 to 11.
@@ -205,8 +207,14 @@ pub fn error_reply(id: u64, refusal: u8) -> Option<Reply> {
 
 /// The bytes of the error reply, and none for a refusal that sends none.
 pub fn error_bytes(id: u64, refusal: u8) -> Vec<u8> {
+    // An error reply is the same whatever it answers.
+    let asked = Asked {
+        version: 10,
+        op: PING,
+        flag: false,
+    };
     match error_reply(id, refusal) {
-        Some(reply) => reply_bytes(0, false, &reply),
+        Some(reply) => reply_bytes(asked, &reply),
         None => Vec::new(),
     }
 }

@@ -4,7 +4,10 @@ use crate::fields::{
     copy_out, write_eight, write_limited, Cursor, Read, Stop, KEY_LIMIT, NAME_LIMIT, VALUE_LIMIT,
 };
 use crate::number::{write_number, LARGEST_VLONG};
-use crate::operation::{greatest_bulk, sends_entry_version, sends_key, sends_value, serves};
+use crate::operation::{
+    greatest_bulk, greatest_flags, is_version, sends_entry_version, sends_key, sends_value, serves,
+    Asked, TWO,
+};
 use crate::text::is_text;
 
 /// The first byte of every request.
@@ -16,12 +19,12 @@ pub const FLAG_OLD_VALUE: u32 = 1;
 pub const FLAG_DEFAULT_LIFESPAN: u32 = 2;
 
 /// A request. A field that its operation does not send is zero or empty.
-/// The transaction type is not held, since it is always 0.
+/// The transaction type is not held: where it is sent, it is 0.
 #[derive(Clone, Debug, Default, PartialEq, Eq)]
 pub struct Request {
     /// The message id.
     pub id: u64,
-    /// The protocol version: 10, 11 or 12.
+    /// The protocol version: 10, 11, 12 or 20.
     pub version: u8,
     pub operation: u8,
     /// The cache name.
@@ -41,22 +44,19 @@ pub struct Request {
 }
 
 impl Request {
-    /// Whether the request asks for the old value.
-    pub fn wants_old_value(&self) -> bool {
-        self.flags & FLAG_OLD_VALUE != 0
+    /// What its reply is an answer to.
+    pub fn asked(&self) -> Asked {
+        Asked {
+            version: self.version,
+            op: self.operation,
+            flag: self.flags & FLAG_OLD_VALUE != 0,
+        }
     }
 }
 
-fn is_version(version: u8) -> bool {
-    (10..=12).contains(&version)
-}
-
-fn are_flags(version: u8, flags: u32) -> bool {
-    if version == 12 {
-        flags <= 7
-    } else {
-        flags <= 1
-    }
+/// Whether a request of this version has a transaction type.
+fn has_transaction_type(version: u8) -> bool {
+    version != TWO
 }
 
 fn is_intelligence(intelligence: u8) -> bool {
@@ -88,12 +88,14 @@ fn read_header(cursor: &mut Cursor) -> Result<Request, Stop> {
     let operation = cursor.byte(|operation| serves(version, operation), 4)?;
     let name = cursor.limited_text(NAME_LIMIT)?;
     let flags = cursor.vint()?;
-    if !are_flags(version, flags) {
+    if flags > greatest_flags(version) {
         return Err(Stop::Refused(8));
     }
     let intelligence = cursor.byte(is_intelligence, 8)?;
     let topology = cursor.vint()?;
-    cursor.byte(|transaction_type| transaction_type == 0, 8)?;
+    if has_transaction_type(version) {
+        cursor.byte(|transaction_type| transaction_type == 0, 8)?;
+    }
     Ok(Request {
         id,
         version,
@@ -142,7 +144,7 @@ fn header_keeps_rules(request: &Request) -> bool {
         && serves(request.version, request.operation)
         && request.name.len() <= NAME_LIMIT
         && is_text(&request.name)
-        && are_flags(request.version, request.flags)
+        && request.flags <= greatest_flags(request.version)
         && is_intelligence(request.intelligence)
 }
 
@@ -174,7 +176,9 @@ fn request_bytes(request: &Request) -> Vec<u8> {
     write_number(u64::from(request.flags), &mut out);
     out.push(request.intelligence);
     write_number(u64::from(request.topology), &mut out);
-    out.push(0);
+    if has_transaction_type(request.version) {
+        out.push(0);
+    }
     if sends_key(request.operation) {
         write_limited(&request.key, &mut out);
     }

@@ -100,8 +100,7 @@ pub fn error_id(refusal: u8, input: &[u8]) -> u64 {
 pub fn answer_request(request: &Request, second: u32, table: &mut Table) -> (Vec<u8>, Verdict) {
     match step(request, second, table) {
         Ok(reply) => {
-            let flag = request.wants_old_value();
-            let message = reply_bytes(request.operation, flag, &reply);
+            let message = reply_bytes(request.asked(), &reply);
             (message, Verdict::Served)
         }
         Err(number) => (error_bytes(request.id, number), Verdict::Refused(number)),

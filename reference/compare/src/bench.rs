@@ -352,6 +352,7 @@ fn write_request<S: Subject>(subject: &mut S, setup: &mut Setup) -> Row {
 /// The reply to a get, with a value of 256 bytes.
 fn reply(setup: &mut Setup) -> (Asked, Reply) {
     let asked = Asked {
+        version: 12,
         op: GET,
         flag: false,
     };
@@ -384,7 +385,7 @@ fn read_reply<S: Subject>(subject: &mut S, setup: &mut Setup) -> Row {
     let reference = || {
         timed(|| {
             for _ in 0..CALLS {
-                let read = reference::read_reply(asked.op, asked.flag, black_box(&bytes));
+                let read = reference::read_reply(asked, black_box(&bytes));
                 black_box(matches!(read, Read::Whole(_, _)));
             }
         })
@@ -420,8 +421,7 @@ fn write_reply<S: Subject>(subject: &mut S, setup: &mut Setup) -> Row {
         other.fill(0);
         timed(|| {
             for _ in 0..CALLS {
-                let (op, flag) = (asked.op, asked.flag);
-                let written = reference::write_reply(op, flag, black_box(&reply), &mut other);
+                let written = reference::write_reply(asked, black_box(&reply), &mut other);
                 black_box(written.is_ok());
             }
         })
@@ -609,6 +609,7 @@ fn bulk_stream<S: Subject>(subject: &mut S, setup: &Setup) -> Row {
 fn read_bulk<S: Subject>(subject: &mut S, setup: &Setup) -> Row {
     let (_, reply) = bulk_messages(setup, BULK_GET);
     let asked = Asked {
+        version: 12,
         op: BULK_GET,
         flag: false,
     };
@@ -629,7 +630,7 @@ fn read_bulk<S: Subject>(subject: &mut S, setup: &Setup) -> Row {
     let reference = || {
         timed(|| {
             for _ in 0..CALLED {
-                let read = reference::read_reply(BULK_GET, false, black_box(&reply));
+                let read = reference::read_reply(asked, black_box(&reply));
                 black_box(matches!(read, Read::Whole(_, _)));
             }
         })
@@ -640,6 +641,7 @@ fn read_bulk<S: Subject>(subject: &mut S, setup: &Setup) -> Row {
 /// The entries of the table as parts of one row of bytes.
 fn entries_of(setup: &Setup) -> EntriesDraft {
     let mut draft = EntriesDraft {
+        version: 12,
         id: 1000,
         values: true,
         bytes: Vec::new(),
@@ -678,7 +680,7 @@ fn write_bulk<S: Subject>(subject: &mut S, setup: &Setup) -> Row {
         out.fill(0);
         let time = timed(|| {
             for _ in 0..CALLED {
-                black_box(subject.write_entries(black_box(out), draft.id, parts));
+                black_box(subject.write_entries(black_box(out), draft.version, draft.id, parts));
             }
         });
         assert_eq!(out[..bytes.len()], bytes, "the reply is another one");
@@ -689,7 +691,7 @@ fn write_bulk<S: Subject>(subject: &mut S, setup: &Setup) -> Row {
         other.fill(0);
         timed(|| {
             for _ in 0..CALLED {
-                let written = reference::write_reply(BULK_GET, false, &reply, &mut other);
+                let written = reference::write_reply(draft.asked(), &reply, &mut other);
                 black_box(written.is_ok());
             }
         })

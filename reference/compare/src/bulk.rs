@@ -6,7 +6,9 @@
 
 use reference::listing::MOST_LISTED;
 use reference::map::MOST_KEYS;
-use reference::operation::{greatest_bulk, serves, BULK_GET, BULK_GET_KEYS};
+use reference::operation::{
+    greatest_bulk, greatest_flags, serves, BULK_GET, BULK_GET_KEYS, VERSIONS,
+};
 use reference::serve::{BULK_ROOM, LEAST_ROOM};
 use reference::{read_request, serve, write_number, Listed, Read, Request, Table};
 
@@ -71,10 +73,10 @@ fn world(chance: &mut Chance, held: usize) -> World {
 
 /// A bulk request with this number, whether or not it keeps the rules.
 fn request(chance: &mut Chance, operation: u8, number: u32) -> Request {
-    let version = 10 + chance.below(3) as u8;
+    let version = chance.pick(&VERSIONS);
     let mut request = Request {
         version,
-        flags: chance.up_to(if version == 12 { 7 } else { 1 }) as u32,
+        flags: chance.up_to(greatest_flags(version) as usize) as u32,
         bulk: number,
         ..make::request_of(chance, operation)
     };

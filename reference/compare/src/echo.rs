@@ -24,7 +24,7 @@ use crate::fields::{of_reply, of_request, place, Kind};
 use crate::lines::LEAST;
 use crate::memory::{
     self, number, put_history, put_number, row_at, BOUND, COUNT, COUNTED, DEADLINE, LAST, LATEST,
-    PLACES, ROWS, SIZE,
+    ORDER, PLACES, SIZE,
 };
 use crate::messages::{reply_numbers, request_numbers};
 use crate::subject::{
@@ -334,11 +334,14 @@ impl Echo {
                 put_number(memory, LAST, greatest.max(number(memory, LAST)));
             }
             Some(Fault::CountCutToByte) => cut_to(memory, COUNT, 0xff),
-            Some(Fault::EqualKeys) => spread_keys(memory, count),
+            Some(Fault::EqualKeys) => {
+                spread_keys(memory, count);
+                memory::set_order(memory);
+            }
             Some(Fault::AnyOrder) => sort_places(memory, count),
             Some(Fault::PlacesBehind) => mend_places(memory, count),
             Some(Fault::PlaceCutToBits) => {
-                memory[PLACES..ROWS].iter_mut().for_each(|at| *at &= 0x7f)
+                memory[PLACES..ORDER].iter_mut().for_each(|at| *at &= 0x7f)
             }
             _ => self.forgive_rows(memory, count),
         }
@@ -576,7 +579,7 @@ impl Echo {
     /// A wrong code for a reply that is read.
     fn wrong_reply(&self, asked: Asked, input: &[u8], code: u64) -> Option<u64> {
         let stats = asked.op == STATS && code == 8;
-        let again = |input: &[u8]| read_code(&read_reply(asked.op, asked.flag, input));
+        let again = |input: &[u8]| read_code(&read_reply(asked, input));
         match self.fault? {
             Fault::SevenForName if stats && !is_text(input.get(6..).unwrap_or(&[])) => Some(7),
             Fault::AnyNumberOfStatistics if stats => Some(again(&with_nine(input))),
@@ -742,9 +745,9 @@ impl Subject for Echo {
             return UNTOLD;
         }
         let flag = asked.flag || self.has(Fault::IgnoresFlag);
-        let read = read_reply(asked.op, flag, input);
-        let code = read_code(&read);
         let asked = Asked { flag, ..asked };
+        let read = read_reply(asked, input);
+        let code = read_code(&read);
         let wrong = self.wrong_reply(asked, input, code);
         if let Some(code) = wrong.or_else(|| self.wrong_bulk_reply(asked, input, code)) {
             return code;
@@ -768,13 +771,13 @@ impl Subject for Echo {
         if reply.operation == STATS + 1 {
             return 16;
         }
-        let code = write_code(write_reply(asked.op, asked.flag, &reply, out));
+        let code = write_code(write_reply(asked, &reply, out));
         self.after_writing(code, out)
     }
 
-    fn write_statistics(&mut self, out: &mut [u8], id: u64, statistics: &[u64]) -> u64 {
-        let first_nine = self.has(Fault::TakesTenStatistics) && statistics.len() > 9;
-        let statistics = &statistics[..if first_nine { 9 } else { statistics.len() }];
+    fn write_statistics(&mut self, out: &mut [u8], version: u8, id: u64, numbers: &[u64]) -> u64 {
+        let first_nine = self.has(Fault::TakesTenStatistics) && numbers.len() > 9;
+        let statistics = &numbers[..if first_nine { 9 } else { numbers.len() }];
         let Ok(mut statistics) = Statistics::try_from(statistics) else {
             return 16;
         };
@@ -787,7 +790,12 @@ impl Subject for Echo {
             statistics,
             ..Reply::default()
         };
-        let code = write_code(write_reply(STATS, false, &reply, out));
+        let asked = Asked {
+            version,
+            op: STATS,
+            flag: false,
+        };
+        let code = write_code(write_reply(asked, &reply, out));
         self.after_writing(code, out)
     }
 
@@ -798,8 +806,8 @@ impl Subject for Echo {
         self.entry_at(input, at, values, answer)
     }
 
-    fn write_entries(&mut self, out: &mut [u8], id: u64, entries: EntryParts) -> u64 {
-        let code = self.entries_to(out, id, entries);
+    fn write_entries(&mut self, out: &mut [u8], version: u8, id: u64, entries: EntryParts) -> u64 {
+        let code = self.entries_to(out, version, id, entries);
         self.after_writing(code, out)
     }
 

@@ -25,10 +25,8 @@ const SHORT: usize = 3000;
 const ROUNDS: u64 = 25;
 
 fn asked<S>(trial: &mut Trial<S>) -> Asked {
-    Asked {
-        op: trial.chance.pick(&[BULK_GET, BULK_GET_KEYS]),
-        flag: trial.chance.one_in(2),
-    }
+    let op = trial.chance.pick(&[BULK_GET, BULK_GET_KEYS]);
+    make::asked(&mut trial.chance, op)
 }
 
 /// So many entries, at times short ones, at times the longest.
@@ -60,6 +58,7 @@ fn reply(asked: Asked, id: u64, entries: Vec<Listed>) -> Reply {
 
 fn told(found: Difference, asked: Asked, input: &[u8]) -> Difference {
     found
+        .with("version", asked.version)
         .with("operation", asked.op)
         .with("flag", asked.flag)
         .bytes("input", input)
@@ -161,7 +160,7 @@ pub fn one_too_many<S: Subject>(trial: &mut Trial<S>) -> Outcome {
 }
 
 fn refused<S: Subject>(trial: &mut Trial<S>, asked: Asked, input: &[u8], code: u64) -> Outcome {
-    let expected = reference::read_reply(asked.op, asked.flag, input);
+    let expected = reference::read_reply(asked, input);
     same("the code of the reference", code, read_code(&expected))?;
     read(trial, asked, input)
 }
@@ -183,7 +182,11 @@ pub fn walked<S: Subject>(
 
 fn steps<S: Subject>(trial: &mut Trial<S>, reply: &[u8], op: u8, entries: &[Listed]) -> Outcome {
     let mut words = Words::new(REPLY_WORDS);
-    let asked = Asked { op, flag: false };
+    let asked = Asked {
+        version: 20,
+        op,
+        flag: false,
+    };
     let code = trial.subject.read_reply(reply, asked, words.slice_mut());
     same("the return code", GOOD + reply.len() as u64, code)?;
     let [count, start, length] = [18, 19, 20].map(|at: usize| words.slice()[at] as usize);

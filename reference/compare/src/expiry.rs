@@ -195,8 +195,7 @@ fn replied_rows<S: Stores>(
     request: &Request,
     bytes: &[u8],
 ) -> Outcome {
-    let flag = request.wants_old_value();
-    let Read::Whole(reply, _) = read_reply(request.operation, flag, bytes) else {
+    let Read::Whole(reply, _) = read_reply(request.asked(), bytes) else {
         return Err(Difference::new("a reply that is sent is not read"));
     };
     let held = rows.iter().find(|row| row.key == request.key);
@@ -210,12 +209,23 @@ fn replied_rows<S: Stores>(
         _ => {}
     }
     let (absent, present) = statuses(request, held);
-    let status = if held.is_some() { present } else { absent };
+    let status = match held {
+        None => absent,
+        Some(_) if request.version == 20 && request.flags % 2 == 1 && sends_old(request) => {
+            present + 3
+        }
+        Some(_) => present,
+    };
     same("the status by what stands", status, reply.status)?;
     hold(
         shows(&reply, held),
         "a value or version that does not stand",
     )
+}
+
+/// Whether the operation has an old value: those that write or remove.
+fn sends_old(request: &Request) -> bool {
+    !matches!(request.operation, GET | GET_WITH_VERSION | CONTAINS_KEY)
 }
 
 /// The status where the key is absent, and where this entry is held.

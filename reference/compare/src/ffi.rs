@@ -40,6 +40,7 @@ extern "C" {
     fn fq_read_reply(
         input: *const u8,
         input_len: usize,
+        version: u8,
         op: u8,
         flag: bool,
         answer: *mut u64,
@@ -49,6 +50,7 @@ extern "C" {
     fn fq_write_reply(
         out: *mut u8,
         out_len: usize,
+        version: u8,
         op: u8,
         flag: bool,
         numbers: *const u64,
@@ -62,9 +64,10 @@ extern "C" {
     fn fq_write_statistics(
         out: *mut u8,
         out_len: usize,
+        version: u8,
         id: u64,
-        statistics: *const u64,
-        statistics_len: usize,
+        numbers: *const u64,
+        numbers_len: usize,
     ) -> u64;
 
     fn fq_next_entry(
@@ -79,6 +82,7 @@ extern "C" {
     fn fq_write_entries(
         out: *mut u8,
         out_len: usize,
+        version: u8,
         id: u64,
         values: bool,
         bytes: *const u8,
@@ -237,6 +241,7 @@ impl Subject for Library {
             fq_read_reply(
                 input.as_ptr(),
                 input.len(),
+                asked.version,
                 asked.op,
                 asked.flag,
                 answer.as_mut_ptr(),
@@ -263,6 +268,7 @@ impl Subject for Library {
             fq_write_reply(
                 out.as_mut_ptr(),
                 out.len(),
+                asked.version,
                 asked.op,
                 asked.flag,
                 numbers.as_ptr(),
@@ -277,15 +283,16 @@ impl Subject for Library {
         code
     }
 
-    fn write_statistics(&mut self, out: &mut [u8], id: u64, statistics: &[u64]) -> u64 {
+    fn write_statistics(&mut self, out: &mut [u8], version: u8, id: u64, numbers: &[u64]) -> u64 {
         // SAFETY: both slices are lent for the call, with their lengths.
         let code = unsafe {
             fq_write_statistics(
                 out.as_mut_ptr(),
                 out.len(),
+                version,
                 id,
-                statistics.as_ptr(),
-                statistics.len(),
+                numbers.as_ptr(),
+                numbers.len(),
             )
         };
         check_code("fq_write_statistics", code, out.len(), &[]);
@@ -312,13 +319,14 @@ impl Subject for Library {
         code
     }
 
-    fn write_entries(&mut self, out: &mut [u8], id: u64, entries: EntryParts) -> u64 {
+    fn write_entries(&mut self, out: &mut [u8], version: u8, id: u64, entries: EntryParts) -> u64 {
         // SAFETY: all slices are lent for the call, with their lengths, and
         // the buffer overlaps none of the others.
         let code = unsafe {
             fq_write_entries(
                 out.as_mut_ptr(),
                 out.len(),
+                version,
                 id,
                 entries.values,
                 entries.bytes.as_ptr(),

@@ -2,7 +2,8 @@
 
 use reference::fields::{KEY_LIMIT, NAME_LIMIT, TEXT_LIMIT, VALUE_LIMIT};
 use reference::operation::{
-    body, greatest_bulk, sends_entry_version, sends_key, sends_value, Body, ERROR,
+    body, greatest_bulk, greatest_flags, sends_entry_version, sends_key, sends_value, Body, ERROR,
+    TWO,
 };
 use reference::{statistics, write_number, Listed, Reply, Request, Statistics};
 
@@ -92,10 +93,14 @@ fn header(request: &Request) -> Vec<Field> {
         field(Kind::Byte, &[request.operation]),
     ];
     limited(&mut fields, Kind::Name, NAME_LIMIT, &request.name);
-    fields.push(number(Kind::Int, u64::from(request.flags)));
+    let greatest = greatest_flags(request.version) as usize;
+    fields.push(number(Kind::UpTo(greatest), u64::from(request.flags)));
     fields.push(field(Kind::Byte, &[request.intelligence]));
     fields.push(number(Kind::Int, u64::from(request.topology)));
-    fields.push(field(Kind::Byte, &[0]));
+    // The transaction type.
+    if request.version != TWO {
+        fields.push(field(Kind::Byte, &[0]));
+    }
     fields
 }
 
@@ -112,7 +117,7 @@ pub fn of_reply(asked: Asked, reply: &Reply) -> Vec<Field> {
         limited(&mut fields, Kind::Text, TEXT_LIMIT, &reply.text);
         return fields;
     }
-    match body(asked.op, asked.flag, reply.status) {
+    match body(asked, reply.status) {
         Body::Nothing => {}
         Body::EmptyValue => limited(&mut fields, Kind::Value, 0, &reply.value),
         Body::Value => limited(&mut fields, Kind::Value, VALUE_LIMIT, &reply.value),
@@ -195,7 +200,7 @@ mod tests {
             assert_eq!(out[..bytes.len()], bytes);
             let (asked, reply) = make::reply(&mut chance);
             let bytes = join(&of_reply(asked, &reply));
-            let written = write_reply(asked.op, asked.flag, &reply, &mut out);
+            let written = write_reply(asked, &reply, &mut out);
             assert_eq!(written, Ok(bytes.len()));
             assert_eq!(out[..bytes.len()], bytes);
         }

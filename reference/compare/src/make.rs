@@ -5,9 +5,9 @@ use reference::history::{COUNTS, LARGEST_SECOND};
 use reference::map::{LARGEST_DEADLINE, LARGEST_VERSION, LONGEST_SPAN, MOST_KEYS};
 use reference::number::LARGEST_VLONG;
 use reference::operation::{
-    body, greatest_bulk, may_answer, sends_entry_version, sends_key, sends_value, serves, Body,
-    BULK_GET, BULK_GET_KEYS, CLEAR, ERROR, PUT, PUT_IF_ABSENT, REMOVE, REMOVE_IF_UNMODIFIED,
-    SERVED,
+    body, greatest_bulk, greatest_flags, may_answer, sends_entry_version, sends_key, sends_value,
+    serves, Body, BULK_GET, BULK_GET_KEYS, CLEAR, ERROR, PUT, PUT_IF_ABSENT, REMOVE,
+    REMOVE_IF_UNMODIFIED, SERVED, VERSIONS,
 };
 use reference::{Entry, History, Listed, Reply, Request, Statistics, Table};
 
@@ -158,18 +158,32 @@ pub fn operation(chance: &mut Chance) -> u8 {
     chance.pick(&SERVED)
 }
 
+/// A version that has this operation.
+pub fn version_of(chance: &mut Chance, operation: u8) -> u8 {
+    let version = chance.pick(&VERSIONS);
+    if serves(version, operation) {
+        return version;
+    }
+    chance.pick(&[12, 20])
+}
+
+/// What a reply to this operation answers.
+pub fn asked(chance: &mut Chance, op: u8) -> Asked {
+    Asked {
+        version: version_of(chance, op),
+        op,
+        flag: chance.one_in(2),
+    }
+}
+
 /// A request of this operation that sends no name, with edge numbers.
 pub fn request_of(chance: &mut Chance, operation: u8) -> Request {
-    let mut version = 10 + chance.below(3) as u8;
-    if !serves(version, operation) {
-        version = 12;
-    }
-    let greatest_flags = if version == 12 { 7 } else { 1 };
+    let version = version_of(chance, operation);
     let mut request = Request {
         id: long(chance),
         version,
         operation,
-        flags: chance.up_to(greatest_flags) as u32,
+        flags: chance.up_to(greatest_flags(version) as usize) as u32,
         intelligence: 1 + chance.below(3) as u8,
         topology: int(chance),
         ..Request::default()
@@ -232,27 +246,28 @@ fn error_reply(chance: &mut Chance) -> Reply {
     }
 }
 
-fn status(chance: &mut Chance, op: u8) -> u8 {
-    let statuses: Vec<u8> = (0..=2).filter(|status| may_answer(op, *status)).collect();
+fn status(chance: &mut Chance, asked: Asked) -> u8 {
+    let statuses: Vec<u8> = (0..=4)
+        .filter(|status| may_answer(asked, *status))
+        .collect();
     chance.pick(&statuses)
 }
 
 /// Any well-formed reply, and what it answers.
 pub fn reply(chance: &mut Chance) -> (Asked, Reply) {
     let op = operation(chance);
-    let flag = chance.one_in(2);
-    let asked = Asked { op, flag };
+    let asked = asked(chance, op);
     if chance.one_in(5) {
         return (asked, error_reply(chance));
     }
-    let status = status(chance, op);
+    let status = status(chance, asked);
     let mut reply = Reply {
         id: long(chance),
         operation: op + 1,
         status,
         ..Reply::default()
     };
-    let body = body(op, flag, status);
+    let body = body(asked, status);
     if body == Body::Value || body == Body::VersionAndValue {
         let length = length(chance, VALUE_LIMIT);
         reply.value = chance.bytes(length);

@@ -1,6 +1,8 @@
-//! The table in 45,280 bytes: a head of twelve numbers, then 128 places, each a
-//! byte that names a row, then 128 rows. The first places name the rows held,
-//! which ascend by version. Numbers are eight bytes, highest first.
+//! The table in 45,408 bytes: a head of twelve numbers, then 128 places, each a
+//! byte that names a row, then the order, a byte each too, then 128 rows. The
+//! first places name the rows held, which ascend by version; the first bytes of
+//! the order name the same rows, which ascend by key there. Numbers are eight
+//! bytes, highest first.
 //!
 //! The last number of the head is a lower bound of the deadlines that are not
 //! 0 of the rows held. Which one a server writes is its choice.
@@ -14,7 +16,8 @@ use reference::map::MOST_KEYS;
 use reference::{Entry, History, Table};
 
 pub const PLACES: usize = 8 * 12;
-pub const ROWS: usize = PLACES + MOST_KEYS;
+pub const ORDER: usize = PLACES + MOST_KEYS;
+pub const ROWS: usize = ORDER + MOST_KEYS;
 pub const ROW: usize = 352;
 pub const SIZE: usize = ROWS + ROW * MOST_KEYS;
 
@@ -93,7 +96,7 @@ pub fn row_at(memory: &[u8], place: usize) -> usize {
 
 /// Whether the places name each row once.
 fn is_permutation(memory: &[u8]) -> bool {
-    let mut places = memory[PLACES..ROWS].to_vec();
+    let mut places = memory[PLACES..ORDER].to_vec();
     places.sort_unstable();
     places
         .iter()
@@ -161,6 +164,28 @@ pub fn standing(memory: &[u8], second: u32) -> Vec<Row<'_>> {
     rows.filter(|row| row.stands(now)).collect()
 }
 
+/// The order made afresh: the numbers of the rows held, by their keys. Slices of
+/// bytes are compared byte by byte, and a shorter one is before a longer one that
+/// it begins.
+fn made_order(memory: &[u8], rows: &[Row]) -> Vec<u8> {
+    let mut places: Vec<usize> = (0..rows.len()).collect();
+    places.sort_by_key(|place| rows[*place].key);
+    let row = |place: usize| memory[PLACES + place];
+    places.into_iter().map(row).collect()
+}
+
+/// Whether the order kept is the order made afresh. The bytes behind the rows
+/// held mean nothing.
+fn is_in_order(memory: &[u8], rows: &[Row]) -> bool {
+    memory[ORDER..ORDER + rows.len()] == made_order(memory, rows)
+}
+
+/// Writes the order made afresh.
+pub fn set_order(memory: &mut [u8]) {
+    let order = made_order(memory, &rows(memory).unwrap_or_default());
+    memory[ORDER..ORDER + order.len()].copy_from_slice(&order);
+}
+
 fn ascend(rows: &[Row]) -> bool {
     rows.windows(2)
         .all(|pair| pair[0].version < pair[1].version)
@@ -168,10 +193,10 @@ fn ascend(rows: &[Row]) -> bool {
 
 /// The state that the memory stands for, or nothing if it has not the form:
 /// `rows` finds none, the rows do not ascend, the bound is above one of their
-/// deadlines, or a key is there twice.
+/// deadlines, the order is not the one made afresh, or a key is there twice.
 pub fn decode(memory: &[u8]) -> Option<Table> {
     let rows = rows(memory)?;
-    if !ascend(&rows) || !is_bound(memory, &rows) {
+    if !ascend(&rows) || !is_bound(memory, &rows) || !is_in_order(memory, &rows) {
         return None;
     }
     let mut table = Table {
@@ -206,7 +231,7 @@ fn set_places(memory: &mut [u8]) {
     }
     let mut order: Vec<u8> = (0..MOST_KEYS as u8).collect();
     order.sort_by_key(|row| memory[PLACES + *row as usize]);
-    memory[PLACES..ROWS].copy_from_slice(&order);
+    memory[PLACES..ORDER].copy_from_slice(&order);
 }
 
 /// Has the bound above none of the deadlines. One that is not is kept; else
@@ -239,6 +264,7 @@ pub fn encode(table: &Table, memory: &mut [u8]) {
     for (place, (key, entry)) in entries.into_iter().enumerate() {
         put_row(memory, place, key, entry);
     }
+    set_order(memory);
 }
 
 fn put_row(memory: &mut [u8], place: usize, key: &[u8], entry: &Entry) {
@@ -259,7 +285,7 @@ fn is_entry(row: &Row, table: &Table) -> bool {
 }
 
 /// Whether the memory stands for just this table, with a bound that may be
-/// there. Rows that ascend are different entries, so it is enough that each is
+/// there and the order made afresh. Rows that ascend are different entries, so it is enough that each is
 /// one and their number fits.
 pub fn holds(memory: &[u8], table: &Table) -> bool {
     let Some(rows) = rows(memory) else {
@@ -267,13 +293,14 @@ pub fn holds(memory: &[u8], table: &Table) -> bool {
     };
     ascend(&rows)
         && is_bound(memory, &rows)
+        && is_in_order(memory, &rows)
         && rows.len() == table.entries.len()
         && number(memory, LAST) == table.last
         && history(memory) == table.history
         && rows.iter().all(|row| is_entry(row, table))
 }
 
-/// The memory in digits: the head and the places, then a line a row held.
+/// The memory in digits: the head, the places and the order, then a line a row held.
 pub fn shown(memory: &[u8]) -> String {
     if memory.len() != SIZE {
         return format!("{} bytes: {}", memory.len(), to_string(memory));
@@ -328,7 +355,7 @@ mod tests {
 
     #[test]
     fn the_size_is_that_of_the_layout() {
-        assert_eq!((PLACES, ROWS, SIZE), (96, 224, 45_280));
+        assert_eq!((PLACES, ORDER, ROWS, SIZE), (96, 224, 352, 45_408));
         assert_eq!((LATEST, BOUND), (COUNTED + 8 * COUNTS, PLACES - 8));
     }
 

@@ -55,10 +55,7 @@ fn replies<S: Subject>(trial: &mut Trial<S>) -> Outcome {
 
 /// A stats reply with each field in turn broken.
 fn each_of_statistics<S: Subject>(trial: &mut Trial<S>) -> Outcome {
-    let asked = Asked {
-        op: STATS,
-        flag: trial.chance.one_in(2),
-    };
+    let asked = make::asked(&mut trial.chance, STATS);
     let reply = Reply {
         id: make::long(&mut trial.chance),
         operation: STATS + 1,
@@ -78,6 +75,7 @@ fn read_as<S: Subject>(trial: &mut Trial<S>, asked: Asked, input: &[u8]) -> Outc
     check_reply(trial, asked, input).map_err(|found| {
         found
             .with("call", "fq_read_reply")
+            .with("version", asked.version)
             .with("operation", asked.op)
             .with("flag", asked.flag)
             .bytes("input", input)
@@ -85,9 +83,17 @@ fn read_as<S: Subject>(trial: &mut Trial<S>, asked: Asked, input: &[u8]) -> Outc
 }
 
 fn perhaps_other<S>(trial: &mut Trial<S>, asked: Asked) -> Asked {
-    match trial.chance.below(12) {
+    match trial.chance.below(16) {
         0 => Asked {
             op: trial.chance.byte(),
+            ..asked
+        },
+        2 => Asked {
+            version: trial.chance.byte(),
+            ..asked
+        },
+        3 => Asked {
+            version: trial.chance.pick(&[10, 11, 12, 20, 9, 13, 19, 21]),
             ..asked
         },
         1 => Asked {
@@ -154,7 +160,7 @@ pub fn request_numbers(request: &Request, taken: usize) -> [u64; 11] {
 /// The reply read by both.
 pub fn check_reply<S: Subject>(trial: &mut Trial<S>, asked: Asked, input: &[u8]) -> Outcome {
     let lent = Lent::of(input);
-    let expected = read_reply(asked.op, asked.flag, input);
+    let expected = read_reply(asked, input);
     let mut answer = Words::about(&mut trial.chance, REPLY_WORDS);
     let code = trial
         .subject

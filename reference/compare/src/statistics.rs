@@ -73,11 +73,11 @@ impl Log {
             u64::from(second.max(first) - first),
             self.standing(self.present(second)),
             self.added,
-            self.often(PUT, 0),
+            self.often(PUT, 0) + self.often(PUT, 3),
             self.often(GET, 0) + self.often(GET, 2),
             self.often(GET, 0),
             self.often(GET, 2),
-            self.often(REMOVE, 0),
+            self.often(REMOVE, 0) + self.often(REMOVE, 3),
             self.often(REMOVE, 2),
         ]
     }
@@ -89,12 +89,12 @@ impl Log {
         self.served.push((request.operation, reply.status));
         self.held.retain(|_, end| *end == 0 || *end > now);
         match (request.operation, reply.status) {
-            (operation, 0) if sends_value(operation) => {
+            (operation, 0 | 3) if sends_value(operation) => {
                 let end = deadline(request, now);
                 let before = self.held.insert(request.key.clone(), end);
                 self.added += u64::from(before.is_none());
             }
-            (REMOVE | REMOVE_IF_UNMODIFIED, 0) => drop(self.held.remove(&request.key)),
+            (REMOVE | REMOVE_IF_UNMODIFIED, 0 | 3) => drop(self.held.remove(&request.key)),
             (CLEAR, _) => self.held.clear(),
             _ => {}
         }

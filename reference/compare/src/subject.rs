@@ -2,6 +2,8 @@
 
 use reference::{Read, Verdict};
 
+pub use reference::Asked;
+
 /// A message read or written is this code plus its length; served is this
 /// code alone. More needed is 0, a refusal its number.
 pub const GOOD: u64 = 0x100;
@@ -55,14 +57,6 @@ pub struct EntryParts<'a> {
     pub numbers: &'a [u64],
 }
 
-/// What a reply is an answer to: the request's operation, and whether it
-/// asked for the old value.
-#[derive(Clone, Copy, Debug)]
-pub struct Asked {
-    pub op: u8,
-    pub flag: bool,
-}
-
 /// Messages, serving and the table.
 pub trait Subject {
     fn read_request(&mut self, input: &[u8], answer: &mut [u64]) -> u64;
@@ -80,13 +74,13 @@ pub trait Subject {
     ) -> u64;
 
     /// A stats reply, which `write_reply` does not write.
-    fn write_statistics(&mut self, out: &mut [u8], id: u64, statistics: &[u64]) -> u64;
+    fn write_statistics(&mut self, out: &mut [u8], version: u8, id: u64, numbers: &[u64]) -> u64;
 
     /// One entry of a bulk reply, or its end, at this place of the input.
     fn next_entry(&mut self, input: &[u8], at: usize, values: bool, answer: &mut [u64]) -> u64;
 
     /// A bulk reply, of which `write_reply` writes only one without entries.
-    fn write_entries(&mut self, out: &mut [u8], id: u64, entries: EntryParts) -> u64;
+    fn write_entries(&mut self, out: &mut [u8], version: u8, id: u64, entries: EntryParts) -> u64;
 
     fn serve(
         &mut self,

@@ -277,7 +277,7 @@ fn entries_fit(before: &Lent, mine: &Reply, other: &Reply, change: &Change) -> b
 }
 
 fn whole_reply(request: &Request, bytes: &[u8]) -> Option<Reply> {
-    match read_reply(request.operation, request.wants_old_value(), bytes) {
+    match read_reply(request.asked(), bytes) {
         Read::Whole(reply, taken) if taken == bytes.len() => Some(reply),
         _ => None,
     }

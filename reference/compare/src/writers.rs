@@ -5,7 +5,7 @@
 use reference::fields::{KEY_LIMIT, NAME_LIMIT, TEXT_LIMIT, VALUE_LIMIT};
 use reference::listing::MOST_LISTED;
 use reference::number::LARGEST_VLONG;
-use reference::operation::{BULK_GET, BULK_GET_KEYS, STATS};
+use reference::operation::{BULK_GET, BULK_GET_KEYS, STATS, VERSIONS};
 use reference::serve::BULK_ROOM;
 use reference::{write_reply, write_request, Listed, Reply, Request, Statistics};
 
@@ -149,14 +149,16 @@ impl ReplyDraft {
     fn written(&self, out: &mut [u8]) -> Result<usize, u8> {
         match self.reply() {
             Some(reply) if reply.operation == STATS + 1 => Err(16),
-            Some(reply) => write_reply(self.asked.op, self.asked.flag, &reply, out),
+            Some(reply) => write_reply(self.asked, &reply, out),
             None => Err(16),
         }
     }
 
     fn damage(&mut self, chance: &mut Chance) {
-        match chance.below(10) {
+        match chance.below(12) {
             0 => self.numbers.truncate(chance.below(4)),
+            10 => self.asked.version = odd_version(chance),
+            11 if self.numbers.len() > 2 => self.numbers[2] = chance.below(6) as u64,
             1 => self.value = odd_part(chance, VALUE_LIMIT),
             2 => self.text = odd_part(chance, TEXT_LIMIT),
             3 => break_text(chance, &mut self.text),
@@ -169,6 +171,7 @@ impl ReplyDraft {
     fn shown(&self, found: Difference) -> Difference {
         found
             .with("call", "fq_write_reply")
+            .with("version", self.asked.version)
             .with("operation", self.asked.op)
             .with("flag", self.asked.flag)
             .with("numbers", format!("{:?}", self.numbers))
@@ -180,6 +183,7 @@ impl ReplyDraft {
 /// What a writer of stats replies is given.
 #[derive(Clone, Debug)]
 struct StatisticsDraft {
+    version: u8,
     id: u64,
     numbers: Vec<u64>,
 }
@@ -196,11 +200,17 @@ impl StatisticsDraft {
             statistics,
             ..Reply::default()
         };
-        write_reply(STATS, false, &reply, out)
+        let asked = Asked {
+            version: self.version,
+            op: STATS,
+            flag: false,
+        };
+        write_reply(asked, &reply, out)
     }
 
     fn damage(&mut self, chance: &mut Chance) {
-        match chance.below(9) {
+        match chance.below(10) {
+            9 => self.version = odd_version(chance),
             0 => self.numbers.truncate(chance.below(9)),
             1 => self.numbers.resize(chance.pick(&[10, 11]), 7),
             2 => self.id = LARGEST_VLONG + chance.below(2) as u64,
@@ -212,6 +222,7 @@ impl StatisticsDraft {
     fn shown(&self, found: Difference) -> Difference {
         found
             .with("call", "fq_write_statistics")
+            .with("version", self.version)
             .with("id", self.id)
             .with("numbers", format!("{:?}", self.numbers))
     }
@@ -221,6 +232,7 @@ impl StatisticsDraft {
 /// its key and of its value in the bytes. A part has as many bytes as there are.
 #[derive(Clone, Debug)]
 pub struct EntriesDraft {
+    pub version: u8,
     pub id: u64,
     pub values: bool,
     pub bytes: Vec<u8>,
@@ -256,6 +268,14 @@ impl EntriesDraft {
         }
     }
 
+    pub fn asked(&self) -> Asked {
+        Asked {
+            version: self.version,
+            op: self.op(),
+            flag: false,
+        }
+    }
+
     pub fn written(&self, out: &mut [u8]) -> Result<usize, u8> {
         let reply = Reply {
             id: self.id,
@@ -263,7 +283,7 @@ impl EntriesDraft {
             entries: self.entries(),
             ..Reply::default()
         };
-        write_reply(self.op(), false, &reply, out)
+        write_reply(self.asked(), &reply, out)
     }
 
     pub fn parts(&self) -> EntryParts<'_> {
@@ -279,6 +299,7 @@ impl EntriesDraft {
     pub fn any(chance: &mut Chance, count: usize) -> EntriesDraft {
         let room = chance.pick(&[0, 1, 300, 1000]);
         let mut draft = EntriesDraft {
+            version: chance.pick(&[12, 20]),
             id: make::long(chance),
             values: chance.one_in(2),
             bytes: chance.bytes(room),
@@ -307,7 +328,8 @@ impl EntriesDraft {
 
     /// Changes one thing, often so that a rule is broken.
     pub fn damage(&mut self, chance: &mut Chance) {
-        match chance.below(9) {
+        match chance.below(10) {
+            9 => self.version = odd_version(chance),
             0 => self.id = chance.pick(&[LARGEST_VLONG, LARGEST_VLONG + 1, u64::MAX]),
             1 => self.values = !self.values,
             2 => self.numbers.truncate(chance.up_to(self.numbers.len())),
@@ -380,10 +402,20 @@ impl EntriesDraft {
     pub fn shown(&self, found: Difference) -> Difference {
         found
             .with("call", "fq_write_entries")
+            .with("version", self.version)
             .with("id", self.id)
             .with("values", self.values)
             .with("numbers", format!("{:?}", self.numbers))
             .bytes("bytes", &self.bytes)
+    }
+}
+
+/// A served version, a neighbour of one, or any byte.
+fn odd_version(chance: &mut Chance) -> u8 {
+    match chance.below(3) {
+        0 => chance.pick(&[9, 13, 19, 21]),
+        1 => chance.byte(),
+        _ => chance.pick(&VERSIONS),
     }
 }
 
@@ -464,6 +496,7 @@ pub fn replies<S: Subject>(trial: &mut Trial<S>) -> Outcome {
 
 pub fn statistics<S: Subject>(trial: &mut Trial<S>) -> Outcome {
     let mut draft = StatisticsDraft {
+        version: trial.chance.pick(&VERSIONS),
         id: make::long(&mut trial.chance),
         numbers: make::statistics(&mut trial.chance).to_vec(),
     };
@@ -508,7 +541,7 @@ pub fn check_entries_in<S: Subject>(
     };
     let code = trial
         .subject
-        .write_entries(out.slice_mut(), draft.id, parts);
+        .write_entries(out.slice_mut(), draft.version, draft.id, parts);
     trial.counts.message(code);
     same("the return code", write_code(answer), code)
         .and_then(|()| out.same("the buffer, with a margin on both sides", &expected))
@@ -523,9 +556,10 @@ fn check_statistics<S: Subject>(trial: &mut Trial<S>, draft: &StatisticsDraft) -
     let mut out = Lent::random(&mut trial.chance, room);
     let mut expected = out.clone();
     let answer = draft.written(expected.slice_mut());
-    let code = trial
-        .subject
-        .write_statistics(out.slice_mut(), draft.id, &draft.numbers);
+    let code =
+        trial
+            .subject
+            .write_statistics(out.slice_mut(), draft.version, draft.id, &draft.numbers);
     trial.counts.message(code);
     same("the return code", write_code(answer), code)
         .and_then(|()| out.same("the buffer, with a margin on both sides", &expected))

@@ -97,7 +97,7 @@ fn receive(mut stream: &TcpStream, requests: Vec<Request>) -> Result<Vec<Call>, 
     let (mut bytes, mut calls, mut more) = (Vec::new(), Vec::new(), [0; 65536]);
     for request in requests {
         loop {
-            match read_reply(request.operation, request.wants_old_value(), &bytes) {
+            match read_reply(request.asked(), &bytes) {
                 Read::Whole(_, size) => break calls.push((request, bytes.drain(..size).collect())),
                 Read::Refused(number) => {
                     return Err(format!("refused {number}: {bytes:02x?} to {request:?}").into())

@@ -208,18 +208,21 @@ fn replies_worked_out_by_hand() {
         let reply = bulk_reply(operation, 300, entries);
         let whole = Read::Whole(reply.clone(), form.len());
         for flag in [false, true] {
-            assert_eq!(read_reply(operation, flag, &form), whole);
+            assert_eq!(read_reply(asked(operation, flag), &form), whole);
             let behind = [&form[..], &[1, 2]].concat();
-            assert_eq!(read_reply(operation, flag, &behind), whole);
+            assert_eq!(read_reply(asked(operation, flag), &behind), whole);
             let mut out = vec![0xee; form.len() + 3];
-            let written = write_reply(operation, flag, &reply, &mut out);
+            let written = write_reply(asked(operation, flag), &reply, &mut out);
             assert_eq!(written, Ok(form.len()));
             assert_eq!(out, [&form[..], &[0xee; 3]].concat());
         }
         for end in 0..form.len() {
-            assert_eq!(read_reply(operation, false, &form[..end]), Read::More);
+            assert_eq!(
+                read_reply(asked(operation, false), &form[..end]),
+                Read::More
+            );
             let mut short = vec![0xee; end];
-            let written = write_reply(operation, false, &reply, &mut short);
+            let written = write_reply(asked(operation, false), &reply, &mut short);
             assert_eq!(written, Err(12));
             assert_eq!(short, vec![0xee; end]);
         }
@@ -228,7 +231,7 @@ fn replies_worked_out_by_hand() {
 
 #[test]
 fn replies_that_are_refused() {
-    let read = |form: &str| read_reply(BULK_GET, false, &hex(form));
+    let read = |form: &str| read_reply(asked(BULK_GET, false), &hex(form));
     let front = "a1 01 1a 00 00";
     assert_eq!(read("a1 01 20"), Read::Refused(4));
     assert_eq!(read("a1 01 1e"), Read::Refused(4));
@@ -246,7 +249,7 @@ fn replies_that_are_refused() {
     assert_eq!(read(&format!("{front} 01 01 6b 8000")), Read::Refused(5));
     assert_eq!(read(&format!("{front} 01 01 6b 00 02")), Read::Refused(8));
     assert_eq!(read(&format!("{front} 01 01 6b 00 01")), Read::More);
-    let keys = |form: &str| read_reply(BULK_GET_KEYS, false, &hex(form));
+    let keys = |form: &str| read_reply(asked(BULK_GET_KEYS, false), &hex(form));
     assert_eq!(keys("a1 01 1a"), Read::Refused(4));
     assert_eq!(keys("a1 01 1e 02"), Read::Refused(8));
     assert_eq!(keys("a1 01 1e 00 00 01 41"), Read::Refused(6));
@@ -260,14 +263,14 @@ fn an_error_reply_to_a_bulk_request() {
     let error = error_reply(1, 9).unwrap();
     for operation in [BULK_GET, BULK_GET_KEYS] {
         assert_eq!(
-            read_reply(operation, true, &form),
+            read_reply(asked(operation, true), &form),
             Read::Whole(error.clone(), form.len())
         );
         let with_entries = Reply {
             entries: three(),
             ..error.clone()
         };
-        let written = write_reply(operation, false, &with_entries, &mut [0; 600]);
+        let written = write_reply(asked(operation, false), &with_entries, &mut [0; 600]);
         assert_eq!(written, Err(16));
     }
 }
@@ -284,22 +287,34 @@ fn the_129th_entry() {
         for _ in 0..MOST_LISTED {
             form.extend(entry);
         }
-        assert_eq!(read_reply(operation, false, &form), Read::More);
+        assert_eq!(read_reply(asked(operation, false), &form), Read::More);
         let with = |byte: u8| [&form[..], &[byte]].concat();
         let whole = bulk_reply(operation, 1, vec![listed(b"", b""); 128]);
         assert_eq!(
-            read_reply(operation, false, &with(0)),
+            read_reply(asked(operation, false), &with(0)),
             Read::Whole(whole.clone(), form.len() + 1)
         );
-        assert_eq!(read_reply(operation, false, &with(1)), Read::Refused(6));
-        assert_eq!(read_reply(operation, false, &with(2)), Read::Refused(8));
+        assert_eq!(
+            read_reply(asked(operation, false), &with(1)),
+            Read::Refused(6)
+        );
+        assert_eq!(
+            read_reply(asked(operation, false), &with(2)),
+            Read::Refused(8)
+        );
         let mut out = vec![0; ROOM];
-        let written = write_reply(operation, false, &whole, &mut out);
+        let written = write_reply(asked(operation, false), &whole, &mut out);
         assert_eq!(written, Ok(form.len() + 1));
         assert_eq!(out[..=form.len()], with(0));
         let more = bulk_reply(operation, 1, vec![listed(b"", b""); 129]);
-        assert_eq!(write_reply(operation, false, &more, &mut out), Err(16));
-        assert_eq!(write_reply(operation, false, &more, &mut []), Err(16));
+        assert_eq!(
+            write_reply(asked(operation, false), &more, &mut out),
+            Err(16)
+        );
+        assert_eq!(
+            write_reply(asked(operation, false), &more, &mut []),
+            Err(16)
+        );
     }
 }
 
@@ -313,17 +328,26 @@ fn entries_that_have_no_written_form() {
         (BULK_GET_KEYS, listed(b"", b"v")),
     ] {
         let reply = bulk_reply(operation, 1, vec![entry]);
-        assert_eq!(write_reply(operation, false, &reply, &mut out), Err(16));
+        assert_eq!(
+            write_reply(asked(operation, false), &reply, &mut out),
+            Err(16)
+        );
     }
     for operation in [GET, STATS, PING] {
         let reply = bulk_reply(operation, 1, three());
-        assert_eq!(write_reply(operation, false, &reply, &mut out), Err(16));
+        assert_eq!(
+            write_reply(asked(operation, false), &reply, &mut out),
+            Err(16)
+        );
     }
     let value = Reply {
         value: b"v".to_vec(),
         ..bulk_reply(BULK_GET, 1, three())
     };
-    assert_eq!(write_reply(BULK_GET, false, &value, &mut out), Err(16));
+    assert_eq!(
+        write_reply(asked(BULK_GET, false), &value, &mut out),
+        Err(16)
+    );
     assert_eq!(out, vec![0xee; ROOM]);
 }
 
@@ -342,7 +366,7 @@ fn the_longest_replies() {
             (Verdict::Served, length)
         );
         assert!(room[length..].iter().all(|byte| *byte == 0xee));
-        let Read::Whole(reply, _) = read_reply(operation, false, &room) else {
+        let Read::Whole(reply, _) = read_reply(asked(operation, false), &room) else {
             panic!("the reply is not read");
         };
         assert_eq!(reply.entries.len(), 128);

@@ -28,10 +28,11 @@ impl Dice {
         let value = self.bytes(5);
         let mut given = request(operation, &key, &value);
         given.id = self.roll(1 << 30) << self.roll(33);
-        if operation != BULK_GET_KEYS {
-            given.version = 10 + self.roll(3) as u8;
+        let version = VERSIONS[self.roll(4) as usize];
+        if serves(version, operation) {
+            given.version = version;
         }
-        given.flags = self.roll(if given.version == 12 { 8 } else { 2 }) as u32;
+        given.flags = self.roll(u64::from(greatest_flags(given.version)) + 1) as u32;
         given.intelligence = 1 + self.roll(3) as u8;
         if sends_value(operation) {
             given.lifespan = self.roll(1000) as u32;
@@ -79,9 +80,13 @@ fn replies_read_are_written_as_read() {
     let mut whole = 0;
     for _ in 0..200_000 {
         let op = SERVED[dice.roll(SERVED.len() as u64) as usize];
-        let flag = dice.roll(2) == 1;
+        let asked = Asked {
+            version: VERSIONS[dice.roll(4) as usize],
+            op,
+            flag: dice.roll(2) == 1,
+        };
         let code = if dice.roll(4) == 0 { ERROR } else { op + 1 };
-        let status = if code == ERROR { 0x81 } else { 0 } + dice.roll(4) as u8;
+        let status = if code == ERROR { 0x81 } else { 0 } + dice.roll(5) as u8;
         let mut bytes = vec![
             0xa1,
             dice.roll(128) as u8,
@@ -91,9 +96,9 @@ fn replies_read_are_written_as_read() {
         ];
         bytes.extend(dice.bytes(3).iter().map(|byte| byte % 4));
         bytes.extend(dice.bytes(9));
-        if let Read::Whole(reply, taken) = read_reply(op, flag, &bytes) {
+        if let Read::Whole(reply, taken) = read_reply(asked, &bytes) {
             let mut out = [0; 300];
-            assert_eq!(write_reply(op, flag, &reply, &mut out), Ok(taken));
+            assert_eq!(write_reply(asked, &reply, &mut out), Ok(taken));
             assert_eq!(out[..taken], bytes[..taken]);
             whole += 1;
         }
@@ -133,8 +138,7 @@ fn serving_is_reading_and_stepping_and_writing() {
             }
             Read::Whole(request, taken) => {
                 assert_eq!(answer.taken, taken);
-                let flag = request.flags % 2 == 1;
-                let read = read_reply(request.operation, flag, sent);
+                let read = read_reply(request.asked(), sent);
                 let mut again = before.clone();
                 match step(&request, second, &mut again) {
                     Ok(reply) => assert_eq!(read, Read::Whole(reply, sent.len())),
@@ -180,7 +184,7 @@ fn no_bytes_make_a_reader_panic() {
     for _ in 0..40_000 {
         let bytes = dice.bytes(40);
         let _ = read_request(&bytes);
-        let _ = read_reply(dice.roll(256) as u8, dice.roll(2) == 0, &bytes);
+        let _ = read_reply(asked(dice.roll(256) as u8, dice.roll(2) == 0), &bytes);
         let _ = serve_line(&bytes, &mut Table::default());
         let _ = load(&bytes);
         let _ = is_text(&bytes);

@@ -2,7 +2,7 @@
 
 use reference::hex::{from_digits, to_string};
 use reference::operation::{sends_entry_version, sends_key, sends_value, BULK_GET_KEYS};
-use reference::{step, write_request, Entry, History, Reply, Request, Table};
+use reference::{step, write_request, Asked, Entry, History, Reply, Request, Table};
 
 /// The five request lines of the scope paper.
 pub const FIVE_REQUESTS: &str = "\
@@ -47,6 +47,15 @@ pub fn bare(operation: u8) -> Request {
         operation,
         intelligence: 1,
         ..Request::default()
+    }
+}
+
+/// What a reply answers, in version 12.
+pub fn asked(op: u8, flag: bool) -> Asked {
+    Asked {
+        version: 12,
+        op,
+        flag,
     }
 }
 

@@ -16,3 +16,4 @@ mod stats;
 mod stored;
 mod stream;
 mod text;
+mod two;

@@ -168,14 +168,14 @@ fn message_cases() {
     let expected = "whole 18 id=128 operation=18 status=0 version=1 value=496461 text=\n\
                     whole 15 id=0 operation=80 status=129 version=0 value= text=626164206d61676963\n\
                     more\n";
-    assert_eq!(cases(&["reply", "11", "0"], input), expected);
-    assert_eq!(cases(&["reply", "1b", "0"], "\n"), "refused 4\n");
+    assert_eq!(cases(&["reply", "12", "11", "0"], input), expected);
+    assert_eq!(cases(&["reply", "12", "1b", "0"], "\n"), "refused 4\n");
     let input = format!("{}\n", FRESH.replace(' ', ""));
     let expected = "whole 137 id=1 operation=22 status=0 version=0 value= text= \
                     statistics=[0, 0, 0, 0, 0, 0, 0, 0, 0]\n";
-    assert_eq!(cases(&["reply", "15", "0"], &input), expected);
+    assert_eq!(cases(&["reply", "12", "15", "0"], &input), expected);
     assert_eq!(
-        cases(&["reply", "01", "1"], "a10102000000\n"),
+        cases(&["reply", "12", "01", "1"], "a10102000000\n"),
         "whole 6 id=1 operation=2 status=0 version=0 value= text=\n"
     );
 }
@@ -189,10 +189,10 @@ fn bulk_message_cases() {
     let input = "a1011a000001026231034964610100000\na1011a0000010262310349646101000000\n";
     let expected = "not a case\nwhole 17 id=1 operation=26 status=0 version=0 value= text= \
                     entries=2 6231:496461 :\n";
-    assert_eq!(cases(&["reply", "19", "0"], input), expected);
+    assert_eq!(cases(&["reply", "12", "19", "0"], input), expected);
     let input = "a1011e000000\n";
     let expected = "whole 6 id=1 operation=30 status=0 version=0 value= text= entries=0\n";
-    assert_eq!(cases(&["reply", "1d", "0"], input), expected);
+    assert_eq!(cases(&["reply", "12", "1d", "0"], input), expected);
 }
 
 #[test]
@@ -200,7 +200,7 @@ fn wrong_words_give_the_usage() {
     for words in [
         &[][..],
         &["number", "6"],
-        &["reply", "01", "2"],
+        &["reply", "12", "01", "2"],
         &["serve"],
         &["limited", "x"],
     ] {

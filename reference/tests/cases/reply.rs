@@ -1,4 +1,4 @@
-use crate::help::{digits, hex};
+use crate::help::{asked, digits, hex};
 use reference::operation::*;
 use reference::{error_reply, read_reply, write_reply, Read, Reply};
 
@@ -24,12 +24,12 @@ fn error(status: u8, text: &[u8]) -> Reply {
 
 fn written(op: u8, flag: bool, reply: &Reply) -> Result<String, u8> {
     let mut out = [0; 600];
-    let length = write_reply(op, flag, reply, &mut out)?;
+    let length = write_reply(asked(op, flag), reply, &mut out)?;
     Ok(digits(&out[..length]))
 }
 
 fn read(op: u8, flag: bool, form: &str) -> Read<Reply> {
-    read_reply(op, flag, &hex(form))
+    read_reply(asked(op, flag), &hex(form))
 }
 
 #[test]
@@ -303,20 +303,23 @@ fn the_longest_reply_and_all_its_beginnings() {
     };
     let mut out = [5; 300];
     assert_eq!(
-        write_reply(GET_WITH_VERSION, false, &longest, &mut out),
+        write_reply(asked(GET_WITH_VERSION, false), &longest, &mut out),
         Ok(279)
     );
     assert_eq!(out[279..], [5; 21]);
     for end in 0..279 {
-        assert_eq!(read_reply(GET_WITH_VERSION, false, &out[..end]), Read::More);
+        assert_eq!(
+            read_reply(asked(GET_WITH_VERSION, false), &out[..end]),
+            Read::More
+        );
     }
     assert_eq!(
-        read_reply(GET_WITH_VERSION, false, &out),
+        read_reply(asked(GET_WITH_VERSION, false), &out),
         Read::Whole(longest.clone(), 279)
     );
     let mut short = [5; 278];
     assert_eq!(
-        write_reply(GET_WITH_VERSION, false, &longest, &mut short),
+        write_reply(asked(GET_WITH_VERSION, false), &longest, &mut short),
         Err(12)
     );
     assert_eq!(short, [5; 278]);
@@ -325,7 +328,7 @@ fn the_longest_reply_and_all_its_beginnings() {
         ..longest
     };
     assert_eq!(
-        write_reply(GET_WITH_VERSION, false, &bad, &mut short),
+        write_reply(asked(GET_WITH_VERSION, false), &bad, &mut short),
         Err(16)
     );
 }

@@ -50,7 +50,7 @@ fn refusals_1_to_8_take_nothing_and_send_the_error() {
         assert_eq!(table, table_of(3));
         let mut out = [0; 512];
         let error = error_reply(id, number).unwrap();
-        let length = write_reply(PING, false, &error, &mut out).unwrap();
+        let length = write_reply(asked(PING, false), &error, &mut out).unwrap();
         assert_eq!(reply, digits(&out[..length]));
     }
 }

@@ -42,7 +42,7 @@ fn stats_reply(id: u64, statistics: Statistics) -> Reply {
 }
 
 fn read(form: &[u8]) -> Read<Reply> {
-    read_reply(STATS, false, form)
+    read_reply(asked(STATS, false), form)
 }
 
 /// What a call at this second is told.
@@ -81,12 +81,18 @@ fn replies_worked_out_by_hand() {
         let reply = stats_reply(id, numbers);
         assert_eq!(read(&form), Read::Whole(reply.clone(), form.len()));
         let mut out = vec![0xee; form.len() + 3];
-        assert_eq!(write_reply(STATS, true, &reply, &mut out), Ok(form.len()));
+        assert_eq!(
+            write_reply(asked(STATS, true), &reply, &mut out),
+            Ok(form.len())
+        );
         assert_eq!(out, [&form[..], &[0xee; 3]].concat());
         for end in 0..form.len() {
             assert_eq!(read(&form[..end]), Read::More, "{end}");
             let mut short = vec![0xee; end];
-            assert_eq!(write_reply(STATS, false, &reply, &mut short), Err(12));
+            assert_eq!(
+                write_reply(asked(STATS, false), &reply, &mut short),
+                Err(12)
+            );
             assert_eq!(short, vec![0xee; end]);
         }
     }
@@ -96,7 +102,10 @@ fn replies_worked_out_by_hand() {
 fn the_longest_reply_has_307_bytes() {
     let longest = stats_reply(LARGEST, [LARGEST; 9]);
     let mut out = [0; 512];
-    assert_eq!(write_reply(STATS, false, &longest, &mut out), Ok(307));
+    assert_eq!(
+        write_reply(asked(STATS, false), &longest, &mut out),
+        Ok(307)
+    );
     assert_eq!(read(&out), Read::Whole(longest, 307));
 }
 
@@ -106,14 +115,20 @@ fn a_number_above_the_largest_vlong_is_16() {
         let mut numbers = [1; 9];
         numbers[place] = LARGEST + 1;
         let reply = stats_reply(1, numbers);
-        assert_eq!(write_reply(STATS, false, &reply, &mut [0; 512]), Err(16));
-        assert_eq!(write_reply(STATS, false, &reply, &mut []), Err(16));
+        assert_eq!(
+            write_reply(asked(STATS, false), &reply, &mut [0; 512]),
+            Err(16)
+        );
+        assert_eq!(write_reply(asked(STATS, false), &reply, &mut []), Err(16));
     }
     let other = Reply {
         operation: 0x18,
         ..stats_reply(1, [0, 0, 0, 1, 0, 0, 0, 0, 0])
     };
-    assert_eq!(write_reply(PING, false, &other, &mut [0; 512]), Err(16));
+    assert_eq!(
+        write_reply(asked(PING, false), &other, &mut [0; 512]),
+        Err(16)
+    );
 }
 
 #[test]
@@ -122,13 +137,16 @@ fn an_error_reply_to_stats() {
     let error = error_reply(1, 9).unwrap();
     assert_eq!(read(&form), Read::Whole(error.clone(), form.len()));
     let mut out = [0; 19];
-    assert_eq!(write_reply(STATS, false, &error, &mut out), Ok(19));
+    assert_eq!(write_reply(asked(STATS, false), &error, &mut out), Ok(19));
     assert_eq!(out[..], form);
     let with_numbers = Reply {
         statistics: BUSY_NUMBERS,
         ..error
     };
-    assert_eq!(write_reply(STATS, false, &with_numbers, &mut out), Err(16));
+    assert_eq!(
+        write_reply(asked(STATS, false), &with_numbers, &mut out),
+        Err(16)
+    );
 }
 
 #[test]

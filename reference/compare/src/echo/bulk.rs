@@ -73,11 +73,11 @@ impl Echo {
             Some(Fault::BulkEndsWithOne) => message.splice(message.len() - 1.., [1]).for_each(drop),
             _ => {}
         }
-        let Read::Whole(mut reply, _) = read_reply(operation, false, message) else {
+        let Read::Whole(mut reply, _) = read_reply(call.request.asked(), message) else {
             return;
         };
         if self.change_listed(call, table, &mut reply.entries) {
-            *message = reference::reply::reply_bytes(operation, false, &reply);
+            *message = reference::reply::reply_bytes(call.request.asked(), &reply);
         }
     }
 
@@ -115,7 +115,7 @@ impl Echo {
         if !is_bulk(asked.op) {
             return None;
         }
-        let is_whole = |bytes: &[u8]| match read_reply(asked.op, asked.flag, bytes) {
+        let is_whole = |bytes: &[u8]| match read_reply(asked, bytes) {
             Read::Whole(_, taken) => taken == bytes.len(),
             _ => false,
         };
@@ -182,8 +182,15 @@ impl Echo {
     }
 
     /// Writes a bulk reply.
-    pub(super) fn entries_to(&self, out: &mut [u8], id: u64, entries: EntryParts) -> u64 {
+    pub(super) fn entries_to(
+        &self,
+        out: &mut [u8],
+        version: u8,
+        id: u64,
+        entries: EntryParts,
+    ) -> u64 {
         let mut draft = EntriesDraft {
+            version,
             id,
             values: entries.values,
             bytes: entries.bytes.to_vec(),
@@ -232,7 +239,7 @@ fn all_listed(request: &Request, second: u32, table: &Table) -> Vec<Listed> {
         ..request.clone()
     };
     let (message, _) = answer_request(&request, second, &mut table.clone());
-    match read_reply(request.operation, false, &message) {
+    match read_reply(request.asked(), &message) {
         Read::Whole(reply, _) => reply.entries,
         _ => Vec::new(),
     }

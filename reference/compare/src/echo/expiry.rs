@@ -132,7 +132,7 @@ impl Echo {
         if request.operation != STATS {
             return;
         }
-        let Read::Whole(mut reply, _) = read_reply(STATS, false, message) else {
+        let Read::Whole(mut reply, _) = read_reply(request.asked(), message) else {
             return;
         };
         match (self.fault, before.history.first) {
@@ -145,7 +145,7 @@ impl Echo {
             }
             _ => return,
         }
-        *message = reply_bytes(STATS, false, &reply);
+        *message = reply_bytes(request.asked(), &reply);
     }
 
     /// A fault in the bound that is written; `before` stood there.

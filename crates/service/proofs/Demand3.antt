@@ -16,6 +16,7 @@ use Rattle.service.specs.Serve.{served}
 use Rattle.service.specs.Stream.{Call, Done, Run}
 use Rattle.service.specs.Demand3.{ahead, SameCalls, Independent, SameBut, Demand3}
 use Rattle.service.proofs.Served.{served-calls}
+use Rattle.service.proofs.Like.{Same}
 use Rattle.service.proofs.Ahead.{ahead-independent}
 
 split : (a : List Request) (r : Request) (b : List Request) → WellFormed (a ++ (r ∷ b)) → WellFormed a × Valid request r
@@ -30,18 +31,26 @@ apart [] r b tail = append-assoc (request .enc r) (written b) tail
 apart (x ∷ a) r b tail =
     append-assoc (request .enc x) (written (a ++ (r ∷ b))) tail ∙ (rw (apart a r b tail) (sym (append-assoc (request .enc x) (written a) (request .enc r ++ (written b ++ tail)))))
 
+-- from tables of one state
+pub values-from : (before behind : List Request) (r : Request) (w tail table table′ : List ℕ) (calls calls′ : List Call) (dones dones′ : List Done)
+    → WellFormed (before ++ (r ∷ behind)) → length w ≡ length (r .args .value) → Bytes w → Same table table′ → SameCalls calls calls′
+    → Run (written (before ++ (r ∷ behind)) ++ tail) table calls dones
+    → Run (written (before ++ (withValue w r ∷ behind)) ++ tail) table′ calls′ dones′
+    → Independent (r .args .value) w (ahead (length before)) (written (before ++ (r ∷ behind)) ++ tail) table calls calls′ dones dones′
+values-from before behind r w tail table table′ cs cs′ ds ds′ v len b g m x y =
+    let z = split before r behind v in
+    subst (λ (input : List ℕ). Independent (r .args .value) w (ahead (length before)) input table cs cs′ ds ds′) (sym (apart before r behind tail))
+    (ahead-independent r w len (z .1) (value-valid r w (z .1) len b) (written behind ++ tail) before (z .0) table table′ cs cs′ ds ds′ g m
+    (subst (λ (input : List ℕ). Run input table cs ds) (apart before r behind tail) x)
+    (subst (λ (input : List ℕ). Run input table′ cs′ ds′) (apart before (withValue w r) behind tail) y))
+
 values : (before behind : List Request) (r : Request) (w tail table : List ℕ) (calls calls′ : List Call) (dones dones′ : List Done)
     → WellFormed (before ++ (r ∷ behind)) → length w ≡ length (r .args .value) → Bytes w → SameCalls calls calls′
     → Run (written (before ++ (r ∷ behind)) ++ tail) table calls dones
     → Run (written (before ++ (withValue w r ∷ behind)) ++ tail) table calls′ dones′
     → Independent (r .args .value) w (ahead (length before)) (written (before ++ (r ∷ behind)) ++ tail) table calls calls′ dones dones′
 values before behind r w tail table cs cs′ ds ds′ v len b m x y =
-    let z = split before r behind v in
-    subst (λ (input : List ℕ). Independent (r .args .value) w (ahead (length before)) input table cs cs′ ds ds′) (sym (apart before r behind tail))
-    (ahead-independent r w len (z .1) (value-valid r w (z .1) len b) (written behind ++ tail) before (z .0) table table cs cs′ ds ds′
-    (record { state = refl; sounds = refl }) m
-    (subst (λ (input : List ℕ). Run input table cs ds) (apart before r behind tail) x)
-    (subst (λ (input : List ℕ). Run input table cs′ ds′) (apart before (withValue w r) behind tail) y))
+    values-from before behind r w tail table table cs cs′ ds ds′ v len b (record { state = refl; sounds = refl }) m x y
 
 around : (f x l u b : List ℕ) → x ≡ l ++ u → f ++ (x ++ b) ≡ (f ++ l) ++ (u ++ b)
 around f x l u b e = rw (e, append-assoc l u b, append-assoc f l (u ++ b))

@@ -11,7 +11,7 @@ use Rattle.map.specs.Step.{Context, answered}
 use Rattle.map.proofs.Expiry.{shows-standing, rises-after}
 use Rattle.table.specs.Memory.{stateOf}
 use Rattle.service.specs.Serve.{Effect, serve}
-use Rattle.service.specs.Stream.{Call, Done, Becomes, Run, run-end, run-call}
+use Rattle.service.specs.Stream.{Call, Done, Becomes, Serves, Run, run-end, run-call}
 use Rattle.service.specs.Expiry.{Sends, silence, error, reply, AllInTime, Rises}
 use Rattle.service.proofs.Decides.{isSound}
 use Rattle.service.proofs.Sounds.{tells-sound, effectIn, does-in}
@@ -49,9 +49,10 @@ all-in-time input t (c ∷ cs) (d ∷ ds) (run-call x xs) = (
   all-in-time (drop (d .answer .taken) input) (d .table) cs ds xs,
 )
 
+pub call-later : {input t : List ℕ} {c : Call} {d : Done} → Serves input t c d → stateOf t .history .latest ≤ stateOf (d .table) .history .latest
+call-later {input} {t} {c} {d} x =
+    left-later (c .context) t (d .table) (effectIn input t c .next) (no-lower (c .context) (stateOf t) input (isSound t) (length (c .buffer))) (does-in x .table)
+
 pub rises : (input t : List ℕ) (cs : List Call) (ds : List Done) → Run input t cs ds → Rises (stateOf t .history .latest) ds
 rises input t [] [] run-end = tt
-rises input t (c ∷ cs) (d ∷ ds) (run-call x xs) = (
-  left-later (c .context) t (d .table) (effectIn input t c .next) (no-lower (c .context) (stateOf t) input (isSound t) (length (c .buffer))) (does-in x .table),
-  rises (drop (d .answer .taken) input) (d .table) cs ds xs,
-)
+rises input t (c ∷ cs) (d ∷ ds) (run-call x xs) = (call-later x, rises (drop (d .answer .taken) input) (d .table) cs ds xs)

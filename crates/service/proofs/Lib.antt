@@ -21,3 +21,5 @@ pub mod Gets
 pub mod Linear
 pub mod Laid
 pub mod Apart
+pub mod Made
+pub mod Paired

@@ -14,7 +14,7 @@ use Rattle.map.specs.Issued.{IssuedOnce}
 use Rattle.map.proofs.Laws.{Next, issues-after, once-none, once-next}
 use Rattle.table.specs.Memory.{stateOf}
 use Rattle.service.specs.Serve.{Effect, serve}
-use Rattle.service.specs.Stream.{Call, Done, Becomes, Run, run-end, run-call}
+use Rattle.service.specs.Stream.{Call, Done, Becomes, Serves, Run, run-end, run-call}
 use Rattle.service.proofs.Decides.{isSound}
 use Rattle.service.proofs.Sounds.{effectIn, does-in}
 use Rattle.service.proofs.Calls.{every-call}
@@ -32,10 +32,12 @@ next-left : (t t′ : List ℕ) (n : Option State) → NextState (stateOf t) n �
 next-left t t′ none h l = inl (ap (λ (u : List ℕ). stateOf u .last) l)
 next-left t t′ (some st) h l = rw (l .0) h
 
+pub call-next : {input t : List ℕ} {c : Call} {d : Done} → Serves input t c d → Next (stateOf t .last) (stateOf (d .table) .last)
+call-next {input} {t} {c} {d} x =
+    next-left t (d .table) (effectIn input t c .next) (on-call (c .context) (stateOf t) input (isSound t) (length (c .buffer))) (does-in x .table)
+
 pub never-twice : (input t : List ℕ) (cs : List Call) (ds : List Done) → Run input t cs ds
     → IssuedOnce (stateOf t .last) (map (λ (d : Done). stateOf (d .table) .last) ds)
 never-twice input t [] [] run-end = once-none (stateOf t .last)
 never-twice input t (c ∷ cs) (d ∷ ds) (run-call x xs) =
-    once-next (stateOf t .last) (stateOf (d .table) .last) _
-    (next-left t (d .table) (effectIn input t c .next) (on-call (c .context) (stateOf t) input (isSound t) (length (c .buffer))) (does-in x .table))
-    (never-twice (drop (d .answer .taken) input) (d .table) cs ds xs)
+    once-next (stateOf t .last) (stateOf (d .table) .last) _ (call-next x) (never-twice (drop (d .answer .taken) input) (d .table) cs ds xs)

@@ -10,3 +10,5 @@ pub mod Turns
 pub mod Edges
 pub mod Shares
 pub mod Linear
+pub mod Made
+pub mod Paired

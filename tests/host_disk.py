@@ -3,12 +3,14 @@
 A limit on the size of files stands for a full disk, and can be lifted while the server runs; a small tmpfs is filled too.
 """
 import os
+import re
 import resource
 import signal
 import subprocess
 import time
 
-from board_frames import GET, PUT, entry_line, frame, head_line
+from board_frames import BULK_GET, GET, PING, PUT, PUT_IF_ABSENT, REMOVE, STATS, entry_line, frame, head_line
+from host_clients import reset
 from host_run import Bench, Host, SECONDS, demand, is_permitted, preloaded, read_file, run_part, short, together, until, write_file
 
 OLD = head_line(4) + entry_line(4, b'k', b'old')
@@ -59,23 +61,56 @@ def second(bench):
 
 
 def always(bench):
-    """With --sync always: no reply, to anybody, until there is room; then all of them, and nobody was idle meanwhile."""
-    with Limited(bench.table('always', OLD), '--sync', 'always', '--idle', '3') as host, host.connect() as one, host.connect() as other:
+    """With --sync always a write waits until there is room, and so does what its connection sent behind it. Reads are answered meanwhile, from the table as it was
+    stored last; what changes nothing is served, and an entry leaves by its deadline. Then all replies come, in order, and nobody was idle meanwhile."""
+    deadline = int(time.time()) + 4
+    old = head_line(4) + entry_line(3, b'leaves', b'soon', deadline) + entry_line(4, b'k', b'old')
+    with Limited(bench.table('always', old), '--sync', 'always', '--idle', '3') as host, host.connect() as one, host.connect() as other, host.connect() as third:
         demand(other.call(GET, key=b'k').value == b'old', 'a full disk', 'a get is not served, though nothing is to be stored')
-        crowd = [host.connect() for _ in range(CROWD)]
         one.send(frame(PUT, key=b'k', value=b'new'))
         until(lambda: "can't store the table" in host.words(), 'a full disk', 'nothing is said')
+        crowd = [host.connect() for _ in range(CROWD)]
         for caller in [other, *crowd]:
-            caller.send(frame(GET, key=b'k'))
-        one.silent('a put on a full disk', 4)
-        other.silent('a get behind a put on a full disk')
-        tidy(host, 'a full disk')
+            demand(caller.call(GET, key=b'k').value == b'old', 'a get behind a put on a full disk', 'another value')
+        # What is in front of a write is answered, and what is behind it waits with it.
+        third.send(frame(GET, key=b'k') * 3 + frame(PUT_IF_ABSENT, key=b'k') + frame(REMOVE, key=b'none') + frame(REMOVE, key=b'k') + frame(GET, key=b'k') + frame(PING))
+        values = [third.reply(GET).value for _ in range(3)] + [third.reply(PUT_IF_ABSENT).status, third.reply(REMOVE).status]
+        demand(values == [b'old'] * 3 + [1, 2], 'what changes nothing, in front of a write', f'{values}')
+        begin = statistics_of(other)
+        until(lambda: other.call(GET, key=b'leaves').status == 2, 'a deadline on a full disk', 'the entry stays', deadline - time.time() + SECONDS)
+        demand([key for key, _ in other.call(BULK_GET).entries] == [b'k'], 'a list on a full disk', 'other entries')
+        until(lambda: other.call(PING).status == 0 and re.search(r'nothing could be stored for \d+ seconds', host.words()), 'a full disk for long', f'it does not say how long: {host.words()}')
+        demand(statistics_of(other)[4] > begin[4] and statistics_of(other)[3] == begin[3], 'a full disk', f'the statistics are {statistics_of(other)}, and were {begin}')
+        gone = host.connect()
+        gone.send(frame(PUT, key=b'k', value=b'gone'))
+        gone.silent('a put on a full disk')
+        reset(gone)
+        for caller in (one, third):
+            caller.silent('a put on a full disk')
+        busy = host.busy()
+        time.sleep(1)
+        demand(host.busy() - busy < 0.5, 'a full disk', f'{host.busy() - busy} seconds of processor time in one')
+        demand(read_file(host.table) == old and host.words().count("can't store the table") == 1, 'a full disk', f'the file is {short(read_file(host.table))}; {host.words()}')
         lift(host)
-        demand(one.reply(PUT).status == 0 and read_file(host.table) == NEW, 'room again', f'the file is {short(read_file(host.table))} at the reply')
-        for caller in [other, *crowd]:
-            demand(caller.reply(GET).value == b'new', 'room again', 'another value')
+        demand(one.reply(PUT).status == 0, 'room again', 'the put is not done')
+        replies = [third.reply(REMOVE).status, third.reply(GET).status, third.reply(PING).status]
+        demand(replies == [0, 2, 0] and read_file(host.table) == head_line(5), 'room again', f'{replies}, the file is {short(read_file(host.table))} at the replies')
+        demand(re.search(r'the table is stored again, after \d+ seconds', host.words()), 'room again', f'it says {host.words()}')
+        demand(other.call(GET, key=b'k').status == 2, 'room again', 'another value')
+        demand(one.call(PUT, key=b'k', value=b'next').status == 0 and read_file(host.table) == head_line(6) + entry_line(6, b'k', b'next'), 'room again', 'a put is not stored')
+        for caller in crowd:
             caller.socket.close()
-    return 2 + CROWD
+    return 8 + CROWD
+
+
+def statistics_of(caller):
+    """The nine numbers of a stats reply: pairs of a name and a number in digits, in the order of the protocol."""
+    caller.send(frame(STATS))
+    head = caller.read(5, 'statistics')
+    demand(head[2:4] == bytes([STATS + 1, 0]), 'statistics', short(head))
+    count = caller.read(1, 'statistics')[0]
+    texts = [caller.read(caller.read(1, 'statistics')[0], 'statistics') for _ in range(2 * count)]
+    return [int(one) for one in texts[1::2]]
 
 
 def ends(bench):
@@ -93,7 +128,7 @@ def ends(bench):
                     lift(host)
                     demand(host.run.wait(timeout=SECONDS) == 0 and read_file(host.table) == NEW, case, f'{host.run.returncode} {host.words()}')
                 else:
-                    demand(host.stop() == 1 and 'ended before the table could be stored' in host.words(), case, f'{host.run.returncode} {host.words()}')
+                    demand(host.stop() == 1 and 'before the table could be stored' in host.words(), case, f'{host.run.returncode} {host.words()}')
                     tidy(host, case)
     return 4
 

@@ -1,5 +1,7 @@
 """Part 4: the table's file. Loading and what stores no table, when a change is stored, signals, the lock, rights and links, and the order of system calls."""
+import calendar
 import os
+import re
 import signal
 import stat
 import statistics
@@ -165,14 +167,68 @@ def steady(bench):
     return len(oldest)
 
 
+# Those that end a program and tell nothing of a fault of its own.
+ENDING = [signal.SIGHUP, signal.SIGINT, signal.SIGQUIT, signal.SIGUSR1, signal.SIGUSR2, signal.SIGALRM, signal.SIGTERM, signal.SIGXCPU, signal.SIGVTALRM, signal.SIGPROF,
+          signal.SIGIO, signal.SIGPWR, signal.SIGRTMIN, signal.SIGRTMAX]
+
+
 def signals(bench):
-    """SIGTERM and SIGINT store the table and end the server with status 0, also with connections open."""
-    for at, number in enumerate((signal.SIGTERM, signal.SIGINT)):
+    """Each signal that ends a program stores the table first and then ends the server with status 0, also with connections open. nohup's SIGHUP is ignored."""
+    for at, number in enumerate(ENDING):
         with Host(bench.table('signals', OLD)) as host, host.connect() as caller, host.connect():
             caller.call(PUT, key=b'late', value=b'%d' % at)
-            demand(host.stop(number) == 0, f'signal {number}', host.words())
+            demand(host.stop(number) == 0, f'signal {number}', f'it ended with {host.run.returncode}: {host.words()}')
             demand(entry_line(5, b'late', b'%d' % at) in read_file(host.table), f'signal {number}', short(read_file(host.table)))
-    return 2
+    with Host(bench.table('nohup', OLD), before=('nohup',)) as host, host.connect() as caller:
+        host.run.send_signal(signal.SIGHUP)
+        for _ in range(5):
+            demand(caller.call(PING).status == 0, 'SIGHUP behind nohup', f'it does not answer: {host.words()}')
+            time.sleep(0.05)
+        demand(host.stop() == 0, 'SIGTERM behind nohup', host.words())
+    return len(ENDING) + 1
+
+
+def second_signal(bench):
+    """A second signal while the table is stored at the end, which takes 1.4 seconds here: it ends at once, with a sentence and status 1, and the file is whole."""
+    case = 'a second signal'
+    with Host(bench.table('twice', OLD), env=preloaded(bench, 'slow_disk')) as host, host.connect() as caller:
+        caller.call(PUT, key=b'late')
+        host.run.send_signal(signal.SIGTERM)
+        time.sleep(0.2)
+        demand(host.run.poll() is None, case, f'it ended before the table was stored: {host.words()}')
+        demand(host.stop(signal.SIGHUP) == 1 and 'ended at once' in host.words(), case, f'it ended with {host.run.returncode}: {host.words()}')
+        demand(read_file(host.table) == OLD, case, f'the file is {short(read_file(host.table))}')
+    return 1
+
+
+def set_clocks(bench):
+    """The clock is set forward and back while it serves, and is behind the stored file at a start: each is told once, with both times; a smaller step is not."""
+    sign = os.path.join(bench.top, 'clock')
+    environment = preloaded(bench, 'set_clock', SET_CLOCK=sign)
+    table = bench.table('set', OLD)
+
+    def told(host, more):
+        """The number of warnings, and whether the last one has both times."""
+        found = re.findall(r'clock was set: it says (.*) UTC, and by the time that has passed it should be (.*) UTC', host.words())
+        times = [calendar.timegm(time.strptime(one, '%Y-%m-%d %H:%M:%S')) for one in (found[-1] if found else ())]
+        return len(found), bool(times) and abs(times[0] - times[1] - more) <= 5
+    with Host(table, env=environment) as host, host.connect() as caller:
+        last = 0
+        for count, offset in enumerate((40, 0, 150_000_000, 0, -100)):
+            write_file(sign, b'%d' % offset)
+            for _ in range(3):
+                caller.call(PING)
+            step, wanted = offset - last, (0, 0, 1, 2, 3)[count]
+            until(lambda: told(host, step)[0] >= wanted, f'the clock is set by {step} seconds', f'it says {host.words()}')
+            demand(told(host, step) == (wanted, wanted > 0 and told(host, step)[1]) and (not wanted or told(host, step)[1]), f'the clock is set by {step} seconds', f'it says {host.words()}')
+            last = offset
+        demand('does not go back: until the clock says 20' in host.words(), 'the clock is set back', host.words())
+        demand(host.stop() == 0, 'the end', host.words())
+    for offset, wanted in ((-100_000, 1), (0, 0)):
+        write_file(sign, b'%d' % offset)
+        with Host(table, env=environment) as host:
+            demand(host.words().count('warning: the table was stored at 20') == wanted, f'a clock that is {-offset} seconds behind the file', f'it says {host.words()}')
+    return 7
 
 
 def locked(bench):
@@ -265,7 +321,7 @@ def part():
     with Bench() as bench:
         deadlines, changes, load = together(lambda: seconds(bench), lambda: soon(bench), lambda: steady(bench))
         return (f'{loads(bench)} tables loaded, {deadlines} deadlines, {other_clocks(bench)} other clocks, {fails(bench)} wait that fails, {broken(bench)} broken, '
-                f'{names(bench)} wrong names and options, {changes} changes in a second, {load} under a steady load, {signals(bench)} signals, {locked(bench)} locks, '
+                f'{names(bench)} wrong names and options, {changes} changes in a second, {load} under a steady load, {signals(bench) + second_signal(bench)} signals, {set_clocks(bench)} set clocks, {locked(bench)} locks, '
                 f'{rights(bench)} rights, {order(bench)} order of calls')
 
 

@@ -24,6 +24,8 @@ pub struct Connection {
     pub pending: bool,
     /// It is among those to be served next.
     pub queued: bool,
+    /// Its next request is a change, and waits until the table can be stored.
+    pub held: bool,
     /// The client sends no more.
     ended: bool,
     /// The last reply was given; what comes behind it is passed over.
@@ -45,6 +47,7 @@ impl Connection {
             output: Buffer::new(REPLIES),
             pending: false,
             queued: false,
+            held: false,
             ended: false,
             leaving: false,
             until: None,
@@ -122,6 +125,11 @@ impl Connection {
 
     /// Whether there is something to serve and room for its replies.
     pub fn can_be_served(&self) -> bool {
+        self.can_be_tried() && !self.held
+    }
+
+    /// The same, where changes can be served too.
+    pub fn can_be_tried(&self) -> bool {
         self.pending && self.output.is_empty()
     }
 
@@ -135,6 +143,7 @@ impl Connection {
     pub fn is_late(&self, now: Instant, idle: Option<Duration>) -> bool {
         match (self.until, idle) {
             (Some(until), _) => now >= until,
+            _ if self.held => false,
             (None, Some(idle)) => now.duration_since(self.moved) >= idle,
             (None, None) => false,
         }
@@ -144,7 +153,7 @@ impl Connection {
     pub fn wanted(&self) -> u32 {
         if !self.output.is_empty() {
             WRITABLE
-        } else if self.ended {
+        } else if self.ended || self.held {
             0
         } else {
             READABLE

@@ -8,6 +8,7 @@ use std::os::unix::fs::{fchown, MetadataExt, OpenOptionsExt, PermissionsExt};
 use std::path::{Path, PathBuf};
 
 use crate::border::library::Table;
+use crate::clock::from_later;
 use crate::failure::{because, say, Failure};
 use crate::limits::LONGEST_FILE;
 
@@ -42,7 +43,11 @@ impl Keeper {
         };
         keeper.clean();
         let table = match keeper.rights()? {
-            Some(_) => keeper.load()?,
+            Some(rights) => {
+                let warning = rights.modified().ok().and_then(from_later);
+                warning.into_iter().for_each(say);
+                keeper.load()?
+            }
             None => keeper.make()?,
         };
         Ok((keeper, table))

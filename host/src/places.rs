@@ -79,6 +79,12 @@ impl Places {
         count
     }
 
+    /// The places whose connections wait until the table can be stored.
+    pub fn held(&self) -> Vec<usize> {
+        let is_held = |index: &usize| self.get(*index).is_some_and(|one| one.held);
+        (0..self.connections.len()).filter(is_held).collect()
+    }
+
     /// Counts the idle time of all from here on.
     pub fn begin_anew(&mut self, now: Instant) {
         for connection in self.connections.iter_mut().flatten() {

@@ -14,7 +14,12 @@ use crate::keeper::Keeper;
 /// storing.
 const STORE_AFTER: Duration = Duration::from_millis(500);
 /// How often a store that failed is tried again.
-const TRY_AGAIN: Duration = Duration::from_secs(1);
+pub const TRY_AGAIN: Duration = Duration::from_secs(1);
+/// How long storing fails until that is said again, and then each time that it
+/// has lasted twice as long.
+const SAY_AGAIN: Duration = Duration::from_secs(5);
+/// How often it is looked for a signal while the table is stored at the end.
+const LOOK: Duration = Duration::from_millis(20);
 
 /// When a change is stored.
 #[derive(Clone, Copy, Debug, PartialEq, Eq)]
@@ -25,50 +30,68 @@ pub enum Sync {
     Always,
 }
 
+/// A time in which the table can't be stored.
+struct Failing {
+    since: Instant,
+    /// How long it has to last until it is said again.
+    next: Duration,
+}
+
+impl Failing {
+    fn lasted(&self) -> String {
+        match self.since.elapsed().as_secs() {
+            1 => "1 second".to_string(),
+            count => format!("{count} seconds"),
+        }
+    }
+}
+
 /// Stores what is to be the table's file, and says what fails.
 struct Storer {
     keeper: Keeper,
     sync: Sync,
-    /// Whether the last store failed.
-    failing: bool,
+    failing: Option<Failing>,
 }
 
 impl Storer {
     /// Whether the file is this one, after storing it where it is not.
     fn store(&mut self, file: &[u8]) -> bool {
-        if self.keeper.has(file) {
-            return true;
-        }
-        let result = self.keeper.store(file);
-        match &result {
-            Ok(()) if self.failing => say("the table is stored again"),
-            Err(failure) if !self.failing => self.say_failing(failure),
+        let result = match self.keeper.has(file) {
+            true => Ok(()),
+            false => self.keeper.store(file),
+        };
+        match (&result, &mut self.failing) {
+            (Ok(()), None) => {}
+            (Ok(()), Some(failing)) => {
+                let lasted = failing.lasted();
+                say(format!("the table is stored again, after {lasted}"));
+                self.failing = None;
+            }
+            (Err(failure), None) => {
+                self.say_failing(failure);
+                self.failing = Some(Failing {
+                    since: Instant::now(),
+                    next: SAY_AGAIN,
+                });
+            }
+            (Err(_), Some(failing)) if failing.since.elapsed() >= failing.next => {
+                let lasted = failing.lasted();
+                say(format!("warning: nothing could be stored for {lasted}"));
+                failing.next *= 2;
+            }
             _ => {}
         }
-        self.failing = result.is_err();
-        !self.failing
+        result.is_ok()
     }
 
     fn say_failing(&self, failure: &Failure) {
         let meanwhile = match self.sync {
-            Sync::Always => "Nobody is answered until it can be stored.",
-            Sync::Second => "Requests are served meanwhile, and their changes are in memory alone.",
+            Sync::Always => "Meanwhile writes wait, and reads are answered from the table as it was stored last.",
+            Sync::Second => "Meanwhile all requests are answered, and their changes are in memory alone.",
         };
         say(format!(
-            "{failure}\nThe file is one whole table. Storing is tried again each second. {meanwhile}"
+            "warning: {failure}\nThe file is one whole table. Storing is tried again each second. {meanwhile}"
         ));
-    }
-
-    /// Tries to store the table until it works; nothing else is done
-    /// meanwhile. False where a signal came first.
-    fn insist(&mut self, table: &Table, signals: &mut Signals) -> bool {
-        let file = table.store();
-        while !self.store(&file) {
-            if signals.wait(TRY_AGAIN) {
-                return false;
-            }
-        }
-        true
     }
 
     /// Stores each file that comes, until none will come. One that can't be
@@ -95,6 +118,23 @@ enum Way {
     Beside(SyncSender<Vec<u8>>, JoinHandle<Storer>),
 }
 
+impl Way {
+    /// Stores the last file, and tries until that works.
+    fn finish(self, file: &[u8]) -> Result<(), Failure> {
+        let mut storer = match self {
+            Way::Here(storer) => storer,
+            Way::Beside(sender, thread) => {
+                drop(sender);
+                thread.join().map_err(|_| unstored(Sync::Second))?
+            }
+        };
+        while !storer.store(file) {
+            thread::sleep(TRY_AGAIN);
+        }
+        Ok(())
+    }
+}
+
 pub struct Saver {
     way: Way,
     /// When the table is to be stored.
@@ -107,7 +147,7 @@ impl Saver {
         let storer = Storer {
             keeper,
             sync,
-            failing: false,
+            failing: None,
         };
         let way = match sync {
             Sync::Always => Way::Here(storer),
@@ -125,21 +165,30 @@ impl Saver {
         matches!(self.way, Way::Here(_))
     }
 
+    /// Whether replies wait, and the last store failed.
+    pub fn is_failing(&self) -> bool {
+        matches!(&self.way, Way::Here(storer) if storer.failing.is_some())
+    }
+
     /// When something is to be done next.
     pub fn due(&self) -> Option<Instant> {
         self.due
     }
 
-    /// Requests were served, and their replies wait. False where a signal came
-    /// before they may go out.
-    pub fn served(&mut self, table: &Table, signals: &mut Signals, now: Instant) -> bool {
-        match &mut self.way {
-            Way::Here(storer) => storer.insist(table, signals),
-            Way::Beside(..) => {
-                self.due.get_or_insert(now + STORE_AFTER);
-                true
-            }
-        }
+    /// Whether a store that failed is to be tried again.
+    pub fn is_due_again(&self, now: Instant) -> bool {
+        self.is_failing() && self.due.is_some_and(|due| now >= due)
+    }
+
+    /// Requests were served: whether their replies may go out.
+    pub fn served(&mut self, table: &Table, now: Instant) -> bool {
+        let Way::Here(storer) = &mut self.way else {
+            self.due.get_or_insert(now + STORE_AFTER);
+            return true;
+        };
+        let stored = storer.store(&table.store());
+        self.due = (!stored).then(|| Instant::now() + TRY_AGAIN);
+        stored
     }
 
     /// Has the table stored if that is due. Where the one before still waits
@@ -160,29 +209,33 @@ impl Saver {
         Ok(())
     }
 
-    /// Stores the table at the end.
+    /// Stores the table at the end. A signal meanwhile ends it at once, also
+    /// where the disk does not answer.
     pub fn finish(self, table: &Table, signals: &mut Signals) -> Result<(), Failure> {
-        let mut storer = match self.way {
-            Way::Here(storer) => storer,
-            Way::Beside(sender, thread) => {
-                drop(sender);
-                thread.join().map_err(|_| unstored(Sync::Second))?
-            }
+        let sync = match self.way {
+            Way::Here(_) => Sync::Always,
+            Way::Beside(..) => Sync::Second,
         };
-        if storer.insist(table, signals) {
-            return Ok(());
+        let file = table.store();
+        let (sender, done) = sync_channel(1);
+        thread::spawn(move || sender.send(self.way.finish(&file)));
+        loop {
+            match done.recv_timeout(LOOK) {
+                Ok(result) => return result,
+                Err(RecvTimeoutError::Timeout) if !signals.take() => {}
+                Err(_) => return Err(unstored(sync)),
+            }
         }
-        Err(unstored(storer.sync))
     }
 }
 
 /// Says that the table was not stored at the end.
-fn unstored(sync: Sync) -> Failure {
+pub fn unstored(sync: Sync) -> Failure {
     let lost = match sync {
         Sync::Always => "Every write that was answered is in the file.",
         Sync::Second => "The changes since the last store are lost.",
     };
-    format!("ended before the table could be stored; the file is one whole table.\n{lost}")
+    format!("ended at once, before the table could be stored; the file is one whole table.\n{lost}")
 }
 
 #[cfg(test)]

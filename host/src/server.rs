@@ -3,18 +3,21 @@
 
 use std::io;
 use std::net::{SocketAddr, TcpListener, TcpStream};
-use std::time::{Duration, Instant, SystemTime, UNIX_EPOCH};
+use std::time::{Duration, Instant};
 
 use crate::batch::{Batch, Rest};
 use crate::border::library::{write_error, Table};
 use crate::border::system::{Event, Poll, Signals, READABLE};
+pub use crate::clock::second;
+use crate::clock::Clock;
 use crate::command::{ERROR, PING, PROTOCOL};
 use crate::connection::{is_later, Connection};
 use crate::failure::{because, plain, say, Failure};
 use crate::haste::{Haste, LOOK};
 use crate::limits::REPLY_ROOM;
+use crate::outage::Outage;
 use crate::places::Places;
-use crate::saver::Saver;
+use crate::saver::{unstored, Saver, Sync, TRY_AGAIN};
 
 /// The numbers under which the poll knows the listener and the signals; those
 /// of the connections follow.
@@ -52,6 +55,9 @@ pub struct Server {
     looks: bool,
     batch: Batch,
     table: Table,
+    /// The table as it was before the turn, where replies wait for the disk.
+    before: Table,
+    clock: Clock,
     saver: Saver,
     next_tick: Instant,
     /// Whether the listener waits for the next tick.
@@ -60,14 +66,6 @@ pub struct Server {
     tell_full_at: Instant,
     /// When it may be told again that callers wait.
     tell_deaf_at: Instant,
-}
-
-/// The system's UNIX time, as far as the library's seconds go.
-pub fn second() -> u32 {
-    match SystemTime::now().duration_since(UNIX_EPOCH) {
-        Ok(time) => u32::try_from(time.as_secs()).unwrap_or(u32::MAX),
-        Err(_) => 0,
-    }
 }
 
 impl Server {
@@ -93,7 +91,9 @@ impl Server {
             haste: Haste::new(now),
             looks: false,
             batch: Batch::default(),
+            before: table.clone(),
             table,
+            clock: Clock::default(),
             saver,
             next_tick: now,
             deaf: false,
@@ -106,11 +106,26 @@ impl Server {
     /// be served; then the table is stored.
     pub fn run(mut self) -> Result<(), Failure> {
         let served = self.serve_all();
-        let stored = self.saver.finish(&self.table, &mut self.signals);
+        let stored = match self.serve_held() {
+            true => self.saver.finish(&self.table, &mut self.signals),
+            false => Err(unstored(Sync::Always)),
+        };
         match (served, stored) {
             (Err(one), Err(other)) => Err(format!("{one}\n{other}")),
             (served, stored) => served.and(stored),
         }
+    }
+
+    /// At the end, where changes wait for the disk: tries until they are stored
+    /// and answered. False where a signal came first.
+    fn serve_held(&mut self) -> bool {
+        while self.saver.is_failing() {
+            if self.signals.wait(TRY_AGAIN) {
+                return false;
+            }
+            self.serve(Instant::now());
+        }
+        true
     }
 
     fn serve_all(&mut self) -> Result<(), Failure> {
@@ -167,7 +182,7 @@ impl Server {
         if callers {
             self.accept(now);
         }
-        ended |= !self.serve(now);
+        self.serve(now);
         if now >= self.next_tick {
             self.tick(now);
         }
@@ -180,6 +195,10 @@ impl Server {
         let Some(connection) = self.places.get_mut(index) else {
             return;
         };
+        if connection.held && event.is_lost() {
+            self.places.close(index);
+            return;
+        }
         let mut moved = Ok(());
         if event.is_writable() {
             moved = connection.flush(now);
@@ -218,20 +237,42 @@ impl Server {
         }
     }
 
-    /// Serves the queue in one call, and sends the replies when they may go
-    /// out. False where a signal came before.
-    fn serve(&mut self, now: Instant) -> bool {
+    /// Serves the queue, and sends the replies that may go out.
+    fn serve(&mut self, now: Instant) {
         self.looks = false;
-        if self.queue.is_empty() {
-            return true;
+        let again = self.saver.is_due_again(now);
+        if again {
+            self.try_held();
         }
-        self.looks = self.haste.served(self.queue.len(), now);
+        if self.queue.is_empty() && !again {
+            return;
+        }
+        self.looks = self.haste.served(self.queue.len().max(1), now);
+        let tries = again || !self.saver.is_failing();
+        if !(tries && self.serve_changes(now)) {
+            self.serve_unchanged(now);
+        }
+        if again && !self.saver.is_failing() {
+            self.release_held(now);
+        }
+    }
+
+    /// Serves the queue in one call, and sends the replies when the table is
+    /// stored. False where it can't be: then nothing was served.
+    fn serve_changes(&mut self, now: Instant) -> bool {
+        let delays = self.saver.delays();
+        if delays {
+            self.before.copy_from(&self.table);
+        }
         self.serve_queue();
-        if !self.saver.served(&self.table, &mut self.signals, now) {
+        if !self.saver.served(&self.table, now) {
+            self.table.copy_from(&self.before);
+            self.queue
+                .extend(self.batch.shares.iter().map(|share| share.connection));
             return false;
         }
         let mut sent = now;
-        if self.saver.delays() {
+        if delays {
             sent = Instant::now();
         }
         if sent.duration_since(now) >= TICK {
@@ -242,8 +283,59 @@ impl Server {
         true
     }
 
+    /// Puts those whose changes wait into the queue.
+    fn try_held(&mut self) {
+        for index in self.places.held() {
+            if let Some(connection) = self.places.get_mut(index) {
+                if connection.can_be_tried() && !connection.queued {
+                    connection.queued = true;
+                    self.queue.push(index);
+                }
+            }
+        }
+    }
+
+    /// The table can be stored again: nobody waits for it any more.
+    fn release_held(&mut self, now: Instant) {
+        for index in self.places.held() {
+            if let Some(connection) = self.places.get_mut(index) {
+                connection.held = false;
+                connection.moved = now;
+                self.settle(index, now);
+            }
+        }
+    }
+
+    /// Serves the queue as far as nothing is changed. A change waits, with all
+    /// that its connection sent behind it.
+    fn serve_unchanged(&mut self, now: Instant) {
+        let mut outage = Outage::new(&self.table, self.clock.second());
+        for index in std::mem::take(&mut self.queue) {
+            let Some(connection) = self.places.get_mut(index) else {
+                continue;
+            };
+            connection.queued = false;
+            if connection.held {
+                continue;
+            }
+            let part = outage.serve(&mut self.table, connection.input.held());
+            let replies = &outage.replies[..part.replied];
+            let sent = give(connection, part.taken, replies, part.rest, now);
+            connection.pending |= part.held;
+            connection.held = part.held;
+            match sent {
+                Ok(()) => self.settle(index, now),
+                Err(_) => self.places.close(index),
+            }
+        }
+    }
+
     fn serve_queue(&mut self) {
-        let second = second();
+        if self.queue.is_empty() {
+            self.batch.shares.clear();
+            return;
+        }
+        let second = self.clock.second();
         for index in &self.queue {
             if let Some(connection) = self.places.get_mut(*index) {
                 connection.queued = false;
@@ -264,15 +356,9 @@ impl Server {
             let Some(connection) = self.places.get_mut(share.connection) else {
                 continue;
             };
-            connection.input.take(share.taken);
-            connection.pending = share.rest == Rest::Again;
-            let mut sent = Ok(());
-            if !share.replies.is_empty() {
-                sent = connection.send(self.batch.replies_of(share), now);
-            }
-            if share.rest == Rest::Ended {
-                connection.leave();
-            }
+            let replies = self.batch.replies_of(share);
+            let sent = give(connection, share.taken, replies, share.rest, now);
+            connection.held = false;
             match sent {
                 Ok(()) => self.settle(share.connection, now),
                 Err(_) => self.places.close(share.connection),
@@ -360,6 +446,26 @@ impl Server {
             "{were} closed, since nothing moved there for the time of --idle"
         ));
     }
+}
+
+/// Gives a connection its replies, and keeps what is left of its input.
+fn give(
+    connection: &mut Connection,
+    taken: usize,
+    replies: &[u8],
+    rest: Rest,
+    now: Instant,
+) -> io::Result<()> {
+    connection.input.take(taken);
+    connection.pending = rest == Rest::Again;
+    let mut sent = Ok(());
+    if !replies.is_empty() {
+        sent = connection.send(replies, now);
+    }
+    if rest == Rest::Ended {
+        connection.leave();
+    }
+    sent
 }
 
 /// Tells a client that there are too many, in an error reply of the library.

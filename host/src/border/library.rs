@@ -298,6 +298,11 @@ impl Table {
         Table { memory }
     }
 
+    /// Makes it the same as another table.
+    pub fn copy_from(&mut self, other: &Table) {
+        self.memory.copy_from_slice(&other.memory);
+    }
+
     /// The table that a file stores, if it stores one.
     pub fn load(file: &[u8]) -> Option<Table> {
         let mut table = Table::fresh();

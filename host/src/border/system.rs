@@ -1,9 +1,11 @@
 //! The system calls that the standard library lacks: epoll, signals as a file
-//! that becomes readable, and how many files may be open.
+//! that becomes readable, the time since the system's start, and how many files
+//! may be open.
 
-use std::ffi::{c_int, c_ulong};
-use std::fs::File;
+use std::ffi::{c_int, c_long, c_ulong};
+use std::fs::{self, File};
 use std::io::{self, Read};
+use std::ops::RangeInclusive;
 use std::os::fd::{AsFd, AsRawFd, BorrowedFd, FromRawFd, OwnedFd};
 use std::time::Duration;
 
@@ -11,14 +13,33 @@ use std::time::Duration;
 pub const READABLE: u32 = 0x001;
 /// There is room to write.
 pub const WRITABLE: u32 = 0x004;
+const FAILED: u32 = 0x008;
+const HUNG_UP: u32 = 0x010;
 
 const CLOEXEC: c_int = 0x80000;
 const NONBLOCK: c_int = 0x800;
 const ADD: c_int = 1;
 const MODIFY: c_int = 3;
 const BLOCK: c_int = 0;
+/// The clock that counts from the system's start, also while it is suspended.
+const SINCE_BOOT: c_int = 7;
 const INTERRUPT: c_int = 2;
 const TERMINATE: c_int = 15;
+/// A file would grow above its limit; where it is blocked, writing fails.
+const FILE_SIZE: c_int = 25;
+/// The signals that end a program and tell nothing of a fault of its own:
+/// SIGHUP, SIGINT, SIGQUIT, SIGUSR1, SIGUSR2, SIGALRM, SIGTERM, SIGSTKFLT,
+/// SIGXCPU, SIGVTALRM, SIGPROF, SIGIO, SIGPWR, and those without a name.
+const ENDING: [RangeInclusive<c_int>; 8] = [
+    1..=3,
+    10..=10,
+    12..=12,
+    14..=16,
+    24..=24,
+    26..=27,
+    29..=30,
+    34..=64,
+];
 /// The number of the limit on open files.
 const FILES: c_int = 7;
 
@@ -47,6 +68,11 @@ impl Event {
         self.happened & !WRITABLE != 0
     }
 
+    /// Whether the other end is gone, so that no byte comes or goes any more.
+    pub fn is_lost(&self) -> bool {
+        self.happened & (FAILED | HUNG_UP) != 0
+    }
+
     /// Whether writing does.
     pub fn is_writable(&self) -> bool {
         self.happened & !READABLE != 0
@@ -72,6 +98,7 @@ extern "C" {
     fn sigaddset(set: *mut SignalSet, signal: c_int) -> c_int;
     fn pthread_sigmask(how: c_int, set: *const SignalSet, old: *mut SignalSet) -> c_int;
     fn signalfd(fd: c_int, set: *const SignalSet, flags: c_int) -> c_int;
+    fn clock_gettime(clock: c_int, time: *mut [c_long; 2]) -> c_int;
     fn getrlimit(which: c_int, bound: *mut Bound) -> c_int;
     fn setrlimit(which: c_int, bound: *const Bound) -> c_int;
 }
@@ -175,8 +202,26 @@ impl Poll {
     }
 }
 
-/// SIGTERM and SIGINT, which from here on end the program no more by
-/// themselves.
+/// Seconds since the system was started. No one sets this clock.
+pub fn since_boot() -> i64 {
+    let mut time = [0; 2];
+    // SAFETY: the time is lent for the call.
+    match unsafe { clock_gettime(SINCE_BOOT, &mut time) } {
+        0 => time[0],
+        _ => 0,
+    }
+}
+
+/// The signals that are ignored at the start, as the system tells them: a bit
+/// each, the lowest for signal 1.
+fn ignored() -> u64 {
+    let told = fs::read_to_string("/proc/self/status").unwrap_or_default();
+    let line = told.lines().find_map(|line| line.strip_prefix("SigIgn:"));
+    u64::from_str_radix(line.unwrap_or_default().trim(), 16).unwrap_or(0)
+}
+
+/// The signals that end a program, which from here on end it no more by
+/// themselves. One that is ignored stays so (nohup), but for SIGINT and SIGTERM.
 pub struct Signals {
     file: File,
     poll: Poll,
@@ -184,13 +229,21 @@ pub struct Signals {
 
 impl Signals {
     pub fn new() -> io::Result<Signals> {
-        let mut set: SignalSet = [0; 16];
-        // SAFETY: the set is lent for each call.
+        let (mut set, mut blocked): (SignalSet, SignalSet) = ([0; 16], [0; 16]);
+        let ignored = ignored();
+        // SAFETY: the sets are lent for each call.
         let file = unsafe {
             checked(sigemptyset(&mut set))?;
-            checked(sigaddset(&mut set, INTERRUPT))?;
-            checked(sigaddset(&mut set, TERMINATE))?;
-            mask(BLOCK, &set)?;
+            checked(sigemptyset(&mut blocked))?;
+            for signal in ENDING.into_iter().flatten() {
+                let stays = ignored >> (signal - 1) & 1 == 1;
+                if !stays || matches!(signal, INTERRUPT | TERMINATE) {
+                    checked(sigaddset(&mut set, signal))?;
+                    checked(sigaddset(&mut blocked, signal))?;
+                }
+            }
+            checked(sigaddset(&mut blocked, FILE_SIZE))?;
+            mask(BLOCK, &blocked)?;
             owned(signalfd(-1, &set, CLOEXEC | NONBLOCK))?
         };
         let poll = Poll::new()?;

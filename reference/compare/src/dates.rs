@@ -37,7 +37,7 @@ const EDGES: [(u32, u32, u64); 10] = [
 ];
 
 /// A protocol version, flags, and whether 0x0002 is among them.
-const FLAGS: [(u8, u32, bool); 12] = [
+const FLAGS: [(u8, u32, bool); 18] = [
     (10, 0, false),
     (10, 1, false),
     (11, 0, false),
@@ -50,6 +50,12 @@ const FLAGS: [(u8, u32, bool); 12] = [
     (12, 5, false),
     (12, 6, true),
     (12, 7, true),
+    (20, 0, false),
+    (20, 1, false),
+    (20, 2, true),
+    (20, 8, false),
+    (20, 29, false),
+    (20, 31, true),
 ];
 
 const WRITES: [u8; 4] = [PUT, PUT_IF_ABSENT, REPLACE, REPLACE_IF_UNMODIFIED];

@@ -4,6 +4,7 @@
 
 mod bulk;
 mod expiry;
+mod versions;
 
 use reference::history::{COUNTS, RETRIEVALS, STORES};
 use reference::lines::{LINE_END, LINE_LIMIT};
@@ -186,6 +187,32 @@ pub enum Fault {
     StoresEqual,
     StoresLastStanding,
     LoadKeepsLatest,
+    // Versions.
+    TwentyHasTransaction,
+    TwelveHasNoTransaction,
+    ServesTwentyOne,
+    FlagsAboveSeven,
+    FlagsToSeven,
+    NoKeysInTwenty,
+    TwentyAnswersAsTwelve,
+    TwelveAnswersAsTwenty,
+    FlagsAsWhole,
+    EightIsDefault,
+    AbsentIsThree,
+    EmptyIsAbsent,
+    ConflictHidesValue,
+    FourIsThree,
+    ValueSteersStatus,
+    ThreeCountsNot,
+    FourBeforeThree,
+    LooksBeforeVersion,
+    ReadsAnyVersion,
+    ThreeInTwelve,
+    PlainInTwenty,
+    KeysReplyInTen,
+    WritesAnyVersion,
+    WritesPlainInTwenty,
+    WritesKeysInTen,
     // Keys.
     ComparesFromFront,
     OnePairTooFew,
@@ -456,6 +483,7 @@ impl Echo {
             return (message, Verdict::Refused(refusal));
         }
         self.change_request(&mut request, table);
+        self.change_version(&mut request);
         let before = table.clone();
         let arrival = Arrival {
             request: &request,
@@ -467,10 +495,12 @@ impl Echo {
         if answer.1 == Verdict::Served {
             self.change_listing(&arrival, &before, &mut answer.0);
             self.change_shown(&arrival, &before, &mut answer.0);
+            self.change_status(&request, &before, &mut answer.0);
         }
         self.after_step(&arrival, &before, table, answer.1);
         self.change_table(&request, second, &before, table);
         self.change_history(&request, second, &before, table);
+        self.change_counted(&request, &before, table);
         answer
     }
 
@@ -749,6 +779,7 @@ impl Subject for Echo {
         let read = read_reply(asked, input);
         let code = read_code(&read);
         let wrong = self.wrong_reply(asked, input, code);
+        let wrong = wrong.or_else(|| self.wrong_asked(asked, input, code));
         if let Some(code) = wrong.or_else(|| self.wrong_bulk_reply(asked, input, code)) {
             return code;
         }
@@ -771,6 +802,7 @@ impl Subject for Echo {
         if reply.operation == STATS + 1 {
             return 16;
         }
+        let asked = self.told_writer(asked, &reply);
         let code = write_code(write_reply(asked, &reply, out));
         self.after_writing(code, out)
     }

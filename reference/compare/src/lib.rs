@@ -8,7 +8,7 @@
 //!
 //! The parts: `messages` (a), `serving` (b), `streams` (c), `tables` (d),
 //! `values` (e), `lines` (f), `stored` (g), `edges` (h), `dates` (i),
-//! `keys` (j), `statistics` (k), `bulk` (l), `expiry` (m).
+//! `keys` (j), `statistics` (k), `bulk` (l), `expiry` (m), `versions` (n).
 //!
 //! `cargo test --offline` tests the harness without the library. With it:
 //! `cargo run --release --offline --features library,lines,stored -- quick`;
@@ -45,4 +45,5 @@ pub mod subject;
 pub mod tables;
 pub mod trial;
 pub mod values;
+pub mod versions;
 pub mod writers;

@@ -68,7 +68,6 @@ fn parts() -> Vec<Part<Library>> {
     #[allow(unused_mut)]
     let mut parts = run::parts();
     parts.push(run::keys_part());
-    parts.push(run::bulk_part());
     #[cfg(feature = "lines")]
     parts.push(run::lines_part());
     #[cfg(feature = "stored")]

@@ -71,7 +71,7 @@ fn each_of_statistics<S: Subject>(trial: &mut Trial<S>) -> Outcome {
     Ok(())
 }
 
-fn read_as<S: Subject>(trial: &mut Trial<S>, asked: Asked, input: &[u8]) -> Outcome {
+pub fn read_as<S: Subject>(trial: &mut Trial<S>, asked: Asked, input: &[u8]) -> Outcome {
     check_reply(trial, asked, input).map_err(|found| {
         found
             .with("call", "fq_read_reply")
@@ -104,7 +104,7 @@ fn perhaps_other<S>(trial: &mut Trial<S>, asked: Asked) -> Asked {
     }
 }
 
-fn check_request<S: Subject>(trial: &mut Trial<S>, input: &[u8]) -> Outcome {
+pub fn check_request<S: Subject>(trial: &mut Trial<S>, input: &[u8]) -> Outcome {
     let lent = Lent::of(input);
     let expected = read_request(input);
     let mut answer = Words::about(&mut trial.chance, REQUEST_WORDS);

@@ -9,7 +9,7 @@ use crate::subject::{ComparesKeys, ServesLines, Stores, Subject};
 use crate::trial::{Counts, Trial};
 use crate::{
     bulk, dates, edges, expiry, keys, lines, messages, serving, statistics, stored, streams,
-    tables, values,
+    tables, values, versions,
 };
 
 /// One part, and how many rounds of it a quick run plays. A long run plays
@@ -36,7 +36,7 @@ fn part<S>(
     }
 }
 
-/// Parts a to e, and h.
+/// Parts a to e, h, l and n.
 pub fn parts<S: Subject>() -> Vec<Part<S>> {
     vec![
         part(0, "messages", 10_000, messages::round),
@@ -45,6 +45,8 @@ pub fn parts<S: Subject>() -> Vec<Part<S>> {
         part(3, "tables", 4_000, tables::round),
         part(4, "values", 25_600, values::round),
         part(7, "edges", 80, edges::round),
+        part(11, "bulk", 200, bulk::round),
+        part(13, "versions", 256, versions::round),
     ]
 }
 
@@ -71,11 +73,6 @@ pub fn keys_part<S: ComparesKeys>() -> Part<S> {
 /// Part k, statistics.
 pub fn statistics_part<S: Stores>() -> Part<S> {
     part(10, "statistics", 3_000, statistics::round)
-}
-
-/// Part l, bulk requests and their replies.
-pub fn bulk_part<S: Subject>() -> Part<S> {
-    part(11, "bulk", 200, bulk::round)
 }
 
 /// Part m, entries that expire.

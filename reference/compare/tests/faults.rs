@@ -3,8 +3,7 @@
 
 use compare::echo::{Echo, Fault};
 use compare::run::{
-    bulk_part, dates_part, expiry_part, keys_part, lines_part, parts, play, statistics_part,
-    stored_part, Part,
+    dates_part, expiry_part, keys_part, lines_part, parts, play, statistics_part, stored_part, Part,
 };
 use compare::subject::GOOD;
 use compare::trial::Counts;
@@ -18,7 +17,6 @@ fn all_parts() -> Vec<Part<Echo>> {
     all.push(dates_part());
     all.push(statistics_part());
     all.push(keys_part());
-    all.push(bulk_part());
     all.push(expiry_part());
     all
 }
@@ -134,6 +132,69 @@ fn bulk_replies_are_the_rows() {
 fn entries_expire_alike() {
     let counts = sound_rounds("expiry", 40);
     all_given(&counts, &[GOOD, 0, 4, 5, 8, 9, 10, 11, 12, 13]);
+}
+
+#[test]
+fn versions_give_what_the_papers_say() {
+    let counts = sound_rounds("versions", 8);
+    all_given(&counts, &[GOOD, 0, 1, 2, 3, 4, 5, 6, 7, 8, 16]);
+}
+
+#[test]
+fn faults_of_versions_in_requests_are_found() {
+    use Fault::*;
+    let faults = [
+        TwentyHasTransaction,
+        TwelveHasNoTransaction,
+        ServesTwentyOne,
+        FlagsAboveSeven,
+        FlagsToSeven,
+        NoKeysInTwenty,
+    ];
+    are_found("versions", &faults);
+    are_found("messages", &faults);
+    are_found("serving", &faults);
+}
+
+#[test]
+fn faults_of_versions_in_serving_are_found() {
+    use Fault::*;
+    let faults = [
+        TwentyAnswersAsTwelve,
+        TwelveAnswersAsTwenty,
+        FlagsAsWhole,
+        AbsentIsThree,
+        EmptyIsAbsent,
+        ConflictHidesValue,
+        FourIsThree,
+        ValueSteersStatus,
+        ThreeCountsNot,
+    ];
+    are_found("versions", &faults);
+    are_found("serving", &faults);
+    are_found("streams", &faults);
+    is_found("serving", EightIsDefault);
+    is_found("dates", EightIsDefault);
+    is_found("statistics", ThreeCountsNot);
+    is_found("values", ValueSteersStatus);
+}
+
+#[test]
+fn faults_of_versions_in_replies_are_found() {
+    use Fault::*;
+    let faults = [
+        LooksBeforeVersion,
+        ReadsAnyVersion,
+        ThreeInTwelve,
+        PlainInTwenty,
+        KeysReplyInTen,
+        WritesAnyVersion,
+        WritesPlainInTwenty,
+        WritesKeysInTen,
+    ];
+    are_found("versions", &faults);
+    are_found("messages", &faults);
+    is_found("versions", FourBeforeThree);
 }
 
 #[test]

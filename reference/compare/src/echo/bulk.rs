@@ -30,7 +30,10 @@ impl Echo {
             (Some(Fault::ScopeThree), Some(3)) if keys => other[input.len() - 1] = 2,
             _ => {}
         }
-        read_request(&other)
+        match self.wrong_version(input, version) {
+            Some(read) => read,
+            None => read_request(&other),
+        }
     }
 
     /// Whether it is a bulk request with too little room.

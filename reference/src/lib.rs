@@ -34,7 +34,7 @@ pub use number::{read_number, write_number};
 pub use operation::Asked;
 pub use reply::{error_reply, read_reply, write_reply, Reply};
 pub use request::{read_request, write_request, Request};
-pub use serve::{serve, serve_stream, Answer, StreamAnswer, Verdict};
+pub use serve::{serve, serve_many, serve_stream, Answer, NotServed, StreamAnswer, Verdict};
 pub use statistics::Statistics;
 pub use stored::{load, store};
 pub use text::is_text;

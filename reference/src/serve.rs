@@ -132,32 +132,89 @@ pub fn serve_stream(
     second: u32,
     replies: &mut [u8],
 ) -> StreamAnswer {
-    let mut taken = 0;
-    let mut reply_len = 0;
-    let mut answered = 0;
+    stream_behind(input, table, second, replies, 0)
+}
+
+/// The stream whose replies stand behind `start` bytes of replies to others.
+fn stream_behind(
+    input: &[u8],
+    table: &mut Table,
+    second: u32,
+    replies: &mut [u8],
+    start: usize,
+) -> StreamAnswer {
+    let mut stream = StreamAnswer {
+        taken: 0,
+        reply_len: 0,
+        answered: 0,
+        verdict: Verdict::More,
+    };
     loop {
-        let answer = serve(&input[taken..], table, second, &mut replies[reply_len..]);
+        let sent = start + stream.reply_len;
+        let rest = &input[stream.taken..];
+        let answer = serve(rest, table, second, &mut replies[sent..]);
         // A call that is refused 12 has done nothing.
-        if answer.verdict == Verdict::Refused(12) && reply_len > 0 {
-            return StreamAnswer {
-                taken,
-                reply_len,
-                answered,
-                verdict: Verdict::Full,
-            };
+        if answer.verdict == Verdict::Refused(12) && sent > 0 {
+            stream.verdict = Verdict::Full;
+            return stream;
         }
-        taken += answer.taken;
-        reply_len += answer.reply_len;
+        stream.taken += answer.taken;
+        stream.reply_len += answer.reply_len;
+        stream.verdict = answer.verdict;
         if answer.reply_len > 0 {
-            answered += 1;
+            stream.answered += 1;
         }
         if answer.taken == 0 {
-            return StreamAnswer {
-                taken,
-                reply_len,
-                answered,
-                verdict: answer.verdict,
-            };
+            return stream;
         }
     }
+}
+
+/// Why the streams of many connections are not served.
+#[derive(Clone, Copy, Debug, PartialEq, Eq)]
+pub enum NotServed {
+    /// The ends do not ascend, or one is behind the end of the input.
+    Ends,
+    /// 12 for the reply buffer, or 13.
+    Refused(u8),
+}
+
+/// Serves the streams of several connections at one second. Their inputs stand
+/// end to end, each up to its end; bytes behind the last end are nobody's. Each
+/// is served on the table that the one before left, and its replies stand behind
+/// all replies before. The answers are those of the streams, in their order.
+pub fn serve_many(
+    input: &[u8],
+    ends: &[u64],
+    table: &mut Table,
+    second: u32,
+    replies: &mut [u8],
+) -> Result<Vec<StreamAnswer>, NotServed> {
+    let inputs = parts(input, ends).ok_or(NotServed::Ends)?;
+    if replies.len() < LEAST_ROOM {
+        return Err(NotServed::Refused(12));
+    }
+    if !is_table(table) {
+        return Err(NotServed::Refused(13));
+    }
+    let mut sent = 0;
+    let mut answers = Vec::new();
+    for input in inputs {
+        let answer = stream_behind(input, table, second, replies, sent);
+        sent += answer.reply_len;
+        answers.push(answer);
+    }
+    Ok(answers)
+}
+
+/// The inputs of the connections, if their ends are ends.
+fn parts<'a>(input: &'a [u8], ends: &[u64]) -> Option<Vec<&'a [u8]>> {
+    let mut start = 0;
+    let mut inputs = Vec::new();
+    for end in ends {
+        let end = usize::try_from(*end).ok()?;
+        inputs.push(input.get(start..end)?);
+        start = end;
+    }
+    Some(inputs)
 }

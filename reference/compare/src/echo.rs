@@ -4,6 +4,7 @@
 
 mod bulk;
 mod expiry;
+mod many;
 mod versions;
 
 use reference::history::{COUNTS, RETRIEVALS, STORES};
@@ -21,6 +22,7 @@ use reference::{
 };
 
 use self::expiry::Arrival;
+use self::many::Lent;
 use crate::fields::{of_reply, of_request, place, Kind};
 use crate::lines::LEAST;
 use crate::memory::{
@@ -30,8 +32,8 @@ use crate::memory::{
 use crate::messages::{reply_numbers, request_numbers};
 use crate::subject::{
     read_code, verdict_code, write_code, Asked, ComparesKeys, EntryParts, Piece, ReplyParts,
-    RequestParts, ServesLines, Stores, Subject, ENTRY_WORDS, FULL, GOOD, KEYS_WORDS, REPLY_WORDS,
-    REQUEST_WORDS, SERVE_WORDS, STREAM_WORDS, UNTOLD,
+    RequestParts, ServesLines, ServesMany, Stores, Subject, ENTRY_WORDS, FULL, GOOD, KEYS_WORDS,
+    REPLY_WORDS, REQUEST_WORDS, SERVE_WORDS, STREAM_WORDS, UNTOLD,
 };
 
 /// What is wrong with an `Echo`.
@@ -187,6 +189,24 @@ pub enum Fault {
     StoresEqual,
     StoresLastStanding,
     LoadKeepsLatest,
+    // Many connections.
+    ManySwapsShares,
+    ManyFromStart,
+    ManyOverwrites,
+    ManyBulkRefused,
+    ManyNoTable,
+    ManyEndCut,
+    ManyAnyOrder,
+    ManyStopsAtRefused,
+    ManyStopsAtFull,
+    ManyShortList,
+    ManyEndsFirst,
+    ManyRoomFirst,
+    ManyTableFirst,
+    ManyTailIsLast,
+    ManyEmptyDone,
+    ManyWaitsTwelve,
+    ManyTellsMore,
     // Versions.
     TwentyHasTransaction,
     TwelveHasNoTransaction,
@@ -870,23 +890,22 @@ impl Subject for Echo {
         if answer.len() < STREAM_WORDS {
             return UNTOLD;
         }
-        let (mut taken, mut sent, mut calls) = (0, 0, 0);
-        loop {
-            let (code, more, length) =
-                self.one_call(&input[taken..], table, second, &mut reply[sent..]);
-            let taken_bulk = self.has(Fault::BulkTwelveInStream) && more > 0;
-            let full = code == 12 && sent > 0 && !taken_bulk;
-            taken += if full { 0 } else { more };
-            sent += length;
-            calls += u64::from(!full && (length > 0 || !self.has(Fault::CountsReplies)));
-            if !full && self.stream_goes_on(code, more) {
-                continue;
-            }
-            fill(answer, &[taken as u64, sent as u64, calls]);
-            let code = if full { FULL } else { code };
-            let hidden = self.has(Fault::HidesTwelve) && full;
-            let unchecked = self.has(Fault::ChecksOnce) && code == 13;
-            return if hidden || unchecked { GOOD } else { code };
+        let mut lent = Lent {
+            table,
+            second,
+            reply,
+        };
+        let stream = self.stream(input, &mut lent, 0);
+        fill(
+            answer,
+            &[stream.taken as u64, stream.sent as u64, stream.calls],
+        );
+        let hidden = self.has(Fault::HidesTwelve) && stream.code == FULL;
+        let unchecked = self.has(Fault::ChecksOnce) && stream.code == 13;
+        if hidden || unchecked {
+            GOOD
+        } else {
+            stream.code
         }
     }
 
@@ -900,6 +919,25 @@ impl Subject for Echo {
         }
         memory::encode(&Table::default(), &mut table[..SIZE]);
         GOOD
+    }
+}
+
+impl ServesMany for Echo {
+    fn serve_many(
+        &mut self,
+        input: &[u8],
+        ends: &[u64],
+        table: &mut [u8],
+        second: u32,
+        reply: &mut [u8],
+        answer: &mut [u64],
+    ) -> u64 {
+        let lent = Lent {
+            table,
+            second,
+            reply,
+        };
+        self.many(input, ends, lent, answer)
     }
 }
 

@@ -10,8 +10,9 @@ use reference::hex::to_string;
 #[cfg(feature = "stored")]
 use crate::subject::Stores;
 use crate::subject::{
-    Asked, ComparesKeys, EntryParts, ReplyParts, RequestParts, Subject, ENTRY_WORDS, GOOD,
-    KEYS_WORDS, REPLY_WORDS, REQUEST_WORDS, SERVE_WORDS, STREAM_WORDS,
+    Asked, ComparesKeys, EntryParts, ReplyParts, RequestParts, ServesMany, Subject, ENTRY_WORDS,
+    FULL, GOOD, KEYS_WORDS, NO_ENDS, REPLY_WORDS, REQUEST_WORDS, SERVE_WORDS, SHARE_WORDS,
+    STREAM_WORDS,
 };
 #[cfg(feature = "lines")]
 use crate::subject::{Piece, ServesLines, LINES_WORDS};
@@ -106,6 +107,20 @@ extern "C" {
     fn fq_serve_stream(
         input: *const u8,
         input_len: usize,
+        table: *mut u8,
+        table_len: usize,
+        second: u32,
+        reply: *mut u8,
+        reply_len: usize,
+        answer: *mut u64,
+        answer_len: usize,
+    ) -> u64;
+
+    fn fq_serve_many(
+        input: *const u8,
+        input_len: usize,
+        ends: *const u64,
+        ends_len: usize,
         table: *mut u8,
         table_len: usize,
         second: u32,
@@ -409,6 +424,43 @@ impl Subject for Library {
         // SAFETY: the slice is lent for the call, with its length.
         let code = unsafe { fq_make(table.as_mut_ptr(), table.len()) };
         check_code("fq_make", code, 0, &[]);
+        code
+    }
+}
+
+impl ServesMany for Library {
+    fn serve_many(
+        &mut self,
+        input: &[u8],
+        ends: &[u64],
+        table: &mut [u8],
+        second: u32,
+        reply: &mut [u8],
+        answer: &mut [u64],
+    ) -> u64 {
+        // SAFETY: all slices are lent for the call, with their lengths, and
+        // those that may be written overlap no other.
+        let code = unsafe {
+            fq_serve_many(
+                input.as_ptr(),
+                input.len(),
+                ends.as_ptr(),
+                ends.len(),
+                table.as_mut_ptr(),
+                table.len(),
+                second,
+                reply.as_mut_ptr(),
+                reply.len(),
+                answer.as_mut_ptr(),
+                answer.len(),
+            )
+        };
+        check_code("fq_serve_many", code, (NO_ENDS - GOOD) as usize, input);
+        if code == GOOD {
+            let told = answer.chunks(SHARE_WORDS).take(ends.len());
+            let limits = [input.len(), reply.len(), FULL as usize];
+            told.for_each(|share| check_words("fq_serve_many", share, &limits, input));
+        }
         code
     }
 }

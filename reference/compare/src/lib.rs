@@ -8,7 +8,8 @@
 //!
 //! The parts: `messages` (a), `serving` (b), `streams` (c), `tables` (d),
 //! `values` (e), `lines` (f), `stored` (g), `edges` (h), `dates` (i),
-//! `keys` (j), `statistics` (k), `bulk` (l), `expiry` (m), `versions` (n).
+//! `keys` (j), `statistics` (k), `bulk` (l), `expiry` (m), `versions` (n),
+//! `many` (o).
 //!
 //! `cargo test --offline` tests the harness without the library. With it:
 //! `cargo run --release --offline --features library,lines,stored -- quick`;
@@ -34,6 +35,7 @@ pub mod keys;
 pub mod lent;
 pub mod lines;
 pub mod make;
+pub mod many;
 pub mod memory;
 pub mod messages;
 pub mod run;

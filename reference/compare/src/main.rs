@@ -68,6 +68,7 @@ fn parts() -> Vec<Part<Library>> {
     #[allow(unused_mut)]
     let mut parts = run::parts();
     parts.push(run::keys_part());
+    parts.push(run::many_part());
     #[cfg(feature = "lines")]
     parts.push(run::lines_part());
     #[cfg(feature = "stored")]

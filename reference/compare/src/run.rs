@@ -5,10 +5,10 @@ use std::time::{Duration, Instant};
 
 use crate::chance::Chance;
 use crate::difference::{Difference, Outcome};
-use crate::subject::{ComparesKeys, ServesLines, Stores, Subject};
+use crate::subject::{ComparesKeys, ServesLines, ServesMany, Stores, Subject};
 use crate::trial::{Counts, Trial};
 use crate::{
-    bulk, dates, edges, expiry, keys, lines, messages, serving, statistics, stored, streams,
+    bulk, dates, edges, expiry, keys, lines, many, messages, serving, statistics, stored, streams,
     tables, values, versions,
 };
 
@@ -73,6 +73,11 @@ pub fn keys_part<S: ComparesKeys>() -> Part<S> {
 /// Part k, statistics.
 pub fn statistics_part<S: Stores>() -> Part<S> {
     part(10, "statistics", 3_000, statistics::round)
+}
+
+/// Part o, many connections.
+pub fn many_part<S: ServesMany>() -> Part<S> {
+    part(14, "many", 300, many::round)
 }
 
 /// Part m, entries that expire.

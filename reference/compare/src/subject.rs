@@ -11,6 +11,9 @@ pub const GOOD: u64 = 0x100;
 /// A stream that ends before a call for which no room is left.
 pub const FULL: u64 = 0x101;
 
+/// The ends of many connections are none.
+pub const NO_ENDS: u64 = 0x102;
+
 /// The answer to a call whose list for the answer is too short: nothing is
 /// done.
 pub const UNTOLD: u64 = 12;
@@ -22,6 +25,8 @@ pub const ENTRY_WORDS: usize = 6;
 pub const SERVE_WORDS: usize = 2;
 pub const STREAM_WORDS: usize = 3;
 pub const LINES_WORDS: usize = 3;
+/// For each connection.
+pub const SHARE_WORDS: usize = 3;
 pub const KEYS_WORDS: usize = 2;
 
 /// The numbers a writer is given.
@@ -103,6 +108,19 @@ pub trait Subject {
     fn is_table(&mut self, table: &[u8]) -> bool;
 
     fn make(&mut self, table: &mut [u8]) -> u64;
+}
+
+/// Many connections.
+pub trait ServesMany: Subject {
+    fn serve_many(
+        &mut self,
+        input: &[u8],
+        ends: &[u64],
+        table: &mut [u8],
+        second: u32,
+        reply: &mut [u8],
+        answer: &mut [u64],
+    ) -> u64;
 }
 
 /// What a piece of a request file is: whether the rest of a line is to be

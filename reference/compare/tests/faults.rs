@@ -3,7 +3,8 @@
 
 use compare::echo::{Echo, Fault};
 use compare::run::{
-    dates_part, expiry_part, keys_part, lines_part, parts, play, statistics_part, stored_part, Part,
+    dates_part, expiry_part, keys_part, lines_part, many_part, parts, play, statistics_part,
+    stored_part, Part,
 };
 use compare::subject::GOOD;
 use compare::trial::Counts;
@@ -18,6 +19,7 @@ fn all_parts() -> Vec<Part<Echo>> {
     all.push(statistics_part());
     all.push(keys_part());
     all.push(expiry_part());
+    all.push(many_part());
     all
 }
 
@@ -132,6 +134,40 @@ fn bulk_replies_are_the_rows() {
 fn entries_expire_alike() {
     let counts = sound_rounds("expiry", 40);
     all_given(&counts, &[GOOD, 0, 4, 5, 8, 9, 10, 11, 12, 13]);
+}
+
+#[test]
+fn many_connections_are_served_alike() {
+    all_given(&sound_rounds("many", 6), &[GOOD, 12, 13]);
+}
+
+#[test]
+fn faults_of_many_connections_are_found() {
+    use Fault::*;
+    let faults = [
+        ManySwapsShares,
+        ManyFromStart,
+        ManyOverwrites,
+        ManyBulkRefused,
+        ManyNoTable,
+        ManyEndCut,
+        ManyAnyOrder,
+        ManyStopsAtRefused,
+        ManyStopsAtFull,
+        ManyShortList,
+        ManyEndsFirst,
+        ManyRoomFirst,
+        ManyTableFirst,
+        ManyTailIsLast,
+        ManyEmptyDone,
+        ManyWaitsTwelve,
+        ManyTellsMore,
+        RoomOneLess,
+        StopsAtNine,
+        BulkTwelveEndsStream,
+        BulkTwelveInStream,
+    ];
+    are_found("many", &faults);
 }
 
 #[test]

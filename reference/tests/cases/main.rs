@@ -6,6 +6,7 @@ mod expiry;
 mod help;
 mod keys;
 mod lines;
+mod many;
 mod map;
 mod number;
 mod program;

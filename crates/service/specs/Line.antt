@@ -8,6 +8,7 @@ use lib.Dec.{eqb, leb}
 use Rattle.wire.specs.Codec as wire
 use Rattle.wire.specs.Codec.{Read}
 use Rattle.wire.specs.Field.{bigEndian}
+use Rattle.text.specs.Ascii.{ascii}
 use Rattle.hex.specs.Hex.{toHex, fromHex}
 use Rattle.hex.specs.Number.{fromDigits}
 use Rattle.message.specs.Request.{Request, request}
@@ -36,10 +37,10 @@ asks s = cond (leb (length s) longest && eqb (getD s 8 0) 0x20) (asksOf (fromDig
 
 -- `refused 14` and `refused 15`
 abbrev pub refused14 : List ℕ
-refused14 = 0x72 ∷ 0x65 ∷ 0x66 ∷ 0x75 ∷ 0x73 ∷ 0x65 ∷ 0x64 ∷ 0x20 ∷ 0x31 ∷ 0x34 ∷ []
+refused14 = ascii "refused 14"
 
 abbrev pub refused15 : List ℕ
-refused15 = 0x72 ∷ 0x65 ∷ 0x66 ∷ 0x75 ∷ 0x73 ∷ 0x65 ∷ 0x64 ∷ 0x20 ∷ 0x31 ∷ 0x35 ∷ []
+refused15 = ascii "refused 15"
 
 -- the line that a line gives, without its line end, and the state that it leaves, or none where it is refused and changes nothing
 pub record Given : Type 0 where

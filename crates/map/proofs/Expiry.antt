@@ -4,7 +4,7 @@ use mathlib.Core.List.{List, [], _∷_}
 use mathlib.Core.Bool.{Bool, true, false, cond}
 use mathlib.Core.Option.{Option, none, some}
 use Prim.Native.Nat.{ℕ, suc, _≤_}
-use native.Mathlib.Nat.{le-refl, le-max-right, max-eq-left}
+use native.Mathlib.Nat.{le-refl, le-max-right}
 use native.Mathlib.Omega.{arith}
 use lib.ListN.{length, getD}
 use lib.Dec.{eqb, ltb}
@@ -22,7 +22,7 @@ use Rattle.map.specs.Shown.{shows, byVersion, wanted, lowest, listedBy}
 use Rattle.map.specs.Step.{mostKeys, lastVersion, Context, Result, Outcome, refused, answered, entry, stored, isNone, names, held, full, planned, statistics, result, act, core, present, swept, noted, arrive, step, stateAfter, Taken, run}
 use Rattle.map.specs.Table.{Each}
 use Rattle.map.specs.Counted.{ends}
-use Rattle.map.specs.Expiry.{Stands, ShowsEach, InTime, AllInTime, datedStep, Rises, greatest, firstServed}
+use Rattle.map.specs.Expiry.{Stands, ShowsEach, InTime, AllInTime, Rises, greatest, firstServed}
 use Rattle.map.proofs.Each.{Maybe, each-find}
 use Rattle.wire.proofs.SameLaws.{same-refl}
 use Rattle.map.proofs.Answered.{changed, did}
@@ -108,18 +108,6 @@ module _ (c : Context) (r : Request) (st : State) where
   pub counts-standing : getD (statistics c (arrive c r st)) 1 0 ≡ length (standing (present c st) (st .entries))
   unfolding statistics arrive noted swept
   counts-standing = refl
-
-  -- What moved since C-14, as one law: a step is that of C-14 on what stands, reckoned from the present second.
-  pub moved : step c r st ≡ datedStep (present c st) c r (swept c st)
-  unfolding step datedStep arrive noted swept
-  moved = refl
-
-  -- So at a second that is not below the latest one and before every deadline it is that of C-14, reckoned from the call's own second.
-  pub nothing-expired : st .history .latest ≤ c .second → Each (Stands (c .second)) (st .entries) → step c r st ≡ datedStep (c .second) c r st
-  unfolding swept
-  nothing-expired l h =
-      let own : present c st ≡ c .second = max-eq-left l in
-      moved ∙ rw (own, standing-all (c .second) (st .entries) h)
 
 -- "Deadlines are reckoned from it": what a step stores has the deadline from the present second
 pub stores-from : (c : Context) (r : Request) (st : State) (a : Result) (t : State) → step c r st ≡ answered a t → planned r (arrive c r st) .change ≡ store

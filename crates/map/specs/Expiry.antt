@@ -4,9 +4,9 @@ use mathlib.Core.Bool.{cond}
 use mathlib.Core.Option.{Option, none, some}
 use Prim.Native.Nat.{ℕ, _≤_, _<_, max}
 use Rattle.message.specs.Request.{Request}
-use Rattle.map.specs.State.{Entry, State, withHistory}
+use Rattle.map.specs.State.{Entry}
 use Rattle.map.specs.Shown.{Shown, nothing, noValue, value, versioned, counted, listed}
-use Rattle.map.specs.Step.{Context, Outcome, refused, answered, core, noted, Taken}
+use Rattle.map.specs.Step.{Context, Outcome, refused, answered, Taken}
 use Rattle.map.specs.Table.{Each}
 use Rattle.map.specs.Counted.{isAnswered}
 
@@ -31,13 +31,6 @@ InTime (answered a st) = ShowsEach (Stands (st .history .latest)) (a .shown)
 abbrev pub AllInTime : List Taken → Type 0
 AllInTime [] = Unit {0}
 AllInTime (x ∷ xs) = InTime (x .outcome) × AllInTime xs
-
--- C-14's step: nothing is dropped before it, and deadlines are reckoned from a second that is given, there the call's ("the lifespan is added to the call's
--- second")
-unfoldable pub datedStep : ℕ → Context → Request → State → Outcome
-datedStep second c r st =
-    let t = noted c r st in
-    core c r (withHistory (record { first = t .history .first; latest = second; counts = t .history .counts }) t)
 
 -- the latest second never falls, from n on
 abbrev pub Rises : ℕ → List Taken → Type 0

@@ -13,7 +13,8 @@ ghost use Rattle.message.specs.Reply.{asked, reply};
 ghost use Rattle.request_reader.specs.RequestRead.{requestAt};
 ghost use Rattle.reply_reader.specs.ReplyRead.{replyAt};
 ghost use Rattle.table.specs.Compare.{compared};
-ghost use Rattle.server.specs.CallDone.{callOf, contextOf};
+ghost use Rattle.map.specs.Step.{contextOf};
+ghost use Rattle.service.specs.Many as many;
 ghost use Rattle.exports.specs.Calls.{TellsDone, TellsTotal, TellsServed, keysCompared};
 ghost use Rattle.exports.specs.Codes.{tell, told};
 ghost use Rattle.exports.specs.Messages.{wholeRequest, wholeReply, wholeEntry, entryFrom};
@@ -95,7 +96,7 @@ pub(crate) fn serve(
     reply: &mut [u8],
     answer: &mut [u64],
 ) -> u64
-    ensures { λ r. ⌜ TellsDone (now (input .entry)) (now (table .entry)) (callOf second (now (reply .entry))) (now (reply .exit)) (now (table .exit)) (now (answer .entry)) (now (answer .exit)) r ⌝ }
+    ensures { λ r. ⌜ TellsDone (now (input .entry)) (now (table .entry)) (many.at (contextOf second) (now (reply .entry))) (now (reply .exit)) (now (table .exit)) (now (answer .entry)) (now (answer .exit)) r ⌝ }
 {
     let a = server::serve(input, table, second, reply);
     tell::numbers(answer, &[a.taken as u64, a.size as u64]);

@@ -24,7 +24,8 @@ ghost use Rattle.table.specs.Memory.{Sound};
 ghost use Rattle.table.specs.Compare.{compared};
 ghost use Rattle.table.specs.Found.{Tells as Says};
 ghost use Rattle.table.specs.Change.{Left, outcomeOf, made};
-ghost use Rattle.server.specs.CallDone.{callOf, contextOf};
+ghost use Rattle.map.specs.Step.{contextOf};
+ghost use Rattle.service.specs.Many as many;
 ghost use Rattle.exports.specs.Calls.{TellsDone, TellsTotal, TellsMany, TellsServed, TellsStored, TellsLoaded, outcomeCode, keysCompared, Untold};
 ghost use Rattle.exports.specs.Codes.{coded, tell, told, inRoom, IfRoom};
 ghost use Rattle.exports.specs.Messages.{wholeRequest, wholeReply, wholeEntry, entryFrom, sendRequest, sendReply, sendStatistics, sendEntries};
@@ -217,7 +218,7 @@ pub extern "C" fn fq_serve(
     reply: &mut [u8],
     answer: &mut [u64],
 ) -> u64
-    ensures { λ r. ⌜ IfRoom 2 (now (answer .entry)) (Untold r (now (answer .entry)) (now (answer .exit)) (now (reply .entry)) (now (reply .exit)) (now (table .entry)) (now (table .exit))) (TellsDone (now (input .entry)) (now (table .entry)) (callOf second (now (reply .entry))) (now (reply .exit)) (now (table .exit)) (now (answer .entry)) (now (answer .exit)) r) ⌝ }
+    ensures { λ r. ⌜ IfRoom 2 (now (answer .entry)) (Untold r (now (answer .entry)) (now (answer .exit)) (now (reply .entry)) (now (reply .exit)) (now (table .entry)) (now (table .exit))) (TellsDone (now (input .entry)) (now (table .entry)) (many.at (contextOf second) (now (reply .entry))) (now (reply .exit)) (now (table .exit)) (now (answer .entry)) (now (answer .exit)) r) ⌝ }
 {
     if answer.len() < Told::CALL {
         return 12;

@@ -25,7 +25,7 @@ use Rattle.message.specs.Start.{idIn}
 use Rattle.map.specs.State.{State}
 use Rattle.map.specs.Table.{IsTable, Ascending}
 use Rattle.map.specs.Step as map
-use Rattle.map.specs.Step.{Context, Outcome, answered, step}
+use Rattle.map.specs.Step.{Context, contextOf, Outcome, answered, step}
 use Rattle.map.specs.Reply.{flat, pieces}
 use Rattle.map.proofs.Keeps.{keeps}
 use Rattle.service.specs.Line.{longest, asksOf, asks, Given, given, stateLeft, refused15, inDigits, onFrame, onAsked, lineStep}
@@ -95,7 +95,7 @@ module _ (st : State) (f : Fit st) where
   asked-fits l none y p q = record { fit = f; short = omega arith }
   asked-fits l (some n) none p q = record { fit = f; short = omega arith }
   asked-fits l (some n) (some bs) p q =
-      frame-fits (record { second = n }) (second-small (take 8 l) n p) st f bs (to-from (drop 9 l) bs q .1) (request .dec bs) refl
+      frame-fits (contextOf n) (second-small (take 8 l) n p) st f bs (to-from (drop 9 l) bs q .1) (request .dec bs) refl
 
   line-fits : (l : List ℕ) → Fits st (lineStep l st)
   unfolding lineStep asks

@@ -14,7 +14,7 @@ use Rattle.map.specs.State.{Entry, State, find, without}
 use Rattle.map.specs.Deadline.{deadline, expired}
 use Rattle.map.specs.Plan.{plans, plan}
 use Rattle.map.specs.Shown.{Shown, nothing, value, shows}
-use Rattle.map.specs.Step.{Context, Outcome, refused, answered, Taken, entry, stored, held, full, planned, statusOf, result, act, core, swept, noted, arrive, step, run}
+use Rattle.map.specs.Step.{Context, contextOf, Outcome, refused, answered, Taken, entry, stored, held, full, planned, statusOf, result, act, core, swept, noted, arrive, step, run}
 
 abbrev ship : Entry
 ship = record { key = 0x62 ∷ []; value = 0x49 ∷ []; version = 1; deadline = 10 }
@@ -25,7 +25,7 @@ board = record { entries = ship ∷ []; last = 1; history = noHistory }
 -- a request for the key, at a second, to a cache by its name, with a lifespan
 abbrev asks : ℕ → Operation → List ℕ → ℕ → Context × Request
 asks second op name lifespan = (
-  record { second = second },
+  contextOf second,
   record {
     id = 1;
     version = 12;

@@ -27,6 +27,9 @@ lastVersion = 0x7fff_ffff_ffff_ffff
 pub record Context : Type 0 where
   pub second : ℕ
 
+abbrev pub contextOf : ℕ → Context
+contextOf second = record { second = second }
+
 pub record Result : Type 0 where
   pub status : ℕ
   pub shown : Shown

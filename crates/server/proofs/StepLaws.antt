@@ -37,6 +37,7 @@ use Rattle.service.specs.Serve as stream
 use Rattle.service.specs.Serve.{effect, errorPieces, onStep, served}
 use Rattle.service.specs.Stream as stream-of
 use Rattle.service.specs.Stream.{Done, Does, Serves}
+use Rattle.service.specs.Many.{at}
 use Rattle.service.proofs.Decides.{isSound}
 use Rattle.service.proofs.Sounds.{tells-sound}
 use Rattle.service.proofs.Calls.{within-fits, within-short}
@@ -44,8 +45,8 @@ use Rattle.plan.specs.declared.Held.{Held}
 use Rattle.plan.specs.Plan.{isFull, refusalOf, Holds, HoldsAt, heldVersion, heldAt, judgedAt}
 use Rattle.plan.proofs.PlanLaws.{all-stand, version-stands, holds-same, judged-stands}
 use Rattle.server.specs.declared.Answer.{Answer}
-use Rattle.server.specs.CallDone.{callOf, doneOf, Says, Sends}
-use Rattle.server.specs.Act.{at, less, replaced, Storable, after, Performs, PerformsWithin}
+use Rattle.server.specs.CallDone.{doneOf, Says, Sends}
+use Rattle.server.specs.Act.{less, replaced, Storable, after, Performs, PerformsWithin}
 
 -- what is sent, with the table that is left
 pub does : {ps : _} {n : ℕ} {v : stream.Verdict} {old new : List ℕ} {a : Answer} {o : _} {t t′ : List ℕ}
@@ -232,28 +233,28 @@ unfolding stored entry memory.entry
 replaced-is q st e = rw e
 
 -- a call on a sound table, with room for an error reply: what is read says what it does
-pub serves-read : (input t out : List ℕ) (second : ℕ) {d : Done} {x : Read Request} → Sound t → stream.room ≤ length out → request .dec input ≡ x
-    → Does (stream.within (length out) x (stream.onRead input (at second) (stateOf t) x)) t out d → Serves input t (callOf second out) d
+pub serves-read : (input t out : List ℕ) (c : Context) {d : Done} {x : Read Request} → Sound t → stream.room ≤ length out → request .dec input ≡ x
+    → Does (stream.within (length out) x (stream.onRead input c (stateOf t) x)) t out d → Serves input t (at c out) d
 unfolding stream.serve
-serves-read input t out second s l e d = record { ok = true; tells = says-yes s; does = rw (le-ltb (length out) stream.room l, e) d }
+serves-read input t out c s l e d = record { ok = true; tells = says-yes s; does = rw (le-ltb (length out) stream.room l, e) d }
 
 -- and one that is refused before it is read
-pub serves-short : (input t out : List ℕ) (second : ℕ) {a : Answer} → length out < stream.room → Says 0 0 (stream.refused 12) a → Serves input t (callOf second out) (doneOf a out t)
+pub serves-short : (input t out : List ℕ) (c : Context) {a : Answer} → length out < stream.room → Says 0 0 (stream.refused 12) a → Serves input t (at c out) (doneOf a out t)
 unfolding stream.serve
-serves-short input t out second l s =
+serves-short input t out c l s =
     record { ok = isSound t; tells = tells-sound t; does = rw (lt-ltb (length out) stream.room l) (does-still s) }
 
-pub serves-unsound : (input t out : List ℕ) (second : ℕ) {a : Answer} → stream.room ≤ length out → (Sound t → ⊥) → Says 0 0 (stream.refused 13) a
-    → Serves input t (callOf second out) (doneOf a out t)
+pub serves-unsound : (input t out : List ℕ) (c : Context) {a : Answer} → stream.room ≤ length out → (Sound t → ⊥) → Says 0 0 (stream.refused 13) a
+    → Serves input t (at c out) (doneOf a out t)
 unfolding stream.serve
-serves-unsound input t out second l e s =
+serves-unsound input t out c l e s =
     record { ok = false; tells = says-no e; does = rw (le-ltb (length out) stream.room l) (does-still s) }
 
 -- a request, by whether there is the room that it asks for
-module _ (t : List ℕ) (q : Request) (second n : ℕ) (out : List ℕ) where
-  pub performs-short : length out < stream.roomOf (q .op) → {a : Answer} → Says n 0 (stream.refused 12) a → PerformsWithin t q second n out (doneOf a out t)
+module _ (t : List ℕ) (q : Request) (c : Context) (n : ℕ) (out : List ℕ) where
+  pub performs-short : length out < stream.roomOf (q .op) → {a : Answer} → Says n 0 (stream.refused 12) a → PerformsWithin t q c n out (doneOf a out t)
   unfolding flat
-  performs-short l s = rw (within-short (length out) q n (onStep q n (step (at second) q (stateOf t))) l) (does (record { says = s; buffer = refl }) refl)
+  performs-short l s = rw (within-short (length out) q n (onStep q n (step c q (stateOf t))) l) (does (record { says = s; buffer = refl }) refl)
 
-  pub performs-fits : {d : Done} → stream.roomOf (q .op) ≤ length out → Performs t q second n out d → PerformsWithin t q second n out d
-  performs-fits l e = rw (within-fits (length out) q n (onStep q n (step (at second) q (stateOf t))) l) e
+  pub performs-fits : {d : Done} → stream.roomOf (q .op) ≤ length out → Performs t q c n out d → PerformsWithin t q c n out d
+  performs-fits l e = rw (within-fits (length out) q n (onStep q n (step c q (stateOf t))) l) e

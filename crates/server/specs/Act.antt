@@ -30,10 +30,8 @@ use Rattle.service.specs.Stream.{Becomes, Done, Does}
 use Rattle.plan.specs.declared.Held.{Held}
 use Rattle.plan.specs.Plan.{Holds, heldVersion, refusalOf}
 use Rattle.server.specs.declared.Answer.{Answer}
-use Rattle.server.specs.CallDone.{Sends}
-
-abbrev pub at : ℕ → Context
-at second = record { second = second }
+use Rattle.server.specs.declared.Context as server
+use Rattle.server.specs.CallDone.{Admissible, Sends}
 
 -- the value and the version that a reply of the form shows of the entry held
 abbrev pub valueShown : Form → Option Entry → List ℕ
@@ -87,10 +85,10 @@ pub record Planned (t : List ℕ) (q : Request) (held : Held) (s : ℕ) : Type 0
   pub status : step.planned q (stateOf t) .status ≡ s
 
 -- what a call has beside its request, and so much room at least
-pub record Given (t out : List ℕ) (least now : ℕ) : Type 0 where
+pub record Given (t out : List ℕ) (least : ℕ) (c : server.Context) : Type 0 where
   pub sound : Sound t
   pub room : least ≤ length out
-  pub second : now < 0x1_0000_0000
+  pub context : Admissible c
 
 -- the state that a change leaves which is not refused
 abbrev pub after : Request → State → Change → State
@@ -108,18 +106,18 @@ pub record Agreed (t : List ℕ) (q : Request) (held : Held) (d : Change) : Type
   pub left : IsTable (after q (stateOf t) d)
 
 -- a call has come: the table u is the one behind `arrive`, and this is held of the key there
-pub record Arrives (t : List ℕ) (q : Request) (second : ℕ) (u : List ℕ) (held : Held) : Type 0 where
-  pub table : Becomes t (some (step.arrive (at second) q (stateOf t))) u
+pub record Arrives (t : List ℕ) (q : Request) (c : Context) (u : List ℕ) (held : Held) : Type 0 where
+  pub table : Becomes t (some (step.arrive c q (stateOf t))) u
   pub holds : Holds u (q .args .key) held
 
 -- the map's reply to the request is sent
-abbrev pub Replies : List ℕ → Request → ℕ → ℕ → List ℕ → List ℕ → Answer → Type 0
-Replies t q second n old new a = Sends (pieces q (step.result (at second) q (stateOf t))) n served old new a
+abbrev pub Replies : List ℕ → Request → Context → ℕ → List ℕ → List ℕ → Answer → Type 0
+Replies t q c n old new a = Sends (pieces q (step.result c q (stateOf t))) n served old new a
 
 -- the request is performed, of which n bytes are taken
-abbrev pub Performs : List ℕ → Request → ℕ → ℕ → List ℕ → Done → Type 0
-Performs t q second n old d = Does (onStep q n (step.step (at second) q (stateOf t))) t old d
+abbrev pub Performs : List ℕ → Request → Context → ℕ → List ℕ → Done → Type 0
+Performs t q c n old d = Does (onStep q n (step.step c q (stateOf t))) t old d
 
 -- the same in the room that there is: a request that asks for more is taken and refused 12
-abbrev pub PerformsWithin : List ℕ → Request → ℕ → ℕ → List ℕ → Done → Type 0
-PerformsWithin t q second n old d = Does (within (length old) (wire.whole q n) (onStep q n (step.step (at second) q (stateOf t)))) t old d
+abbrev pub PerformsWithin : List ℕ → Request → Context → ℕ → List ℕ → Done → Type 0
+PerformsWithin t q c n old d = Does (within (length old) (wire.whole q n) (onStep q n (step.step c q (stateOf t)))) t old d

@@ -1,15 +1,16 @@
 -- What the answers of a call and of a stream of calls say: what was taken and sent, and what the call left.
 use mathlib.Core.Path.{_≡_}
 use mathlib.Core.List.{List}
-use Prim.Native.Nat.{ℕ, _-_, _≤_}
+use Prim.Native.Nat.{ℕ, _-_, _≤_, _<_}
 use lib.ListN.{length, take, drop}
 use lib.Seq.{sets}
 use Rattle.map.specs.Reply.{Piece, flat}
 use Rattle.service.specs.Serve as stream
-use Rattle.map.specs.Step.{Context}
+use Rattle.map.specs.Step as map
 use Rattle.table.specs.Memory.{Sound}
-use Rattle.service.specs.Stream.{Call, Done, Serves}
-use Rattle.service.specs.Many.{Total}
+use Rattle.service.specs.Stream.{Done, Serves}
+use Rattle.service.specs.Many.{Total, at}
+use Rattle.server.specs.declared.Context.{Context}
 use Rattle.server.specs.declared.Verdict.{Verdict}
 use Rattle.server.specs.declared.Verdict.the-variants as v
 use Rattle.server.specs.declared.Answer.{Answer}
@@ -24,12 +25,13 @@ asVerdict v.Full = stream.full
 abbrev pub asAnswer : Answer → stream.Answer
 asAnswer a = record { taken = a .taken; verdict = asVerdict (a .verdict) }
 
-abbrev pub contextOf : ℕ → Context
-contextOf second = record { second = second }
+-- what a call is given beside its request, as the map says it
+abbrev pub asContext : Context → map.Context
+asContext c = map.contextOf (c .second .0)
 
--- a call at a second, with a reply buffer
-abbrev pub callOf : ℕ → List ℕ → Call
-callOf second buffer = record { context = contextOf second; buffer = buffer }
+-- a context that a call can be given: "a second is a u32"
+abbrev pub Admissible : Context → Type 0
+Admissible c = c .second .0 < 0x1_0000_0000
 
 -- what a call left
 abbrev pub doneOf : Answer → List ℕ → List ℕ → Done
@@ -59,7 +61,7 @@ pub record Ready (input : List ℕ) (taken : ℕ) (table reply : List ℕ) (size
   pub room : stream.room ≤ length reply - size
 
 -- a call of a stream, which keeps what is sent already
-pub record CallsAt (c : Context) (input : List ℕ) (taken : ℕ) (table old : List ℕ) (size : ℕ) (a : Answer) (new after : List ℕ) : Type 0 where
-  pub serves : Serves (drop taken input) table (record { context = c; buffer = drop size old }) (doneOf a (drop size new) after)
+pub record CallsAt (c : map.Context) (input : List ℕ) (taken : ℕ) (table old : List ℕ) (size : ℕ) (a : Answer) (new after : List ℕ) : Type 0 where
+  pub serves : Serves (drop taken input) table (at c (drop size old)) (doneOf a (drop size new) after)
   pub front : take size new ≡ take size old
   pub long : length new ≡ length old

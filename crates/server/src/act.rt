@@ -1,5 +1,6 @@
 // Serving a request on a table that is sound, with room for an error reply at least.
 use crate::Answer;
+use crate::Context;
 use crate::Verdict;
 use crate::bulk;
 use field::EntryVersion;
@@ -35,9 +36,10 @@ ghost use Rattle.table.specs.Found.{entryAt};
 ghost use Rattle.table.specs.Change as table;
 ghost use Rattle.service.specs.Serve as stream;
 ghost use Rattle.service.specs.Stream.{Becomes, Serves};
+ghost use Rattle.service.specs.Many.{at};
 ghost use Rattle.plan.specs.Plan.{asChange, Holds, HoldsAt, heldAt, heldVersion};
-ghost use Rattle.server.specs.CallDone.{asVerdict, callOf, doneOf, Says, Sends};
-ghost use Rattle.server.specs.Act.{at, isPlain, valueShown, versionShown, sentTo, less, replaced, Storable, after, Planned, Agreed, Given, Arrives, Replies, Performs, PerformsWithin};
+ghost use Rattle.server.specs.CallDone.{asContext, Admissible, asVerdict, doneOf, Says, Sends};
+ghost use Rattle.server.specs.Act.{isPlain, valueShown, versionShown, sentTo, less, replaced, Storable, after, Planned, Agreed, Given, Arrives, Replies, Performs, PerformsWithin};
 
 // Nothing sent.
 pub(crate) fn unsent(taken: usize, v: Verdict) -> Answer
@@ -151,13 +153,14 @@ fn write_held(out: &mut [u8], t: &[u8], h: Head, status: u8, held: Held) -> Sent
 }
 
 // Writes the reply of a status: the statistics at the second, the entries listed, or what it shows of the entry held.
-fn write(out: &mut [u8], t: &[u8], h: Head, status: u8, held: Held, second: Second) -> Sent
-    requires { ⌜ second .0 < 0x1_0000_0000 ⌝ }
-    ensures { λ r. ⌜ ((name key value : List ℕ) → stream.roomOf (h .op) ≤ length (now (out .entry)) → Planned (now (t .entry)) (requestOf h name key value) held status → (asSent r, now (out .exit)) ≡ sentTo (at (second .0)) (requestOf h name key value) (stateOf (now (t .entry))) (now (out .entry))) ⌝ }
+fn write(out: &mut [u8], t: &[u8], h: Head, status: u8, held: Held, context: Context) -> Sent
+    requires { ⌜ Admissible context ⌝ }
+    ensures { λ r. ⌜ ((name key value : List ℕ) → stream.roomOf (h .op) ≤ length (now (out .entry)) → Planned (now (t .entry)) (requestOf h name key value) held status → (asSent r, now (out .exit)) ≡ sentTo (asContext context) (requestOf h name key value) (stateOf (now (t .entry))) (now (out .entry))) ⌝ }
 {
     let op = h.op;
     match op {
         Operation::Stats => {
+            let second = context.second;
             let x = table::statistics(t, second);
             reply_writer::write_statistics(out, asked_by(h), h.id, x)
         }
@@ -174,24 +177,25 @@ fn respond(
     h: Head,
     status: u8,
     held: Held,
-    second: Second,
+    context: Context,
     taken: usize,
 ) -> Answer
     requires { ⌜ stream.roomOf (h .op) ≤ length (now out) ⌝ }
-    requires { ⌜ second .0 < 0x1_0000_0000 ⌝ }
-    ensures { λ r. ⌜ ((name key value : List ℕ) → Planned (now (t .entry)) (requestOf h name key value) held status → Replies (now (t .entry)) (requestOf h name key value) (second .0) taken (now (out .entry)) (now (out .exit)) r) ⌝ }
+    requires { ⌜ Admissible context ⌝ }
+    ensures { λ r. ⌜ ((name key value : List ℕ) → Planned (now (t .entry)) (requestOf h name key value) held status → Replies (now (t .entry)) (requestOf h name key value) (asContext context) taken (now (out .entry)) (now (out .exit)) r) ⌝ }
 {
-    let w = write(out, t, h, status, held, second);
+    let w = write(out, t, h, status, held, context);
     ended(w, taken, Verdict::Served)
 }
 
 // Notes a call in the table: what has expired at the present second goes, the call is counted, by its operation and by what is held of what stands, and
 // its second is the first one where none was served before.
-fn note_call(t: &mut [u8], h: Head, held: Held, second: Second)
-    requires { ⌜ second .0 < 0x1_0000_0000 ⌝ }
-    ensures { λ _. ⌜ ((name key value : List ℕ) → Sound (now (t .entry)) → HoldsAt (map.present (at (second .0)) (stateOf (now (t .entry)))) (now (t .entry)) key held → Becomes (now (t .entry)) (some (map.arrive (at (second .0)) (requestOf h name key value) (stateOf (now (t .entry))))) (now (t .exit))) ⌝ }
+fn note_call(t: &mut [u8], h: Head, held: Held, context: Context)
+    requires { ⌜ Admissible context ⌝ }
+    ensures { λ _. ⌜ ((name key value : List ℕ) → Sound (now (t .entry)) → HoldsAt (map.present (asContext context) (stateOf (now (t .entry)))) (now (t .entry)) key held → Becomes (now (t .entry)) (some (map.arrive (asContext context) (requestOf h name key value) (stateOf (now (t .entry))))) (now (t .exit))) ⌝ }
 {
     let op = h.op;
+    let second = context.second;
     let Held::Row(_, _) = held else {
         table::arrive(t, op, true, second);
         return;
@@ -214,12 +218,13 @@ fn moved(t: &[u8], key: &[u8], held: Held) -> Held
 }
 
 // What a call that is not refused does before its step. It answers where the key is held then: as before where no entry can have expired.
-fn arrive(t: &mut [u8], h: Head, key: &[u8], held: Held, second: Second) -> Held
-    requires { ⌜ second .0 < 0x1_0000_0000 ⌝ }
-    ensures { λ r. ⌜ ((name k value : List ℕ) → now (key .entry) ≡ k → Sound (now (t .entry)) → HoldsAt (map.present (at (second .0)) (stateOf (now (t .entry)))) (now (t .entry)) k held → Arrives (now (t .entry)) (requestOf h name k value) (second .0) (now (t .exit)) r) ⌝ }
+fn arrive(t: &mut [u8], h: Head, key: &[u8], held: Held, context: Context) -> Held
+    requires { ⌜ Admissible context ⌝ }
+    ensures { λ r. ⌜ ((name k value : List ℕ) → now (key .entry) ≡ k → Sound (now (t .entry)) → HoldsAt (map.present (asContext context) (stateOf (now (t .entry)))) (now (t .entry)) k held → Arrives (now (t .entry)) (requestOf h name k value) (asContext context) (now (t .exit)) r) ⌝ }
 {
+    let second = context.second;
     let due = table::is_due(t, table::present(t, second));
-    note_call(t, h, held, second);
+    note_call(t, h, held, context);
     if due {
         return moved(t, key, held);
     }
@@ -293,18 +298,19 @@ pub(crate) fn perform(
     r: Request,
     n: usize,
     t: &mut [u8],
-    second: Second,
+    context: Context,
     out: &mut [u8],
 ) -> Answer
-    requires { ⌜ Given (now t) (now out) (stream.roomOf (r .head .op)) (second .0) ⌝ }
+    requires { ⌜ Given (now t) (now out) (stream.roomOf (r .head .op)) context ⌝ }
     requires { ⌜ Valid request (requestIn (now input) r) ⌝ }
-    ensures { λ a. ⌜ Performs (now (t .entry)) (requestIn (now (input .entry)) r) (second .0) n (now (out .entry)) (doneOf a (now (out .exit)) (now (t .exit))) ⌝ }
+    ensures { λ a. ⌜ Performs (now (t .entry)) (requestIn (now (input .entry)) r) (asContext context) n (now (out .entry)) (doneOf a (now (out .exit)) (now (t .exit))) ⌝ }
 {
     let h = r.head;
     if r.name_in(input).len() != 0 {
         return refuse(out, h.id, 9, n);
     }
     let key = r.key_in(input);
+    let second = context.second;
     let present = table::present(t, second);
     let held = plan::held_in(t, key, present);
     let op = h.op;
@@ -315,8 +321,8 @@ pub(crate) fn perform(
     match j {
         Judged::Refused(k) => refuse(out, h.id, k, n),
         Judged::Free => {
-            let found = arrive(t, h, key, held, second);
-            let a = respond(out, t, h, p.status, found, second, n);
+            let found = arrive(t, h, key, held, context);
+            let a = respond(out, t, h, p.status, found, context, n);
             change(input, r, t, c, found);
             a
         }
@@ -340,31 +346,31 @@ fn perform_within(
     r: Request,
     n: usize,
     t: &mut [u8],
-    second: Second,
+    context: Context,
     out: &mut [u8],
 ) -> Answer
-    requires { ⌜ Given (now t) (now out) stream.room (second .0) ⌝ }
+    requires { ⌜ Given (now t) (now out) stream.room context ⌝ }
     requires { ⌜ Valid request (requestIn (now input) r) ⌝ }
-    ensures { λ a. ⌜ PerformsWithin (now (t .entry)) (requestIn (now (input .entry)) r) (second .0) n (now (out .entry)) (doneOf a (now (out .exit)) (now (t .exit))) ⌝ }
+    ensures { λ a. ⌜ PerformsWithin (now (t .entry)) (requestIn (now (input .entry)) r) (asContext context) n (now (out .entry)) (doneOf a (now (out .exit)) (now (t .exit))) ⌝ }
 {
     let h = r.head;
     let op = h.op;
     if out.len() < room_of(op) {
         return unsent(n, Verdict::Refused(12));
     }
-    perform(input, r, n, t, second, out)
+    perform(input, r, n, t, context, out)
 }
 
 // The request at the front of the input.
-pub(crate) fn serve_sound(input: &[u8], t: &mut [u8], second: Second, out: &mut [u8]) -> Answer
+pub(crate) fn serve_sound(input: &[u8], t: &mut [u8], context: Context, out: &mut [u8]) -> Answer
     requires { ⌜ Sound (now t) ⌝ }
     requires { ⌜ stream.room ≤ length (now out) ⌝ }
-    requires { ⌜ second .0 < 0x1_0000_0000 ⌝ }
-    ensures { λ a. ⌜ Serves (now (input .entry)) (now (t .entry)) (callOf (second .0) (now (out .entry))) (doneOf a (now (out .exit)) (now (t .exit))) ⌝ }
+    requires { ⌜ Admissible context ⌝ }
+    ensures { λ a. ⌜ Serves (now (input .entry)) (now (t .entry)) (at (asContext context) (now (out .entry))) (doneOf a (now (out .exit)) (now (t .exit))) ⌝ }
 {
     let q = request_reader::read_request(input);
     match q {
-        RequestRead::Whole(r, n) => perform_within(input, r, n, t, second, out),
+        RequestRead::Whole(r, n) => perform_within(input, r, n, t, context, out),
         RequestRead::More => unsent(0, Verdict::More),
         RequestRead::Refused(k) => refuse(out, request_reader::read_id(input), k, 0),
     }

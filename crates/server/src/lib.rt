@@ -8,11 +8,17 @@ use field::Second;
 ghost use mathlib.Core.Path.{_≡_};
 ghost use mathlib.Core.Bool.{false, _&&_, _||_};
 ghost use lib.Dec.{ltb};
+ghost use Rattle.map.specs.Step.{contextOf};
 ghost use Rattle.service.specs.Stream.{Serves};
-ghost use Rattle.service.specs.Many.{isShort, Streams};
-ghost use Rattle.server.specs.CallDone.{asVerdict, callOf, doneOf, contextOf, totalOf, Ready, CallsAt};
+ghost use Rattle.service.specs.Many.{isShort, at, Streams};
+ghost use Rattle.server.specs.CallDone.{asVerdict, doneOf, totalOf, Ready, CallsAt};
 ghost use Rattle.server.specs.Lines.{ServesLines};
 ghost use Rattle.server.specs.Gives.{Begun, ServesMany};
+
+// What a call is given beside its request.
+struct Context {
+    second: Second,
+}
 
 // How a call ended, or a stream: full is a stream that needs an emptied reply buffer.
 pub enum Verdict {
@@ -38,7 +44,7 @@ impl Answer {
 
 // Serves the request at the front of the input.
 pub fn serve(input: &[u8], table: &mut [u8], second: u32, reply: &mut [u8]) -> Answer
-    ensures { λ r. ⌜ Serves (now (input .entry)) (now (table .entry)) (callOf second (now (reply .entry))) (doneOf r (now (reply .exit)) (now (table .exit))) ⌝ }
+    ensures { λ r. ⌜ Serves (now (input .entry)) (now (table .entry)) (at (contextOf second) (now (reply .entry))) (doneOf r (now (reply .exit)) (now (table .exit))) ⌝ }
 {
     if reply.len() < Answer::ROOM {
         return act::unsent(0, Verdict::Refused(12));
@@ -83,7 +89,9 @@ fn call_at(
     act::serve_sound(
         &input[taken..],
         table,
-        Second(second as u64),
+        Context {
+            second: Second(second as u64),
+        },
         &mut reply[size..],
     )
 }

@@ -1,4 +1,5 @@
 // Serving the lines of a file of requests on a table that is sound, with room for a line.
+use crate::Context;
 use crate::Fed;
 use crate::Served;
 use crate::act;
@@ -21,6 +22,7 @@ ghost use Rattle.service.specs.Serve.{errorPieces};
 ghost use Rattle.service.specs.Feed.{lineEnd, turnOf};
 ghost use Rattle.service.specs.Turns.{lineRoom};
 ghost use Rattle.table.specs.Memory.{stateOf, Sound};
+ghost use Rattle.server.specs.CallDone.{asContext, Admissible};
 ghost use Rattle.server.specs.Lines.{asked, isDue, Formed, Puts, GivesReply, GivesFrame, GivesLine, Counts, TurnDone, TurnsDone};
 
 // What reading the form of a line finds: its second and so many bytes, or another form.
@@ -85,26 +87,26 @@ fn send_reply(
     frame: &[u8],
     r: Request,
     t: &mut [u8],
-    second: Second,
+    context: Context,
     out: &mut [u8],
     at: usize,
 ) -> usize
     requires { ⌜ Sound (now t) ⌝ }
     requires { ⌜ at + lineRoom ≤ length (now out) ⌝ }
-    requires { ⌜ second .0 < 0x1_0000_0000 ⌝ }
+    requires { ⌜ Admissible context ⌝ }
     requires { ⌜ Valid request (requestIn (now frame) r) ⌝ }
-    ensures { λ n. ⌜ GivesReply (requestIn (now (frame .entry)) r) (length (now (frame .entry))) (step (asked (second .0) (now (frame .entry)) .context) (requestIn (now (frame .entry)) r) (stateOf (now (t .entry)))) (now (out .entry)) (now (out .exit)) at n (now (t .entry)) (now (t .exit)) ⌝ }
+    ensures { λ n. ⌜ GivesReply (requestIn (now (frame .entry)) r) (length (now (frame .entry))) (step (asked (asContext context) (now (frame .entry)) .context) (requestIn (now (frame .entry)) r) (stateOf (now (t .entry)))) (now (out .entry)) (now (out .exit)) at n (now (t .entry)) (now (t .exit)) ⌝ }
 {
-    let a = act::perform(frame, r, frame.len(), t, second, &mut out[at..]);
+    let a = act::perform(frame, r, frame.len(), t, context, &mut out[at..]);
     hex::make_line(out, at, a.size)
 }
 
 // The bytes of a line: a whole request with nothing behind it is served.
-fn serve_frame(frame: &[u8], t: &mut [u8], second: Second, out: &mut [u8], at: usize) -> usize
+fn serve_frame(frame: &[u8], t: &mut [u8], context: Context, out: &mut [u8], at: usize) -> usize
     requires { ⌜ Sound (now t) ⌝ }
     requires { ⌜ at + lineRoom ≤ length (now out) ⌝ }
-    requires { ⌜ second .0 < 0x1_0000_0000 ⌝ }
-    ensures { λ r. ⌜ GivesFrame (asked (second .0) (now (frame .entry))) (now (out .entry)) (now (out .exit)) at r (now (t .entry)) (now (t .exit)) ⌝ }
+    requires { ⌜ Admissible context ⌝ }
+    ensures { λ r. ⌜ GivesFrame (asked (asContext context) (now (frame .entry))) (now (out .entry)) (now (out .exit)) at r (now (t .entry)) (now (t .exit)) ⌝ }
 {
     let q = request_reader::read_request(frame);
     match q {
@@ -112,7 +114,7 @@ fn serve_frame(frame: &[u8], t: &mut [u8], second: Second, out: &mut [u8], at: u
             if n != frame.len() {
                 return put_text(b"refused 15\n", out, at);
             }
-            send_reply(frame, r, t, second, out, at)
+            send_reply(frame, r, t, context, out, at)
         }
         RequestRead::More => put_text(b"refused 15\n", out, at),
         RequestRead::Refused(k) => send_error(frame, k, out, at),
@@ -128,7 +130,9 @@ pub(crate) fn line_sound(line: &[u8], t: &mut [u8], out: &mut [u8], at: usize) -
     let mut frame = [0; 512];
     let f = read_form(line, &mut frame);
     match f {
-        LineRead::Frame(second, n) => serve_frame(&frame[..n], t, second, out, at),
+        LineRead::Frame(second, n) => {
+            serve_frame(&frame[..n], t, Context { second: second }, out, at)
+        }
         LineRead::Bad => put_text(b"refused 14\n", out, at),
     }
 }

@@ -13,7 +13,7 @@ use Rattle.hex.specs.Hex.{toHex, fromHex}
 use Rattle.hex.specs.Number.{fromDigits}
 use Rattle.message.specs.Request.{Request, request}
 use Rattle.map.specs.State.{State}
-use Rattle.map.specs.Step.{Context}
+use Rattle.map.specs.Step.{Context, contextOf}
 use Rattle.map.specs.Reply.{flat}
 use Rattle.service.specs.Serve.{Effect, onRead}
 
@@ -29,7 +29,7 @@ pub record Asks : Type 0 where
 abbrev pub asksOf : Option ℕ → Option (List ℕ) → Option Asks
 asksOf none b = none
 asksOf (some s) none = none
-asksOf (some s) (some b) = some (record { context = record { second = s }; frame = b })
+asksOf (some s) (some b) = some (record { context = contextOf s; frame = b })
 
 -- "eight lowercase digits (the second), one space, an even number of lowercase digits"
 unfoldable pub asks : List ℕ → Option Asks

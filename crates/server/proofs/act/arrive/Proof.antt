@@ -3,7 +3,7 @@ use mathlib.Core.Path.{sym, ap, _∙_}
 use Prim.Native.Nat.{ℕ}
 use Rattle.message.specs.Request.{requestOf}
 use Rattle.table.specs.Sweep.{isDue}
-use Rattle.server.specs.Act.{at}
+use Rattle.server.specs.CallDone.{asContext}
 use Rattle.server.proofs.StepLaws.{held-on, held-left}
 use borrow.Author.Needs.{needs}
 use Rattle.server.proofs.act.arrive.Statement.{statement}
@@ -18,7 +18,7 @@ module _ (w : tie.After-note-call) where
   clock = judged .before
 
   abbrev start : tie.Start
-  start = clock .before .before .before .before
+  start = clock .before .before .before .before .before
 
 returns : tie.Need-returns
 returns c name k value f s h =
@@ -26,7 +26,7 @@ returns c name k value f s h =
     let b = start w in
     let e = w .note-call .ensures name k value s h in
     let m = rw f at (c .moved .ensures) in
-    record { table = e; holds = m (held-left (at (b .args .second .0)) (requestOf (b .args .h) name k value) _ e (b .args .held) s h) }
+    record { table = e; holds = m (held-left (asContext (b .args .context)) (requestOf (b .args .h) name k value) _ e (b .args .held) s h) }
 
 returns-2 : tie.Need-returns-2
 returns-2 c name k value f s h =
@@ -34,7 +34,7 @@ returns-2 c name k value f s h =
     let b = start w in
     let e = w .note-call .ensures name k value s h in
     let d = judged w .is-due .ensures ∙ ap (λ (n : ℕ). isDue n (b .args .t .now)) (clock w .present .ensures) in
-    record { table = e; holds = held-on (at (b .args .second .0)) (requestOf (b .args .h) name k value) _ e (b .args .held) s (sym d ∙ c .if1 .left) h }
+    record { table = e; holds = held-on (asContext (b .args .context)) (requestOf (b .args .h) name k value) _ e (b .args .held) s (sym d ∙ c .if1 .left) h }
 
 pub arrive-spec : {M : Type 1} → statement M
 arrive-spec =

@@ -4,7 +4,7 @@ use Rattle.message.specs.Request.{requestOf}
 use Rattle.map.specs.Step.{isNone}
 use Rattle.plan.specs.declared.Held.{Held}
 use Rattle.plan.specs.Plan.{heldVersion}
-use Rattle.server.specs.Act.{at}
+use Rattle.server.specs.CallDone.{asContext}
 use Rattle.server.proofs.StepLaws.{absent-come, arrives}
 use borrow.Author.Needs.{needs}
 use Rattle.server.proofs.act.note_call.Statement.{statement}
@@ -14,19 +14,19 @@ returns : tie.Need-returns
 returns c name key value s h =
     let a = c .before .before in
     let e = a .before .before in
-    let b = e .before .before .before in
+    let b = e .before .before .before .before in
     let q = requestOf (b .args .h) name key value in
-    arrives (at (b .args .second .0)) q s (b .pre)
-    (absent-come (at (b .args .second .0)) q _ s (b .args .held) h ∙ ap (λ (x : Held). isNone (heldVersion x)) (e .enum-told2 .given .1)) (a .arrive .ensures .1)
+    arrives (asContext (b .args .context)) q s (b .pre)
+    (absent-come (asContext (b .args .context)) q _ s (b .args .held) h ∙ ap (λ (x : Held). isNone (heldVersion x)) (e .enum-told2 .given .1)) (a .arrive .ensures .1)
 
 returns-2 : tie.Need-returns-2
 returns-2 c name key value s h =
     let a = c .before .before in
     let e = a .before .before in
-    let b = e .before .before .before in
+    let b = e .before .before .before .before in
     let q = requestOf (b .args .h) name key value in
-    arrives (at (b .args .second .0)) q s (b .pre)
-    (absent-come (at (b .args .second .0)) q _ s (b .args .held) h ∙ ap (λ (x : Held). isNone (heldVersion x)) (e .enum-told .given .1)) (a .arrive2 .ensures .1)
+    arrives (asContext (b .args .context)) q s (b .pre)
+    (absent-come (asContext (b .args .context)) q _ s (b .args .held) h ∙ ap (λ (x : Held). isNone (heldVersion x)) (e .enum-told .given .1)) (a .arrive2 .ensures .1)
 
 pub note-call-spec : {M : Type 1} → statement M
 note-call-spec =

@@ -22,7 +22,8 @@ use Rattle.plan.specs.declared.Held.{Held}
 use Rattle.plan.specs.Plan.{asPlan, asChange, asJudged, heldVersion, HoldsAt, judgedAt, refusalOf}
 use Rattle.plan.specs.declared.Judged.the-variants as judged
 use Rattle.plan.proofs.PlanLaws.{version-held}
-use Rattle.server.specs.Act.{at, after, Planned, Agreed, Arrives}
+use Rattle.server.specs.CallDone.{asContext}
+use Rattle.server.specs.Act.{after, Planned, Agreed, Arrives}
 use Rattle.server.proofs.StepLaws.{does-refused, does-answered, held-come, judged-come, step-named, step-refused, step-made}
 use borrow.Author.Needs.{needs}
 use Rattle.server.proofs.act.perform.Statement.{statement}
@@ -64,7 +65,7 @@ module _ (c : tie.After-refusal-of) where
   clock = found .before .before
 
   abbrev named : tie.After-key-in
-  named = clock .before .before
+  named = clock .before .before .before
 
   abbrev start : tie.Start
   start = begin (named .before .before)
@@ -73,7 +74,7 @@ module _ (c : tie.After-refusal-of) where
   change = asChange (c .before .before .plan-of .result .change)
 
   abbrev context : map.Context
-  context = at (start .args .second .0)
+  context = asContext (start .args .context)
 
   abbrev come : State
   come = map.arrive context (asked start) (state start)
@@ -114,9 +115,9 @@ module _ (c : tie.After-refusal-of) where
     made = step-made context _ _ _ same change unnamed (rw planned) free
 
     fits : IsTable (after (asked start) come change)
-    fits = keeps-table context (asked start) (state start) (start .pre .0 .sound .table) _ _ made (start .pre .1) (start .pre .0 .second)
+    fits = keeps-table context (asked start) (state start) (start .pre .0 .sound .table) _ _ made (start .pre .1) (start .pre .0 .context)
 
-    module _ {u : List ℕ} {x : Held} (w : Arrives (start .args .t .now) (asked start) (start .args .second .0) u x) where
+    module _ {u : List ℕ} {x : Held} (w : Arrives (start .args .t .now) (asked start) context u x) where
       same-on : heldVersion x ≡ heldVersion (found .held-in .result)
       unfolding map.held
       same-on =
@@ -151,13 +152,13 @@ module _ (c : tie.After-arrive) where
   q = asked (start first)
 
 arrive-requires : tie.Need-arrive-requires
-arrive-requires c κs = omega (arith, start (c .before .before .before) .pre .0 .second)
+arrive-requires c κs = omega (arith, start (c .before .before .before) .pre .0 .context)
 
 respond-requires : tie.Need-respond-requires
 respond-requires c κs =
     let a = c .before .before .before .before in
     let s = start (first a) in
-    (s .pre .0 .room, s .pre .0 .second)
+    (s .pre .0 .room, s .pre .0 .context)
 
 change-requires : tie.Need-change-requires
 change-requires c κs =

@@ -17,7 +17,7 @@ perform-requires : tie.Need-perform-requires
 perform-requires c κs =
     let i = c .before .before in
     let s = begin (i .before) in
-    (record { sound = s .pre .0 .sound; room = omega (arith, i .if1 .left, i .before .room-of .ensures); second = s .pre .0 .second }, s .pre .1)
+    (record { sound = s .pre .0 .sound; room = omega (arith, i .if1 .left, i .before .room-of .ensures); context = s .pre .0 .context }, s .pre .1)
 
 returns-2 : tie.Need-returns-2
 returns-2 c =

@@ -31,7 +31,7 @@ perform-within-requires c κs =
     let w = c .before .before .before in
     let r = w .before .before in
     let s = begin r in
-    (record { sound = s .pre .0; room = s .pre .1 .0; second = s .pre .1 .1 }, request-laws .exact _ _ _ (bytes r) (found w) .good)
+    (record { sound = s .pre .0; room = s .pre .1 .0; context = s .pre .1 .1 }, request-laws .exact _ _ _ (bytes r) (found w) .good)
 
 returns : tie.Need-returns
 unfolding onRead within

@@ -10,7 +10,7 @@ perform-requires : tie.Need-perform-requires
 perform-requires c κs =
     let s = c .before .before .before .before .before in
     let r = lent-room (s .args .out .now) (s .args .at) (s .pre .1 .0) in
-    (record { sound = s .pre .0; room = omega (arith, r, room-most (s .args .r .head .op)); second = s .pre .1 .1 .0 }, s .pre .1 .1 .1)
+    (record { sound = s .pre .0; room = omega (arith, r, room-most (s .args .r .head .op)); context = s .pre .1 .1 .0 }, s .pre .1 .1 .1)
 
 returns : tie.Need-returns
 returns c =

@@ -5,6 +5,7 @@
 mod bulk;
 mod expiry;
 mod many;
+mod order;
 mod versions;
 
 use reference::history::{COUNTS, RETRIEVALS, STORES};
@@ -31,9 +32,9 @@ use crate::memory::{
 };
 use crate::messages::{reply_numbers, request_numbers};
 use crate::subject::{
-    read_code, verdict_code, write_code, Asked, ComparesKeys, EntryParts, Piece, ReplyParts,
-    RequestParts, ServesLines, ServesMany, Stores, Subject, ENTRY_WORDS, FULL, GOOD, KEYS_WORDS,
-    REPLY_WORDS, REQUEST_WORDS, SERVE_WORDS, STREAM_WORDS, UNTOLD,
+    read_code, verdict_code, write_code, Asked, ComparesKeys, EntryParts, ListsKeys, Piece,
+    ReplyParts, RequestParts, ServesLines, ServesMany, Stores, Subject, ENTRY_WORDS, FULL, GOOD,
+    KEYS_WORDS, REPLY_WORDS, REQUEST_WORDS, SERVE_WORDS, STREAM_WORDS, UNTOLD,
 };
 
 /// What is wrong with an `Echo`.
@@ -189,6 +190,34 @@ pub enum Fault {
     StoresEqual,
     StoresLastStanding,
     LoadKeepsLatest,
+    // The order of the keys, and the listing.
+    OrderByLength,
+    OrderSigned,
+    OrderLongerFirst,
+    OrderAppends,
+    OrderKeepsRemoved,
+    LoadKeepsOrder,
+    LoadByVersion,
+    OrderUnchecked,
+    OrderLooksBehind,
+    OrderLastUnchecked,
+    OrderCutToBits,
+    OrderHeldOnly,
+    OrderAscentOnly,
+    ListsNineFirst,
+    ListsTwelveFirst,
+    ListsRefusesLong,
+    ListsExpired,
+    ListsEqual,
+    ListsBehind,
+    ListsCutKey,
+    ListsZeroAll,
+    ListsOneMore,
+    ListsWordOfMost,
+    ListsNoEnd,
+    ListsNeedsOneMore,
+    ListsWithHeader,
+    ListsPart,
     // Many connections.
     ManySwapsShares,
     ManyFromStart,
@@ -359,6 +388,9 @@ impl Echo {
         }
         self.forgive(&mut memory);
         self.forgive_seconds(&mut memory);
+        if !self.forgive_order(&mut memory) {
+            return None;
+        }
         let free = row_at(&memory, MOST_KEYS - 1) + memory::ROW - 1;
         let full = number(&memory, COUNT) >= MOST_KEYS as u64;
         if self.has(Fault::LooksBehind) && !full && memory[free] == 0x55 {
@@ -482,8 +514,11 @@ impl Echo {
 
     fn put_back(&self, table: &Table, memory: &mut [u8]) {
         let bound = number(memory, BOUND);
+        let held = number(memory, COUNT) as usize;
+        let order = memory[ORDER..ORDER + held].to_vec();
         memory::encode(table, memory);
         self.change_bound(memory, bound);
+        self.change_order(memory, &order);
         let count = table.entries.len();
         if self.has(Fault::LeavesOrder) && count > 1 {
             memory.swap(PLACES + count - 1, PLACES + count - 2);
@@ -922,6 +957,19 @@ impl Subject for Echo {
     }
 }
 
+impl ListsKeys for Echo {
+    fn list_keys(
+        &mut self,
+        table: &[u8],
+        name: &[u8],
+        from: &[u8],
+        most: u64,
+        out: &mut [u8],
+    ) -> u64 {
+        self.list(table, name, from, most, out)
+    }
+}
+
 impl ServesMany for Echo {
     fn serve_many(
         &mut self,
@@ -1024,8 +1072,10 @@ impl Stores for Echo {
         };
         let history = memory::history(table);
         let latest = number(table, LATEST);
+        let order = table[ORDER..ORDER + MOST_KEYS].to_vec();
         memory::encode(&loaded, table);
         self.change_loaded(table, latest);
+        self.change_loaded_order(table, &order);
         if self.has(Fault::LoadKeepsCounts) {
             put_history(table, &history);
         }

@@ -7,6 +7,8 @@
 
 use reference::hex::to_string;
 
+#[cfg(feature = "order")]
+use crate::subject::ListsKeys;
 #[cfg(feature = "stored")]
 use crate::subject::Stores;
 use crate::subject::{
@@ -157,6 +159,21 @@ extern "C" {
         last: bool,
         answer: *mut u64,
         answer_len: usize,
+    ) -> u64;
+}
+
+#[cfg(feature = "order")]
+extern "C" {
+    fn fq_list_keys(
+        table: *const u8,
+        table_len: usize,
+        name: *const u8,
+        name_len: usize,
+        key: *const u8,
+        key_len: usize,
+        most: u64,
+        out: *mut u8,
+        out_len: usize,
     ) -> u64;
 }
 
@@ -483,6 +500,36 @@ impl ComparesKeys for Library {
         if code == GOOD && answer.len() >= KEYS_WORDS {
             check_words("fq_same_key", answer, &[1, one.len()], one);
         }
+        code
+    }
+}
+
+#[cfg(feature = "order")]
+impl ListsKeys for Library {
+    fn list_keys(
+        &mut self,
+        table: &[u8],
+        name: &[u8],
+        from: &[u8],
+        most: u64,
+        out: &mut [u8],
+    ) -> u64 {
+        // SAFETY: all slices are lent for the call, with their lengths, and
+        // the buffer overlaps none of the others.
+        let code = unsafe {
+            fq_list_keys(
+                table.as_ptr(),
+                table.len(),
+                name.as_ptr(),
+                name.len(),
+                from.as_ptr(),
+                from.len(),
+                most,
+                out.as_mut_ptr(),
+                out.len(),
+            )
+        };
+        check_code("fq_list_keys", code, out.len(), from);
         code
     }
 }

@@ -9,11 +9,11 @@
 //! The parts: `messages` (a), `serving` (b), `streams` (c), `tables` (d),
 //! `values` (e), `lines` (f), `stored` (g), `edges` (h), `dates` (i),
 //! `keys` (j), `statistics` (k), `bulk` (l), `expiry` (m), `versions` (n),
-//! `many` (o).
+//! `many` (o), `order` (p).
 //!
 //! `cargo test --offline` tests the harness without the library. With it:
 //! `cargo run --release --offline --features library,lines,stored -- quick`;
-//! `lines` and `stored` can be left out while the library lacks them. The
+//! `lines`, `stored` and `order` can be left out while the library lacks them. The
 //! environment variable EXPORTS_DIR names the folder of libexports.a; without
 //! it that is target/staticlib of the repository.
 
@@ -38,6 +38,7 @@ pub mod make;
 pub mod many;
 pub mod memory;
 pub mod messages;
+pub mod order;
 pub mod run;
 pub mod serving;
 pub mod statistics;

@@ -77,6 +77,8 @@ fn parts() -> Vec<Part<Library>> {
     parts.push(run::statistics_part());
     #[cfg(feature = "stored")]
     parts.push(run::expiry_part());
+    #[cfg(feature = "order")]
+    parts.push(run::order_part());
     #[cfg(all(feature = "lines", feature = "stored"))]
     parts.push(run::dates_part());
     parts

@@ -5,11 +5,11 @@ use std::time::{Duration, Instant};
 
 use crate::chance::Chance;
 use crate::difference::{Difference, Outcome};
-use crate::subject::{ComparesKeys, ServesLines, ServesMany, Stores, Subject};
+use crate::subject::{ComparesKeys, ListsKeys, ServesLines, ServesMany, Stores, Subject};
 use crate::trial::{Counts, Trial};
 use crate::{
-    bulk, dates, edges, expiry, keys, lines, many, messages, serving, statistics, stored, streams,
-    tables, values, versions,
+    bulk, dates, edges, expiry, keys, lines, many, messages, order, serving, statistics, stored,
+    streams, tables, values, versions,
 };
 
 /// One part, and how many rounds of it a quick run plays. A long run plays
@@ -78,6 +78,11 @@ pub fn statistics_part<S: Stores>() -> Part<S> {
 /// Part o, many connections.
 pub fn many_part<S: ServesMany>() -> Part<S> {
     part(14, "many", 300, many::round)
+}
+
+/// Part p, the order of the keys.
+pub fn order_part<S: ListsKeys + Stores>() -> Part<S> {
+    part(15, "order", 300, order::round)
 }
 
 /// Part m, entries that expire.

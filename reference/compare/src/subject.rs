@@ -110,6 +110,18 @@ pub trait Subject {
     fn make(&mut self, table: &mut [u8]) -> u64;
 }
 
+/// Listings of keys.
+pub trait ListsKeys: Subject {
+    fn list_keys(
+        &mut self,
+        table: &[u8],
+        name: &[u8],
+        from: &[u8],
+        most: u64,
+        out: &mut [u8],
+    ) -> u64;
+}
+
 /// Many connections.
 pub trait ServesMany: Subject {
     fn serve_many(

@@ -21,6 +21,7 @@ use crate::memory::{
     COUNTED, DEADLINE, FIRST, KEY, KEY_LENGTH, LAST, LATEST, PLACES, ROW, ROWS, SIZE, VALUE,
     VALUE_LENGTH, VERSION,
 };
+use crate::order::{damage_order, ORDERS};
 use crate::subject::{Subject, GOOD, SERVE_WORDS, STREAM_WORDS};
 use crate::trial::Trial;
 
@@ -172,7 +173,11 @@ fn refused<S: Subject>(
 /// table; the check does not go by the words.
 pub fn damage(chance: &mut Chance, memory: &mut [u8]) -> &'static str {
     let count = number(memory, COUNT) as usize;
-    match chance.below(6) {
+    match chance.below(7) {
+        6 => {
+            let kind = chance.below(ORDERS);
+            damage_order(chance, memory, kind).unwrap_or("none")
+        }
         0 => damage_head(chance, memory),
         5 => damage_seconds(chance, memory),
         1 => damage_places(chance, memory, count),

@@ -3,8 +3,8 @@
 
 use compare::echo::{Echo, Fault};
 use compare::run::{
-    dates_part, expiry_part, keys_part, lines_part, many_part, parts, play, statistics_part,
-    stored_part, Part,
+    dates_part, expiry_part, keys_part, lines_part, many_part, order_part, parts, play,
+    statistics_part, stored_part, Part,
 };
 use compare::subject::GOOD;
 use compare::trial::Counts;
@@ -20,6 +20,7 @@ fn all_parts() -> Vec<Part<Echo>> {
     all.push(keys_part());
     all.push(expiry_part());
     all.push(many_part());
+    all.push(order_part());
     all
 }
 
@@ -134,6 +135,65 @@ fn bulk_replies_are_the_rows() {
 fn entries_expire_alike() {
     let counts = sound_rounds("expiry", 40);
     all_given(&counts, &[GOOD, 0, 4, 5, 8, 9, 10, 11, 12, 13]);
+}
+
+#[test]
+fn orders_and_listings_are_alike() {
+    all_given(&sound_rounds("order", 6), &[GOOD, 9, 12, 13]);
+}
+
+#[test]
+fn faults_of_orders_are_found() {
+    use Fault::*;
+    let faults = [
+        OrderByLength,
+        OrderSigned,
+        OrderLongerFirst,
+        OrderAppends,
+        OrderKeepsRemoved,
+    ];
+    are_found("order", &faults);
+    are_found("serving", &faults);
+    are_found("streams", &faults);
+    are_found("order", &[LoadKeepsOrder, LoadByVersion]);
+    are_found("stored", &[LoadKeepsOrder, LoadByVersion]);
+}
+
+#[test]
+fn faults_of_the_check_of_orders_are_found() {
+    use Fault::*;
+    let faults = [
+        OrderUnchecked,
+        OrderLooksBehind,
+        OrderLastUnchecked,
+        OrderCutToBits,
+        OrderHeldOnly,
+        OrderAscentOnly,
+    ];
+    are_found("order", &faults);
+    are_found("tables", &faults);
+}
+
+#[test]
+fn faults_of_listings_by_key_are_found() {
+    use Fault::*;
+    let faults = [
+        ListsNineFirst,
+        ListsTwelveFirst,
+        ListsRefusesLong,
+        ListsExpired,
+        ListsEqual,
+        ListsBehind,
+        ListsCutKey,
+        ListsZeroAll,
+        ListsOneMore,
+        ListsWordOfMost,
+        ListsNoEnd,
+        ListsNeedsOneMore,
+        ListsWithHeader,
+        ListsPart,
+    ];
+    are_found("order", &faults);
 }
 
 #[test]

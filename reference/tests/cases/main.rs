@@ -9,6 +9,7 @@ mod lines;
 mod many;
 mod map;
 mod number;
+mod order;
 mod program;
 mod reply;
 mod request;

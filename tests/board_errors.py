@@ -8,7 +8,7 @@ import signal
 import subprocess
 
 from board_frames import GET, PUT, entry_line, head_line, key_name, request
-from board_run import (ABSENT, BOARD, Bench, PROGRAM, REFERENCE, STAND_IN, demand, demand_calm, demand_refused,
+from board_run import (ABSENT, BOARD, Bench, PROGRAM, REFERENCE, STAND_IN, TOP, demand, demand_calm, demand_refused,
                        demand_sentence, read_file, run_part, short, start, write_file)
 
 NOBODY = 65534
@@ -137,7 +137,8 @@ def copy_of_board(top):
     """BOARD where any user may run it, with the program where it looks for it."""
     folder = os.path.join(top, 'clone')
     os.makedirs(os.path.join(folder, 'target/bin'))
-    for path, name in ((BOARD, 'board'), (PROGRAM, 'target/bin/board')):
+    os.makedirs(os.path.join(folder, 'tools'))
+    for path, name in ((BOARD, 'board'), (os.path.join(TOP, 'tools/building'), 'tools/building'), (PROGRAM, 'target/bin/board')):
         os.chmod(shutil.copy(path, os.path.join(folder, name)), 0o755)
     return os.path.join(folder, 'board')
 

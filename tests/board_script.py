@@ -264,6 +264,8 @@ def clone_of(bench, name):
     """A clone in which the program is not built."""
     at = os.path.join(bench.top, name)
     os.makedirs(os.path.join(at, 'crates/board/src'))
+    os.makedirs(os.path.join(at, 'tools'))
+    shutil.copy(os.path.join(TOP, 'tools/building'), os.path.join(at, 'tools'))
     shutil.copy(os.path.join(TOP, 'crates.txt'), at)
     return shutil.copy(BOARD, os.path.join(at, 'board')), at
 
@@ -283,10 +285,12 @@ def without_building(bench):
     texts = [start(board, words, env=env) for words in (['help'], ['-h'], ['--help'], [])]
     for outcome in texts:
         demand((outcome.err, outcome.ended) == (b'', 0) and outcome.out == texts[0].out, 'help', f'{short(outcome.out)} {short(outcome.err)}')
-    for word in ('lowercase', 'line end', 'putIfAbsent', 'getWithVersion', '1.2', 'standard input', 'TCP', 'README.md', 'DECISIONS.md'):
+    for word in ('lowercase', 'line end', 'putIfAbsent', 'getWithVersion', '1.2', 'standard input', 'TCP', 'USING.md', 'DECISIONS.md'):
         demand(word in texts[0].out.decode(), 'help', f'it does not tell {word}')
-    outcome = start(board, ['--version'], env=env)
-    demand((outcome.err, outcome.ended, outcome.out.count(b'\n')) == (b'', 0, 1), '--version', f'{short(outcome.out)} {short(outcome.err)}')
+    demand(all(len(line) <= 80 or at in line for line in texts[0].out.decode().split('\n')), 'help', 'a line is longer than 80')
+    for words in (['--version'], ['-V']):
+        outcome = start(board, words, env=env)
+        demand((outcome.err, outcome.ended, outcome.out.count(b'\n')) == (b'', 0, 1), words, f'{short(outcome.out)} {short(outcome.err)}')
     for words in (['store'], ['serve'], ['serve', ''], ['serve', 'a', 'b', 'c'], ['serve', 'x' * 5000], ['-x']):
         said(start(board, words, env=env), 'are not understood', str(words)[:60])
     said(start(board, ['serve', at], env=env), 'it is a folder', 'a folder as REQUESTS')
@@ -304,8 +308,8 @@ def building(bench):
     write_file(os.path.join(at, 'lines'), lines.encode())
     env = toolchain(at, f'[ "$PWD:$*" = "{at}:check board" ] && cat lines && mkdir -p target/bin && cp {PROGRAM} target/bin/board\n')
     outcome = start('bash', ['-c', 'CDPATH=$PWD/elsewhere: exec bash built/board serve built/ping'], cwd=bench.top, env=env)
-    wanted = ['the program is proved and built first, about five minutes', '1 of 3: wire proved (unchanged since it was last proved)',
-              '2 of 3: hex proved (3 s)', '3 of 3: board proved (4 s)']
+    wanted = ['the library is proved and built first, about five minutes', '1 of 3: wire proved (unchanged since it was last proved)',
+              '2 of 3: hex proved (3 s)', '3 of 3: board proved (4 s)', 'proved and built, after 0 seconds']
     demand((outcome.out, outcome.err.decode(), outcome.ended) == (PONG, ''.join(f'board: {line}\n' for line in wanted), 0), 'the first build',
            f'{short(outcome.out)} {short(outcome.err)} {outcome.ended}')
     outcome = start(board, ['serve', os.path.join(at, 'ping')], env=env)
@@ -316,7 +320,7 @@ def building(bench):
     said(start(board, ['serve', os.path.join(at, 'ping')], env=env), '1 of' if STAND_IN else 'the program was not built', 'a build that fails')
     demand(re.search(r'^rt: board proved \(', read_file(os.path.join(TOP, 'target/log/board.out')).decode(), re.M), 'the first build',
            'rt tells a proved crate in other words')
-    demand('about five minutes' in read_file(os.path.join(TOP, 'README.md')).decode(), 'the first build', 'README tells another duration')
+    demand(b'five minutes' in read_file(os.path.join(TOP, 'README.md')), 'the first build', 'README tells another duration')
     return 3
 
 
@@ -341,21 +345,6 @@ def unwritable(bench):
     return 2
 
 
-def documents(bench):
-    """README's commands give what README shows: the paper's replies and its table, and after a second run the last version issued alone."""
-    readme = read_file(os.path.join(TOP, 'README.md'))
-    command = './board serve crates/board/data/requests'
-    replies, table = (read_file(os.path.join(TOP, 'tests/paper', name)) for name in ('example.replies', 'example.table'))
-    for text in (f'```sh\n{command}\n```'.encode(), b'```\n' + replies + b'```', f'`{command} table.txt`'.encode(), b'```\n' + table + b'```'):
-        demand(text in readme, 'README', f'it does not show {short(text)}')
-    at = os.path.join(bench.top, 'table.txt')
-    for count, wanted in ((1, table), (2, b'010000000000000002\n')):
-        outcome = start('bash', ['-c', f'{command} "$0"', at], cwd=TOP)
-        demand(outcome.err == b'' and (outcome.out == replies) == (count == 1), f'README, run {count}', f'{short(outcome.out)} {short(outcome.err)}')
-        demand(read_file(at) == wanted, f'README, run {count}', f'TABLE {short(read_file(at))}')
-    return 2
-
-
 def part():
     if BOARD == PROGRAM:
         return 'BOARD is not the script, so nothing was tried'
@@ -363,7 +352,7 @@ def part():
         told = [('signals', signals(bench) + control_c(bench) + program_killed(bench)), ('closed pipes', reader_gone(bench)), ('runs at once', at_once(bench)),
                 ('standard inputs', standard_input(bench)), ('files that are none', not_files(bench)), ('rights', rights(bench)),
                 ('ways to call it', ways_to_it(bench)), ('calls without building', without_building(bench)),
-                ('builds', building(bench) + unwritable(bench)), ('commands of README', documents(bench))]
+                ('builds', building(bench) + unwritable(bench))]
         return ', '.join(f'{count} {name}' for name, count in told)
 
 

@@ -1,7 +1,8 @@
-"""Part 7: the commands for people, encode and decode, and what README shows."""
+"""Part 7: the commands for people, their help, encode and decode, and the script."""
 import os
 import re
 import shutil
+import signal
 import socket
 import subprocess
 import threading
@@ -9,7 +10,7 @@ import time
 
 from board_frames import (BULK_GET, BULK_GET_KEYS, CLEAR, CONTAINS_KEY, GET, GET_WITH_VERSION, LARGEST_DEADLINE, PING, PUT, PUT_IF_ABSENT, REMOVE, REMOVE_IF_UNMODIFIED, REPLACE,
                           REPLACE_IF_UNMODIFIED, STATS, entry_line, frame, head_line)
-from host_run import BOARD, Bench, HOST, Host, SECONDS, TOP, demand, read_file, run_part, write_file
+from host_run import BOARD, Bench, HOST, Host, SECONDS, TOP, demand, read_file, run_part, until, write_file
 
 CONTROL, BYTES = b'a\nb', b'\xff\x00'.replace(b'\x00', b'\x80')
 # Words, what is printed, and the status.
@@ -189,51 +190,116 @@ def address(bench):
     return 2
 
 
-TOOLS = ('awk', 'bash', 'cat', 'find', 'flock', 'mkdir', 'readlink', 'tee', 'touch')
+TOOLS = ('awk', 'bash', 'cat', 'cut', 'cp', 'find', 'flock', 'head', 'kill', 'mkdir', 'readlink', 'rm', 'sha256sum', 'sleep', 'sort', 'tee', 'touch', 'xargs')
+
+
+class Clone:
+    """A clone in which nothing is built, with few tools on the PATH: those that the script needs, and stand-ins."""
+
+    def __init__(self, bench):
+        self.at = os.path.join(bench.top, 'clone')
+        for folder in ('host/src', 'crates/exports/src', 'bin', 'tools'):
+            os.makedirs(os.path.join(self.at, folder))
+        for name in ('feyqoolad', 'tools/building', 'host/src/usage.txt', 'host/Cargo.toml'):
+            shutil.copy(os.path.join(TOP, name), os.path.join(self.at, name))
+        write_file(os.path.join(self.at, 'crates.txt'), b'wire:\ntext: wire\nboard: wire text io\nexports: text wire bytes\n')
+        for tool in TOOLS:
+            os.symlink(shutil.which(tool), os.path.join(self.at, 'bin', tool))
+
+    def stand_in(self, tool, body):
+        path = os.path.join(self.at, 'bin', tool)
+        write_file(path, f'#!{os.path.join(self.at, "bin/bash")}\n{body}\n'.encode())
+        os.chmod(path, 0o755)
+
+    def begin(self, *words):
+        return subprocess.Popen([os.path.join(self.at, 'bin/bash'), os.path.join(self.at, 'feyqoolad'), *words], env={'PATH': os.path.join(self.at, 'bin')},
+                                stdout=subprocess.PIPE, stderr=subprocess.PIPE)
+
+    def run(self, *words):
+        started = self.begin(*words)
+        out, err = started.communicate(timeout=SECONDS)
+        return subprocess.CompletedProcess(words, started.returncode, out, err)
+
+
+PROVED = 'echo "rt: wire proved (1 s)"; echo "more"; echo "rt: text proved (2 s)" >&2; '
+MADE = PROVED + 'mkdir -p target/staticlib && echo a > target/staticlib/libexports.a'
+PROGRAM_MADE = '[ "$1" != --version ] || { echo "cargo 1.85.0 (x 2025)"; exit; }; cd "${0%/*}/.." && mkdir -p host/target/release && printf "#!$PWD/bin/bash\\necho built \\$*" > host/target/release/feyqoolad && bin/chmod +x host/target/release/feyqoolad'
+STEPS = [(None, b'the Rattle toolchain (rt) is not there'), (('rt', 'exit 1'), b'the library was not built'),
+         (('rt', PROVED + 'exit 1'), b'feyqoolad: 1 of 3: wire proved (1 s)\nfeyqoolad: 2 of 3: text proved (2 s)\nfeyqoolad: the library was not built'),
+         (('rt', MADE), b'2 of 3: text proved (2 s)\nfeyqoolad: 3 of 3: exports proved (0 s)\nfeyqoolad: proved and built, after 0 seconds\nfeyqoolad: the Rust compiler (cargo) is not there'),
+         (('cargo', 'echo "cargo 1.63.0 (fd9c4297c 2022)"'), b'the Rust compiler (cargo) is version 1.63.0, and version 1.85 or later is needed'),
+         (('cargo', '[ "$1" != --version ] || { echo "cargo 1.120.1"; exit; }; exit 1'), b'the program was not built')]
+
+
+def at_once(bench):
+    """On a fresh clone help, the version and a word that is no command are answered without rt and cargo, with the words of the program."""
+    clone = Clone(bench)
+    for words in (['help'], [], ['-h'], ['--help'], ['--version'], ['-V'], ['help', 'put'], ['put', '--help'], ['serve', 'x', '--help'], ['nothing'], ['nothing', '--help'], ['help', 'nothing'], ['']):
+        done, built = clone.run(*words), run(words)
+        demand((done.stdout, done.stderr, done.returncode) == (built.stdout, built.stderr, built.returncode), f'{words} on a fresh clone', f'{done}, and the program: {built}')
+        demand(done.returncode == ('nothing' in words or words == ['']), f'{words} on a fresh clone', f'{done}')
+    demand(b'there is no command' not in clone.run('put', '--', '--help').stderr, 'a key --help', 'it is taken for an option')
+    shutil.rmtree(clone.at)
+    return 14
 
 
 def script(bench):
-    """The script through a link and from elsewhere; help without a program; what it says where it can't build, with stand-ins for the tools."""
+    """The script through a link and from elsewhere; what it says where it can't build, with stand-ins for the tools; a signal ends the build; a copy of a folder
+    that was built runs without tools."""
     if HOST != os.path.join(TOP, 'feyqoolad'):
         return 0
-    link, at = os.path.join(bench.top, 'link'), os.path.join(bench.top, 'clone')
+    link = os.path.join(bench.top, 'link')
     os.symlink(HOST, link)
     done = subprocess.run(['bash', '-c', 'cd / && CDPATH=/tmp: PATH=$0:$PATH link --version', bench.top], capture_output=True, check=False)
     demand(done.returncode == 0 and done.stdout.startswith(b'feyqoolad 1.0') and not done.stderr, 'through a link', f'{done}')
-    os.makedirs(os.path.join(at, 'host/src'))
-    os.makedirs(os.path.join(at, 'crates/exports/src'))
-    os.makedirs(os.path.join(at, 'bin'))
-    shutil.copy(HOST, at)
-    write_file(os.path.join(at, 'crates.txt'), b'wire:\ntext: wire\nboard: wire text io\nexports: text wire bytes\n')
-    shutil.copy(os.path.join(TOP, 'host/src/usage.txt'), os.path.join(at, 'host/src'))
-    for tool in TOOLS:
-        os.symlink(shutil.which(tool), os.path.join(at, 'bin', tool))
-    proved = 'echo "rt: wire proved (1 s)"; echo "more"; echo "rt: text proved (2 s)" >&2; '
-    steps = [('help', None, b''), ('ping', None, b'the Rattle toolchain (rt) is not there'), ('ping', ('rt', 'exit 1'), b'the library was not built'),
-             ('ping', ('rt', proved + 'exit 1'), b'feyqoolad: 1 of 3: wire proved (1 s)\nfeyqoolad: 2 of 3: text proved (2 s)\nfeyqoolad: the library was not built'),
-             ('ping', ('rt', proved + 'mkdir -p target/staticlib && touch target/staticlib/libexports.a'), b'2 of 3: text proved (2 s)\nfeyqoolad: the Rust compiler (cargo) is not there'),
-             ('ping', ('cargo', 'exit 1'), b'the program was not built')]
-    for word, tool, wanted in steps:
+    clone = Clone(bench)
+    for tool, wanted in STEPS:
         if tool:
-            path = os.path.join(at, 'bin', tool[0])
-            write_file(path, f'#!{os.path.join(at, "bin/bash")}\n{tool[1]}\n'.encode())
-            os.chmod(path, 0o755)
-        done = subprocess.run([os.path.join(at, 'bin/bash'), os.path.join(at, 'feyqoolad'), word], env={'PATH': os.path.join(at, 'bin')},
-                              capture_output=True, check=False)
-        demand(done.returncode == (1 if wanted else 0) and wanted in done.stderr, f'{word} with {tool}', f'{done}')
-        demand((b'Nothing was done.' in done.stderr) == bool(wanted), f'{word} with {tool}', f'{done}')
-    return len(steps) + 1
+            clone.stand_in(*tool)
+        done = clone.run('ping')
+        demand(done.returncode == 1 and wanted in done.stderr and done.stderr.endswith(b'Nothing was done.\n'), f'ping with {tool}', f'{done}')
+    build_ends(clone)
+    os.symlink(shutil.which('chmod'), os.path.join(clone.at, 'bin/chmod'))
+    clone.stand_in('cargo', PROGRAM_MADE)
+    demand(clone.run('ping', 'it').stdout == b'built ping it\n', 'the build', 'the program does not run')
+    copied(bench, clone)
+    return len(STEPS) + 4
 
 
-def documents():
-    """README's commands are among those tried above, with the words that README shows."""
-    readme = read_file(os.path.join(TOP, 'README.md')).decode()
-    shown = {'put b1 Ida --lifespan 100': 'stored', 'getwithversion b1': 'version 1: Ida'}
-    for words, said in shown.items():
-        demand((words, said, 0) in TALK and f'./feyqoolad {words}\n' in readme and f'`{said}`' in readme, 'README', f'it does not show {words}')
-    for word in ('./feyqoolad serve table.txt --page 127.0.0.1:8080\n', 'http://127.0.0.1:8080/', '127.0.0.1:11222', '`bash tests/page`', 'tested and not proved', *{f'`{one.split()[0]}`' for one, _, _ in TALK}, '`stats`', './feyqoolad show TABLE'):
-        demand(word in readme, 'README', f'it does not tell {word}')
-    return len(shown)
+def build_ends(clone):
+    """A signal to the script ends what the build has started."""
+    sign = os.path.join(clone.at, 'pid')
+    clone.stand_in('cargo', f'[ "$1" != --version ] || {{ echo "cargo 1.99.0"; exit; }}; (echo "$BASHPID" > {sign}.new; mv {sign}.new {sign}; exec sleep 300); exit 1')
+    os.symlink(shutil.which('mv'), os.path.join(clone.at, 'bin/mv'))
+    for number in (signal.SIGTERM, signal.SIGINT, signal.SIGHUP, signal.SIGKILL):
+        started = clone.begin('ping')
+        until(lambda: os.path.exists(sign), 'a signal to a build', 'the build does not begin')
+        child = int(read_file(sign))
+        os.unlink(sign)
+        started.send_signal(number)
+        err = started.communicate(timeout=SECONDS)[1]
+        demand(number == signal.SIGKILL or started.returncode == 1 and b'a signal ended the build' in err, f'signal {number} to a build', f'{started.returncode} {err}')
+        until(lambda: not os.path.exists(f'/proc/{child}') or b') Z' in read_file(f'/proc/{child}/stat'), f'signal {number} to a build', 'what it started runs on')
+
+
+def copied(bench, clone):
+    """A copy has other times, of which each may be the latest; it runs where there is no cargo and no rt, and a changed source is built."""
+    at = os.path.join(bench.top, 'copy')
+    shutil.copytree(clone.at, at, symlinks=True, copy_function=shutil.copyfile)
+    shutil.copymode(os.path.join(clone.at, 'host/target/release/feyqoolad'), os.path.join(at, 'host/target/release/feyqoolad'))
+    for name in ('rt', 'cargo'):
+        os.unlink(os.path.join(at, 'bin', name))
+    for folder in ('crates/exports/src', 'host/src'):
+        path = os.path.join(at, folder, 'later')
+        write_file(path, b'')
+        os.utime(os.path.join(at, 'crates.txt'), (2 ** 31, 2 ** 31))
+        os.utime(os.path.join(at, 'host/src/usage.txt'), (2 ** 31, 2 ** 31))
+        words = [os.path.join(at, 'bin/bash'), os.path.join(at, 'feyqoolad'), 'ping']
+        done = subprocess.run(words, env={'PATH': os.path.join(at, 'bin')}, capture_output=True, check=False)
+        demand(done.returncode == 1 and b'is not there' in done.stderr, 'a copy with another source', f'{done}')
+        os.unlink(path)
+        done = subprocess.run(words, env={'PATH': os.path.join(at, 'bin')}, capture_output=True, check=False)
+        demand((done.stdout, done.stderr) == (b'built ping\n', b''), 'a copy', f'{done}')
 
 
 def outputs():
@@ -242,16 +308,48 @@ def outputs():
         with open('/dev/full', 'wb') as taken:
             done = subprocess.run([HOST, *words], stdout=taken, stderr=subprocess.PIPE, check=False)
         demand(done.returncode == 1 and b"can't write" in done.stderr, f'{words} > /dev/full', f'{done}')
-    text = run(['help']).stdout.decode()
-    words = [one.split()[0] for one, _, _ in TALK] + ['stats', 'show', 'serve', 'encode', 'decode', '--sync', '--page', '--count', '--idle', '--connections', '--to', 'exit status']
-    demand(all(re.search(rf'(?<![a-z]){word}(?![a-z])', text) for word in words), 'help', f'a word is missing in {text}')
-    demand(run([]).stdout.decode() == text and run(['-h']).stdout.decode() == text, 'help', 'other words')
-    return 5
+    return 2
+
+
+def helps(bench):
+    """Each command has its help, within 80 columns, with the options that it takes and two examples that it understands; the first page lists all commands."""
+    parts = dict(one.split('\n', 1) for one in ('\n' + read_file(os.path.join(TOP, 'host/src/usage.txt')).decode()).split('\n== ')[1:])
+    first = run(['help']).stdout.decode()
+    demand(run([]).stdout.decode() == run(['-h']).stdout.decode() == run(['--help']).stdout.decode() == first == parts.pop('help') + '\n', 'help', 'other words')
+    demand(run(['--version']).stdout == run(['-V']).stdout and parts.pop('version').startswith('feyqoolad 1.0'), '--version', 'other words')
+    demand('exit status: 0' in first and {one.split()[0] for one, _, _ in TALK} | {'stats', 'show', 'serve', 'encode', 'decode'} <= set(parts), 'help', f'only {set(parts)}')
+    for name, text in parts.items():
+        done = run([name, '--help'])
+        demand(done.stdout.decode().rstrip('\n') == text.rstrip('\n') == run(['help', name]).stdout.decode().rstrip('\n') and done.returncode == 0, f'{name} --help', f'{done}')
+        demand(re.search(rf'^  {name}\b', first, re.M), 'help', f'it does not list {name}')
+        usage, examples = text.split('\nexamples:\n')
+        demand(usage.startswith(f'feyqoolad {name}') and len(examples.rstrip('\n').split('\n')) == 2, f'{name} --help', text)
+    for line in '\n'.join([first, *parts.values()]).split('\n'):
+        demand(len(line) <= 80 and line == line.rstrip(), 'help', f'a long line: {line}')
+    with Host(bench.table('helps')) as host:
+        for name in parts:
+            options = re.findall(r'^  (--[a-z-]+)(?: (\S+))?', parts[name], re.M)
+            for line in parts[name].split('examples:\n')[1].rstrip('\n').split('\n'):
+                words = line.split()[1:]
+                if name not in ('serve', 'show', 'decode') and line.startswith('  feyqoolad'):
+                    to = [] if name == 'encode' or '--to' in words else ['--to', f'127.0.0.1:{host.port}']
+                    words = [f'127.0.0.1:{host.port}' if one == '127.0.0.1:11222' else one for one in words]
+                    done = run(words[:1] + to + words[1:])
+                    demand(done.returncode in (0, 2) and not done.stderr, f'an example of {name}', f'{line}: {done}')
+            if name not in ('decode', 'show'):
+                # An option that is listed is taken, and needs a value where one is listed; all others are unknown.
+                for option, value in options:
+                    done = run([name, option])
+                    demand((f'{option} needs a value' in done.stderr.decode()) == bool(value) and b'there is no option' not in done.stderr or name == 'encode', f'{name} {option}', f'{done}')
+                others = {'--lifespan', '--version', '--previous', '--count', '--to', '--second', '--listen', '--idle'} - {one for one, _ in options}
+                for option in others if name != 'encode' else ():
+                    demand(b'there is no option' in run([name, option, '1']).stderr, f'{name} {option}', 'it is taken, and the help does not list it')
+    return 2 * len(parts)
 
 
 def part():
     with Bench() as bench:
-        return f'{talk(bench) + statistics(bench)} commands, {strange_servers()} strange servers, {lines(bench)} lines, {show(bench)} tables shown, {address(bench)} without an address, {outputs()} outputs, {script(bench)} of the script, {documents()} commands of README'
+        return f'{talk(bench) + statistics(bench)} commands, {strange_servers()} strange servers, {lines(bench)} lines, {show(bench)} tables shown, {address(bench)} without an address, {outputs()} outputs, {helps(bench)} of the help, {at_once(bench)} on a fresh clone, {script(bench)} of the script'
 
 
 if __name__ == '__main__':

@@ -14,7 +14,7 @@ fn digit(character: u8) -> Option<u8> {
 
 /// The bytes, if these are digits of whole bytes.
 pub fn from_digits(digits: &[u8]) -> Option<Vec<u8>> {
-    if !digits.len().is_multiple_of(2) {
+    if digits.len() % 2 != 0 {
         return None;
     }
     digits

@@ -8,6 +8,7 @@ use std::os::unix::fs::{fchown, MetadataExt, OpenOptionsExt, PermissionsExt};
 use std::path::{Path, PathBuf};
 
 use crate::border::library::Table;
+use crate::border::system::try_lock;
 use crate::clock::from_later;
 use crate::failure::{because, say, Failure};
 use crate::limits::LONGEST_FILE;
@@ -223,14 +224,12 @@ fn lock(path: &Path) -> Result<File, Failure> {
     }
     let folder = File::open(or_here(path.parent().unwrap_or(Path::new(""))))
         .map_err(|error| because(format!("can't open the folder of the table {shown}"), error))?;
-    match folder.try_lock() {
-        Ok(()) => Ok(folder),
-        Err(fs::TryLockError::WouldBlock) => Err(format!(
+    match try_lock(&folder) {
+        Ok(true) => Ok(folder),
+        Ok(false) => Err(format!(
             "another run, a server or ./board, has the folder of the table {shown}\nEnd it first, or keep each served table in a folder of its own. Nothing was done."
         )),
-        Err(fs::TryLockError::Error(error)) => {
-            Err(because(format!("can't lock the folder of the table {shown}"), error))
-        }
+        Err(error) => Err(because(format!("can't lock the folder of the table {shown}"), error)),
     }
 }
 

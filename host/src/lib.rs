@@ -28,4 +28,5 @@ pub mod places;
 pub mod saver;
 pub mod server;
 pub mod show;
+pub mod usage;
 pub mod words;

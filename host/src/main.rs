@@ -21,10 +21,9 @@ use feyqoolad::page::begin;
 use feyqoolad::saver::{Saver, Sync};
 use feyqoolad::server::{listen, Limits, Server};
 use feyqoolad::show::show;
-use feyqoolad::words::Went;
+use feyqoolad::usage;
+use feyqoolad::words::{shown, Went};
 
-const USAGE: &str = include_str!("usage.txt");
-const VERSION: &str = "feyqoolad 1.0: Hot Rod 1.0, 1.1 and 1.2 over TCP, stored form 1\n";
 const ADDRESS: &str = "127.0.0.1:11222";
 /// The status where the server's answer is no.
 const NO: u8 = 2;
@@ -41,12 +40,11 @@ fn main() -> ExitCode {
 }
 
 fn run(given: &[OsString]) -> Result<ExitCode, Failure> {
-    let Some(word) = given.first() else {
-        return print(USAGE);
-    };
-    match word.to_str() {
-        Some("help" | "-h" | "--help") => print(USAGE),
-        Some("--version") => print(VERSION),
+    if let Some(name) = usage::asked(given) {
+        let no = || not_understood(format!("there is no command '{}'", shown(name.as_bytes())));
+        return print(usage::part(name).ok_or_else(no)?);
+    }
+    match given.first().and_then(|word| word.to_str()) {
         Some("serve") => serve(&given[1..]),
         Some("encode") => run_encode(&given[1..]),
         Some("decode") => run_decode(&given[1..]),
@@ -169,9 +167,9 @@ fn serve(given: &[OsString]) -> Result<ExitCode, Failure> {
         })
         .map_err(|error| because("can't serve", error))?;
     say(format!("serves {} on {at}", told.table.display()));
-    if let Some((listener, shown)) = page {
+    if let Some((listener, page)) = page {
         begin(listener, at)?;
-        say(format!("shows it on http://{shown}/"));
+        say(format!("shows it on http://{page}/"));
     }
     server.run()?;
     say("ended; the table is stored");

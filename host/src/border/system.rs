@@ -1,6 +1,6 @@
 //! The system calls that the standard library lacks: epoll, signals as a file
-//! that becomes readable, the time since the system's start, and how many files
-//! may be open.
+//! that becomes readable, the time since the system's start, locks, and how many
+//! files may be open.
 
 use std::ffi::{c_int, c_long, c_ulong};
 use std::fs::{self, File};
@@ -99,6 +99,7 @@ extern "C" {
     fn pthread_sigmask(how: c_int, set: *const SignalSet, old: *mut SignalSet) -> c_int;
     fn signalfd(fd: c_int, set: *const SignalSet, flags: c_int) -> c_int;
     fn clock_gettime(clock: c_int, time: *mut [c_long; 2]) -> c_int;
+    fn flock(fd: c_int, how: c_int) -> c_int;
     fn getrlimit(which: c_int, bound: *mut Bound) -> c_int;
     fn setrlimit(which: c_int, bound: *const Bound) -> c_int;
 }
@@ -142,6 +143,18 @@ pub fn raise_files() -> io::Result<u64> {
         }
     }
     Ok(bound.holds)
+}
+
+/// Locks a file or a folder as long as it is open, as flock(1) does. False where
+/// somebody else has the lock.
+pub fn try_lock(file: &impl AsFd) -> io::Result<bool> {
+    const EXCLUSIVE_AT_ONCE: c_int = 2 | 4;
+    // SAFETY: the file is open for the call.
+    match checked(unsafe { flock(file.as_fd().as_raw_fd(), EXCLUSIVE_AT_ONCE) }) {
+        Ok(_) => Ok(true),
+        Err(error) if error.kind() == io::ErrorKind::WouldBlock => Ok(false),
+        Err(error) => Err(error),
+    }
 }
 
 /// Files that are waited for together.

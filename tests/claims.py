@@ -1,5 +1,5 @@
 #!/usr/bin/env python3
-"""Holds docs/CLAIMS.md to the files: each edit, file and function that it names is there, its table of public functions lists the edits and the
+"""Holds docs/CLAIMS.md to the files: each wrong program, file and function that it names is there, its table of public functions lists the
 wrong programs that there are, each public function has two wrong programs or more, none of them stands twice, and each public law that no other file
 cites is a claim. With --write, that table is written again."""
 import glob
@@ -8,6 +8,8 @@ import re
 import sys
 from collections import Counter
 
+from edits import Program, programs
+
 PATH = 'docs/CLAIMS.md'
 HEAD = '| Crate | Must-fail edits | `tests/wrong/`, with how many |\n|---|---|---|\n'
 
@@ -15,6 +17,11 @@ HEAD = '| Crate | Must-fail edits | `tests/wrong/`, with how many |\n|---|---|--
 def crates():
     with open('crates.txt', encoding='utf-8') as lines:
         return [line.split(':')[0] for line in lines if ':' in line]
+
+
+def edits_of(crate):
+    """The names of the wrong programs that the gate tries of a crate."""
+    return sorted(program.name for path in glob.glob(f'crates/{crate}/must-fail/*.edit') for program in programs(path))
 
 
 def wrong_programs(crate):
@@ -40,7 +47,7 @@ def public_functions(crate):
 
 def rows():
     for crate in crates():
-        edits = sorted(os.path.basename(e)[:-5] for e in glob.glob(f'crates/{crate}/must-fail/*.edit'))
+        edits = edits_of(crate)
         wrong = wrong_programs(crate)
         if edits or wrong:
             yield f"| `{crate}` | {', '.join(f'`{e}`' for e in edits)} | {', '.join(f'`{f}` {n}' for f, n in wrong.items())} |\n"
@@ -49,21 +56,12 @@ def rows():
 def edits():
     """Each wrong program: where it stands, its crate, and its changes, each with the file, the text to be changed and the other text."""
     for path in sorted(glob.glob('crates/*/must-fail/*.edit') + glob.glob('tests/wrong/*.txt')):
-        many = path.startswith('tests/')
-        crate = os.path.basename(path)[:-4] if many else path.split('/')[1]
+        crate = os.path.basename(path)[:-4] if path.startswith('tests/') else path.split('/')[1]
         with open(path, encoding='utf-8') as file:
-            texts = re.split(r'^(?=# )', file.read(), flags=re.M) if many else [file.read()]
+            texts = re.split(r'^(?=# )', file.read(), flags=re.M)
         for text in filter(None, texts):
             label = text.split('\n')[0][2:]
-            changes = []
-            for word, rest in re.findall(r'^(file|old|new):(?: (.*))?$', text, re.M):
-                if word == 'file':
-                    name = rest
-                elif word == 'old':
-                    old = rest
-                else:
-                    changes.append((name, old, rest))
-            yield f'{path}, {label!r}', crate, changes
+            yield f'{path}, {label!r}', crate, Program(label, text).changes
 
 
 def text_of(path):
@@ -140,13 +138,10 @@ def main():
     for crate in crates():
         faults += [f'{crate}, {f}: fewer than two wrong programs' for f in public_functions(crate) if wrong_programs(crate)[f] < 2]
     for row in text[:at].splitlines():
-        folder = None
         for word in re.findall(r'`([^`]+)`', row):
-            edit = re.fullmatch(r'(?:([a-z_]+/must-fail)/)?([a-z_]+\.edit)', word)
+            edit = re.fullmatch(r'([a-z_]+)/must-fail: ([a-z0-9_, ]+)', word)
             if edit:
-                folder = edit[1] or folder
-                if not os.path.exists(f'crates/{folder}/{edit[2]}'):
-                    faults.append(f'no edit {folder}/{edit[2]}')
+                faults += [f'no wrong program {name} in crates/{edit[1]}/must-fail' for name in edit[2].split(', ') if name not in edits_of(edit[1])]
             elif re.fullmatch(r'[a-z_]+/(specs|proofs|src|must-fail)/.*', word) and not os.path.exists(f'crates/{word}'):
                 faults.append(f'no file {word}')
             call = re.fullmatch(r'([a-z_]+)::(?:[a-z_]+::)?([a-z_]+)', word)

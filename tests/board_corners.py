@@ -1,5 +1,7 @@
 """Part 2: corners of request files, each compared with the second program, with and without a TABLE."""
-from board_frames import (BULK_GET, BULK_GET_KEYS, CLEAR, CONTAINS_KEY, GET, GET_WITH_VERSION, LARGEST_SECOND, LARGEST_VERSION, MOST_KEYS,
+import itertools
+
+from board_frames import (BULK_GET, BULK_GET_KEYS, CLEAR, CONTAINS_KEY, GET, GET_WITH_VERSION, GREATEST_FLAGS, LARGEST_SECOND, LARGEST_VERSION, MOST_KEYS,
                           OPERATIONS, PING, PUT, PUT_IF_ABSENT, REMOVE, REMOVE_IF_UNMODIFIED, REPLACE, REPLACE_IF_UNMODIFIED, STATS,
                           THIRTY_DAYS, entry_line, frame, head_line, header, key_name, line, number, request, sized)
 from board_run import ABSENT, Bench, demand, run_part
@@ -74,10 +76,12 @@ def refusals():
     yield 1, b'\xa1' + header(PING)[1:]
     yield 2, b'\xa0\x80\x00' + header(PING)[2:]
     yield 2, b'\xa0' + b'\xff' * 8 + b'\x80' + header(PING)[2:]
-    for version in (0, 9, 13, 20, 0x41, 255):
+    for version in (0, 9, 13, 19, 21, 0x41, 255):
         yield 3, header(PING, version=version)
     for operation in (0, 2, 4, 0x14, 0x16, 0x18, 0x1a, 0x1b, 0x1d, 0x1e, 0x50, 255):
         yield 4, header(operation)
+    for operation in (0, 2, 0x1b, 0x1f, 0x21, 0x23, 0x29, 0x50):
+        yield 4, header(operation, version=20)
     yield 4, frame(BULK_GET_KEYS, version=11)
     yield 5, header(PING)[:4] + b'\x80\x00' + header(PING)[5:]
     yield 5, header(PING)[:4] + many + b'\x10'
@@ -91,7 +95,7 @@ def refusals():
     yield 6, header(PUT) + b'\x01k\0\0' + number(257) + b'v' * 257
     for name in (b'\xc3', b'\xc0\x80', b'\xed\xa0\x80', b'\xf4\x90\x80\x80', b'\xff', b'\x80', b'\xe0\x9f\xbf', b'\xf0\x8f\xbf\xbf'):
         yield 7, header(PING, name=name)
-    for flags, version in ((2, 10), (7, 11), (8, 12), (LARGEST_SECOND, 12)):
+    for flags, version in ((2, 10), (7, 11), (8, 12), (LARGEST_SECOND, 12), (32, 20), (LARGEST_SECOND, 20)):
         yield 8, header(PING, flags=flags, version=version)
     for intelligence in (0, 4, 255):
         yield 8, header(PING, intelligence=intelligence)
@@ -100,6 +104,7 @@ def refusals():
         yield 8, frame(BULK_GET_KEYS, bulk=scope)
     for name in (b'n', b'n' * 32, 'é'.encode(), '\U0010ffff'.encode(), b'\0'):
         yield 9, header(PING, name=name)
+    yield 9, header(PING, name=b'n', version=20)
     yield 9, header(CLEAR, name=b'x')
     yield 9, frame(BULK_GET, name=b'x')
     yield 9, frame(BULK_GET_KEYS, name=b'x')
@@ -129,20 +134,20 @@ def refusal_files(bench):
 
 def cut_frames():
     """Every beginning of a frame of each operation, and bytes behind it, with a look at the table after each."""
-    for operation in OPERATIONS:
-        data = frame(operation, key=b'good', value=b'new', flags=1, entry_version=1)
+    for operation, version in itertools.product(OPERATIONS, (12, 20)):
+        data = frame(operation, key=b'good', value=b'new', flags=1, entry_version=1, version=version)
         out = GOOD
         for end in range(len(data)):
             out += line(data[:end]) + AFTER
         for tail in (b'\0', b'\xa0', data):
             out += line(data + tail) + AFTER
-        yield f'cut frames and bytes behind, operation {operation:02x}', out + line(data) + AFTER
+        yield f'cut frames and bytes behind, operation {operation:02x}, version {version}', out + line(data) + AFTER
 
 
 def operations():
     """All operations, each flag and version, on a held and on an absent key, with the right version and with others."""
-    for version, most in ((10, 1), (11, 1), (12, 7)):
-        for flags in range(most + 1):
+    for version, most in GREATEST_FLAGS.items():
+        for flags in (*range(most + 1),) if most < 31 else (0, 1, 2, 3, 8, 9, 16, 17, 28, 29, 31):
             out = b''
             for operation in OPERATIONS:
                 for key in (b'good', b'none'):
@@ -156,17 +161,46 @@ def operations():
                 put = out.count(GOOD) + last
                 out += request(REPLACE_IF_UNMODIFIED, key=b'good', value=b'x', entry_version=put, version=version, flags=flags) + AFTER
             yield f'all operations, version {version}, flags {flags}', out
-    yield 'conditions met', conditions_met()
+    for version in GREATEST_FLAGS:
+        yield f'conditions met, version {version}', conditions_met(version)
+    yield 'versions mixed', versions_mixed()
 
 
-def conditions_met():
-    """Conditional writes with the right version, the one above, the one below."""
+def conditions_met(protocol):
+    """Conditional writes with the right version, the one above, the one below, in this protocol version."""
+    told = dict(version=protocol, flags=1)
     out = request(PUT, value=b'one')
     for version in (0, 2, 1):
-        out += request(REPLACE_IF_UNMODIFIED, value=b'two', entry_version=version, flags=1) + request(GET_WITH_VERSION)
+        out += request(REPLACE_IF_UNMODIFIED, value=b'two', entry_version=version, **told) + request(GET_WITH_VERSION)
     for version in (1, 3, 2 + 2 ** 63, 2):
-        out += request(REMOVE_IF_UNMODIFIED, entry_version=version, flags=1) + request(GET_WITH_VERSION)
+        out += request(REMOVE_IF_UNMODIFIED, entry_version=version, **told) + request(GET_WITH_VERSION)
     return out + request(PUT, value=b'three') + request(GET_WITH_VERSION)
+
+
+def versions_mixed():
+    """Each operation in each protocol version behind each, with the old value asked for."""
+    out = b''
+    for one, other in itertools.product(GREATEST_FLAGS, repeat=2):
+        for operation in (PUT, PUT_IF_ABSENT, REPLACE, REPLACE_IF_UNMODIFIED, REMOVE, REMOVE_IF_UNMODIFIED):
+            out += request(PUT, value=b'one', version=one, flags=1) + request(operation, value=b'two', version=other, flags=1, entry_version=1)
+            out += request(operation, value=b'', version=one, flags=1) + request(operation, value=b'x', version=other, flags=1) + request(STATS, version=other)
+    return out
+
+
+def told_by_status(bench):
+    """The replies of version 20 with flag 0x0001, by document 000: 03 and 04 with the value held before, and no old value at another status."""
+    # Operation, entry version, status where the key is absent, status where it holds `Ida`.
+    for operation, entry_version, absent, held in ((PUT, 0, 0, 3), (PUT_IF_ABSENT, 0, 0, 4), (REPLACE, 0, 1, 3), (REPLACE_IF_UNMODIFIED, 1, 2, 3),
+                                                   (REPLACE_IF_UNMODIFIED, 9, 2, 4), (REMOVE, 0, 2, 3), (REMOVE_IF_UNMODIFIED, 1, 2, 3),
+                                                   (REMOVE_IF_UNMODIFIED, 9, 2, 4)):
+        for flags in (1, 9, 17, 29, 31):
+            call = request(operation, entry_version=entry_version, version=20, flags=flags)
+            case = f'version 20, operation {operation:02x}, flags {flags}'
+            for table, wanted in ((head_line(1), bytes([absent, 0])), (head_line(1) + entry_line(1, value=b'Ida'), bytes([held, 0, 3]) + b'Ida'),
+                                  (head_line(1) + entry_line(1, value=b''), bytes([held, 0, 0]))):
+                got = bench.same(case, call, table)
+                wanted = (bytes([0xa1, 1, operation + 1]) + wanted).hex().encode() + b'\n'
+                demand(got.out == wanted, case, f'the second program gives {got.out!r}, the paper {wanted!r}')
 
 
 def values():
@@ -280,12 +314,13 @@ def bulk(bench):
         table, entries = bulk_table(held, long)
         calls, wanted = b'', b''
         for count in (0, 1, 2, 95, 96, 127, 128, 129, LARGEST_SECOND):
-            for version in (10, 11, 12):
+            for version in GREATEST_FLAGS:
                 calls += request(BULK_GET, bulk=count, version=version)
                 wanted += bulk_line(BULK_GET, entries[:count or held])
         for scope in (0, 1, 2):
-            calls += request(BULK_GET_KEYS, bulk=scope)
-            wanted += bulk_line(BULK_GET_KEYS, entries)
+            for version in (12, 20):
+                calls += request(BULK_GET_KEYS, bulk=scope, version=version)
+                wanted += bulk_line(BULK_GET_KEYS, entries)
         case = f'bulk requests with {held} entries'
         got = bench.same(case, calls, table)
         demand(got.out == wanted, case, 'the second program does not list what the paper says')
@@ -419,6 +454,7 @@ def part():
         refusal_files(bench)
         for case, requests in plain_files():
             bench.same(case, requests, ABSENT)
+        told_by_status(bench)
         deadlines(bench)
         last_versions(bench)
         deadline_edges(bench)

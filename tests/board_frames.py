@@ -12,6 +12,7 @@ MOST_KEYS = 128
 LARGEST_VERSION = 2 ** 63 - 1
 LARGEST_DEADLINE = 8_589_934_590
 LARGEST_SECOND = 2 ** 32 - 1
+GREATEST_FLAGS = {10: 1, 11: 1, 12: 7, 20: 31}  # by the protocol version
 THIRTY_DAYS = 2_592_000  # a longer lifespan is a date
 
 
@@ -31,8 +32,9 @@ def sized(data):
 
 
 def header(operation, message=1, version=10, name=b'', flags=0, intelligence=1, topology=0, transaction=0):
+    """Version 20 has no transaction type."""
     return (b'\xa0' + number(message) + bytes([version, operation]) + sized(name) + number(flags)
-            + bytes([intelligence]) + number(topology) + bytes([transaction]))
+            + bytes([intelligence]) + number(topology) + (b'' if version == 20 else bytes([transaction])))
 
 
 def frame(operation, key=b'k', value=b'v', lifespan=0, idle=0, entry_version=1, bulk=0, **head):

@@ -7,7 +7,7 @@ import random
 import sys
 import threading
 
-from board_frames import (BULK, BULK_GET, BULK_GET_KEYS, CLEAR, CONTAINS_KEY, GET, GET_WITH_VERSION, LARGEST_SECOND, LARGEST_VERSION,
+from board_frames import (BULK, BULK_GET, BULK_GET_KEYS, CLEAR, CONTAINS_KEY, GET, GET_WITH_VERSION, GREATEST_FLAGS, LARGEST_SECOND, LARGEST_VERSION,
                           MOST_KEYS, PING, PUT, PUT_IF_ABSENT, REMOVE, REMOVE_IF_UNMODIFIED, REPLACE, REPLACE_IF_UNMODIFIED, STATS,
                           THIRTY_DAYS, entry_line, frame, head_line, line)
 
@@ -70,11 +70,11 @@ class Maker:
         if chance.random() < 0.005:  # a reply may have 83,000 characters
             operation = chance.choice(BULK)
         key = chance.choice(self.keys)
-        version = chance.choice((10, 11, 12))
+        version = chance.choice((10, 11, 12, 20, 20))
         data = frame(operation, key=key, value=self.value(), lifespan=self.lifespan(), idle=chance.choice(NUMBERS),
                      entry_version=self.entry_version(key), bulk=chance.choice(BULK_NUMBERS),
                      message=chance.choice((*NUMBERS, LARGEST_VERSION)), version=version,
-                     flags=chance.randint(0, 7 if version == 12 else 1), intelligence=chance.randint(1, 3), topology=chance.choice(NUMBERS),
+                     flags=chance.randint(0, GREATEST_FLAGS[version]), intelligence=chance.randint(1, 3), topology=chance.choice(NUMBERS),
                      name=b'other' if chance.random() < 0.01 else b'')
         self.follow(operation, key)
         return line(data, self.second())
@@ -174,10 +174,10 @@ def kinds(replies):
     return seen
 
 
-# The reply table of the paper, and the statuses of its error replies.
+# The reply table of the paper, with the statuses 03 and 04 of version 20, and the statuses of its error replies.
 ALL_KINDS = {(operation + 1, status) for statuses, operations in (
-    ((0,), (PUT, CLEAR, STATS, PING, BULK_GET, BULK_GET_KEYS)), ((0, 1), (PUT_IF_ABSENT, REPLACE)),
-    ((0, 1, 2), (REPLACE_IF_UNMODIFIED, REMOVE_IF_UNMODIFIED)), ((0, 2), (REMOVE, GET, GET_WITH_VERSION, CONTAINS_KEY))) for status in statuses for operation in operations} | {
+    ((0,), (PUT, CLEAR, STATS, PING, BULK_GET, BULK_GET_KEYS)), ((0, 1), (PUT_IF_ABSENT, REPLACE)), ((3,), (PUT, REPLACE, REMOVE)),
+    ((0, 1, 2, 3, 4), (REPLACE_IF_UNMODIFIED, REMOVE_IF_UNMODIFIED)), ((0, 2), (REMOVE, GET, GET_WITH_VERSION, CONTAINS_KEY)), ((4,), (PUT_IF_ABSENT,))) for status in statuses for operation in operations} | {
         (0x50, status) for status in range(0x81, 0x86)} | {'refused 14', 'refused 15'}
 
 

@@ -11,8 +11,10 @@ use std::net::TcpStream;
 use std::ops::RangeInclusive;
 use std::time::{SystemTime, UNIX_EPOCH};
 
-use reference::operation::{greatest_bulk, sends_entry_version, sends_key, sends_value};
-use reference::operation::{serves, BULK_GET, GET_WITH_VERSION, PING, SERVED};
+use reference::operation::{greatest_bulk, greatest_flags, sends_entry_version, sends_key};
+use reference::operation::{
+    sends_value, serves, BULK_GET, GET_WITH_VERSION, PING, SERVED, VERSIONS,
+};
 use reference::serve::answer_request;
 use reference::{read_reply, store, write_request, Read, Request, Table};
 
@@ -41,12 +43,13 @@ impl Chance {
     fn request(&mut self, last: u64) -> Request {
         let operation = SERVED[self.below(SERVED.len())];
         let mut request = plain(operation, &[]);
-        let version = 10 + self.below(3) as u8;
+        let version = VERSIONS[self.below(VERSIONS.len())];
         if serves(version, operation) {
             request.version = version;
         }
         request.id = 1 << self.below(63);
-        request.flags = self.below(2) as u32;
+        let greatest = greatest_flags(request.version) as usize;
+        request.flags = self.below(greatest + 1) as u32;
         request.name = [b"".to_vec(), b"other".to_vec()][self.below(30) / 29].clone();
         if sends_key(operation) {
             request.key = KEYS[self.below(KEYS.len())].to_vec();

@@ -12,7 +12,8 @@ LONG_KEY, LONG_VALUE = b'k' * 64, bytes(range(256))
 STREAM = [frame(PING, message=300), frame(PUT, key=b'b1', value=b'Ida', lifespan=100), frame(GET, key=b'b1'), frame(GET_WITH_VERSION, key=b'b1'),
           frame(PUT_IF_ABSENT, key=b'b1', value=b'Bo', flags=1), frame(REPLACE, key=LONG_KEY, value=b'', flags=1, version=12),
           frame(PUT, key=LONG_KEY, value=LONG_VALUE[:40], flags=7, version=12), frame(BULK_GET, bulk=1), frame(BULK_GET), frame(BULK_GET_KEYS, bulk=2),
-          frame(REMOVE, key=b'b1', flags=1), frame(CONTAINS_KEY, key=b'b1'),
+          frame(PUT_IF_ABSENT, key=b'b1', value=b'Cai', flags=9, version=20), frame(PUT, key=b'b1', value=b'', flags=31, version=20),
+          frame(REMOVE, key=b'b1', flags=1), frame(CONTAINS_KEY, key=b'b1', version=20), frame(REMOVE, key=LONG_KEY, flags=1, version=20),
           frame(PING, name=b'cafe'), frame(REMOVE_IF_UNMODIFIED, key=b'b1', entry_version=1), frame(CLEAR)]
 
 
@@ -58,7 +59,7 @@ def pipelined(bench):
     random.seed(5)
     with Host(bench.table('pipelined')) as host:
         puts = [frame(PUT, key=key_name(at), value=bytes([at]) * 256) for at in range(128)]
-        frames = [frame(BULK_GET) if at % 100 == 99 else frame(GET, key=key_name(random.randrange(130)), message=at) for at in range(4000)]
+        frames = [frame(BULK_GET) if at % 100 == 99 else frame(GET, key=key_name(random.randrange(130)), message=at, version=random.choice((10, 11, 12, 20))) for at in range(4000)]
         replies, _ = reference(puts + frames)
         with host.connect() as caller:
             feed([caller], b''.join(puts), b''.join(replies[:len(puts)]))
@@ -103,7 +104,7 @@ def feed(callers, data, wanted):
 
 
 BAD = [b'\xff', b'\xa0\x80\x00', b'\xa0\x01\x0d', b'\xa0\x01\x0a\x02', b'\xa0\x01\x0a\x01\x80\x00', b'\xa0\x01\x0a\x01\x21', b'\xa0\x01\x0a\x01\x01\xff',
-       header(PUT, flags=2), header(GET, version=12) + b'\x41']
+       header(PUT, flags=2), header(GET, version=12) + b'\x41', b'\xa0\x01\x14\x29', header(PING, flags=32, version=20), header(GET, version=20) + b'\x41']
 
 
 def refusals(bench):

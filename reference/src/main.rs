@@ -2,7 +2,8 @@
 //!
 //! `reference serve REQUESTS` serves a file of request lines from a fresh
 //! table. `reference serve REQUESTS TABLE` loads the table first and stores
-//! it afterwards. The other commands read one case a line from standard
+//! it afterwards. `reference sheet TABLE [CACHE [KEY [COUNT]]]` lists the keys
+//! of a stored table. The other commands read one case a line from standard
 //! input and print one result a line.
 
 mod cases;
@@ -10,14 +11,19 @@ mod cases;
 use std::ffi::{OsStr, OsString};
 use std::fs::{self, File};
 use std::io::{self, BufReader, BufWriter, ErrorKind, Read, Write};
+use std::os::unix::ffi::OsStrExt;
 use std::process::ExitCode;
 
+use reference::hex::to_digits;
+use reference::order::LONGEST_LISTING;
+use reference::statistics::decimal;
 use reference::stored::LONGEST;
-use reference::{load, serve_reader, store, Table};
+use reference::{list_keys, load, serve_reader, store, Table};
 
 const USAGE: &str = "usage:
   reference serve REQUESTS
   reference serve REQUESTS TABLE
+  reference sheet TABLE [CACHE [KEY [COUNT]]]
   reference number 5
   reference number 9
   reference write-number
@@ -28,7 +34,7 @@ const USAGE: &str = "usage:
   reference fields
   reference request
   reference reply VERSION OPERATION FLAG
-All but the first two read one case a line from standard input. Before a
+All but the first three read one case a line from standard input. Before a
 case of `fields` stands a letter: i vInt, l vLong, e entry version, t text,
 n name, k key, v value.";
 
@@ -37,6 +43,9 @@ fn main() -> ExitCode {
     let result = match arguments.as_slice() {
         [command, requests] if command == "serve" => serve_fresh(requests),
         [command, requests, table] if command == "serve" => serve_with_table(requests, table),
+        [command, table, rest @ ..] if command == "sheet" && rest.len() <= 3 => {
+            list_file(table, rest)
+        }
         _ => run_cases(&arguments),
     };
     match result {
@@ -68,6 +77,27 @@ fn serve_with_table(requests: &OsStr, path: &OsStr) -> Result<(), String> {
     let mut table = load_file(path)?;
     serve_file(requests, &mut table)?;
     store_file(&table, path).map_err(|error| format!("The table could not be stored: {error}."))
+}
+
+/// Prints the listing of a stored table's keys as a line of digits. A cache, a
+/// key that it begins at, and the most keys that it has may be given.
+fn list_file(path: &OsStr, rest: &[OsString]) -> Result<(), String> {
+    let bytes =
+        read_table_file(path).map_err(|error| format!("The table could not be read: {error}."))?;
+    let table = load(&bytes).ok_or("refused 17")?;
+    let word = |at: usize| rest.get(at).map_or(&[][..], |word| word.as_bytes());
+    let most = match rest.get(2) {
+        None => Some(u64::MAX),
+        Some(_) => decimal(word(2)),
+    };
+    let most = most.ok_or(USAGE)?;
+    let mut out = vec![0; LONGEST_LISTING];
+    let length = list_keys(&table, word(0), word(1), most, &mut out)
+        .map_err(|number| format!("refused {number}"))?;
+    let line = [&to_digits(&out[..length])[..], b"\n"].concat();
+    io::stdout()
+        .write_all(&line)
+        .map_err(|error| format!("The keys could not be written: {error}."))
 }
 
 /// Serves the lines of the file and prints the replies.

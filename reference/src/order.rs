@@ -1,8 +1,12 @@
 //! The order of the keys, and the listing that goes by it.
 
-use crate::fields::copy_out;
+use crate::fields::{copy_out, KEY_LIMIT};
 use crate::listing::{self, Listed};
-use crate::map::{is_table, Table};
+use crate::map::{is_table, Table, MOST_KEYS};
+
+/// The most bytes of a listing: before each key a byte 1 and its length, and a
+/// byte 0 at the end.
+pub const LONGEST_LISTING: usize = MOST_KEYS * (2 + KEY_LIMIT) + 1;
 
 /// Whether a key stands before another: by the first byte in which they differ,
 /// and a shorter key before a longer one that it begins.

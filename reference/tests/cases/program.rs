@@ -209,3 +209,31 @@ fn wrong_words_give_the_usage() {
         assert!(text(&output.stderr).starts_with("usage:"));
     }
 }
+
+#[test]
+fn lists_the_keys_of_a_stored_table() {
+    let path = folder("sheet").join("table");
+    let stored = "010000000000000003\n\
+                  00000000000000010000000000000000026231 03496461\n\
+                  000000000000000200000000000000000161 00\n";
+    fs::write(&path, stored.replace(' ', "")).unwrap();
+    let sheet = |words: &[&str]| {
+        let output = program()
+            .arg("sheet")
+            .arg(&path)
+            .args(words)
+            .output()
+            .unwrap();
+        (text(&output.stdout), text(&output.stderr))
+    };
+    let said = |line: &str| (line.to_string(), String::new());
+    assert_eq!(sheet(&[]), said("0101610102623100\n"));
+    assert_eq!(sheet(&["", "a\u{1}"]), said("0102623100\n"));
+    assert_eq!(sheet(&["", "b1", "9"]), said("0102623100\n"));
+    assert_eq!(sheet(&["", "", "1"]), said("01016100\n"));
+    assert_eq!(sheet(&["", "", "0"]), said("00\n"));
+    assert_eq!(sheet(&["cafe"]), (String::new(), "refused 9\n".to_string()));
+    assert!(sheet(&["", "", "01"]).1.starts_with("usage"));
+    fs::write(&path, "01\n").unwrap();
+    assert_eq!(sheet(&[]), (String::new(), "refused 17\n".to_string()));
+}

@@ -79,12 +79,16 @@ fn serve_with_table(requests: &OsStr, path: &OsStr) -> Result<(), String> {
     store_file(&table, path).map_err(|error| format!("The table could not be stored: {error}."))
 }
 
+fn not_listed(number: u8) -> String {
+    format!("refused {number}\nThe keys are not listed.")
+}
+
 /// Prints the listing of a stored table's keys as a line of digits. A cache, a
 /// key that it begins at, and the most keys that it has may be given.
 fn list_file(path: &OsStr, rest: &[OsString]) -> Result<(), String> {
     let bytes =
         read_table_file(path).map_err(|error| format!("The table could not be read: {error}."))?;
-    let table = load(&bytes).ok_or("refused 17")?;
+    let table = load(&bytes).ok_or_else(|| not_listed(17))?;
     let word = |at: usize| rest.get(at).map_or(&[][..], |word| word.as_bytes());
     let most = match rest.get(2) {
         None => Some(u64::MAX),
@@ -92,8 +96,7 @@ fn list_file(path: &OsStr, rest: &[OsString]) -> Result<(), String> {
     };
     let most = most.ok_or(USAGE)?;
     let mut out = vec![0; LONGEST_LISTING];
-    let length = list_keys(&table, word(0), word(1), most, &mut out)
-        .map_err(|number| format!("refused {number}"))?;
+    let length = list_keys(&table, word(0), word(1), most, &mut out).map_err(not_listed)?;
     let line = [&to_digits(&out[..length])[..], b"\n"].concat();
     io::stdout()
         .write_all(&line)

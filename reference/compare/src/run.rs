@@ -39,11 +39,11 @@ fn part<S>(
 /// Parts a to e, h, l and n.
 pub fn parts<S: Subject>() -> Vec<Part<S>> {
     vec![
-        part(0, "messages", 10_000, messages::round),
+        part(0, "messages", 9_000, messages::round),
         part(1, "serving", 12_100, serving::round),
-        part(2, "streams", 31_400, streams::round),
+        part(2, "streams", 27_000, streams::round),
         part(3, "tables", 4_000, tables::round),
-        part(4, "values", 25_600, values::round),
+        part(4, "values", 22_000, values::round),
         part(7, "edges", 80, edges::round),
         part(11, "bulk", 200, bulk::round),
         part(13, "versions", 256, versions::round),
@@ -52,7 +52,7 @@ pub fn parts<S: Subject>() -> Vec<Part<S>> {
 
 /// Part f, request files.
 pub fn lines_part<S: ServesLines>() -> Part<S> {
-    part(5, "lines", 6_400, lines::round)
+    part(5, "lines", 4_800, lines::round)
 }
 
 /// Part g, stored tables.
@@ -77,7 +77,7 @@ pub fn statistics_part<S: Stores>() -> Part<S> {
 
 /// Part o, many connections.
 pub fn many_part<S: ServesMany>() -> Part<S> {
-    part(14, "many", 300, many::round)
+    part(14, "many", 400, many::round)
 }
 
 /// Part p, the order of the keys.
@@ -87,7 +87,7 @@ pub fn order_part<S: ListsKeys + Stores>() -> Part<S> {
 
 /// Part m, entries that expire.
 pub fn expiry_part<S: Stores>() -> Part<S> {
-    part(12, "expiry", 1_500, expiry::round)
+    part(12, "expiry", 1_200, expiry::round)
 }
 
 /// Plays one round. The same seed, part and round are the same inputs.

@@ -232,8 +232,20 @@ fn lists_the_keys_of_a_stored_table() {
     assert_eq!(sheet(&["", "b1", "9"]), said("0102623100\n"));
     assert_eq!(sheet(&["", "", "1"]), said("01016100\n"));
     assert_eq!(sheet(&["", "", "0"]), said("00\n"));
-    assert_eq!(sheet(&["cafe"]), (String::new(), "refused 9\n".to_string()));
+    assert_eq!(
+        sheet(&["cafe"]),
+        (
+            String::new(),
+            "refused 9\nThe keys are not listed.\n".to_string()
+        )
+    );
     assert!(sheet(&["", "", "01"]).1.starts_with("usage"));
     fs::write(&path, "01\n").unwrap();
-    assert_eq!(sheet(&[]), (String::new(), "refused 17\n".to_string()));
+    assert_eq!(
+        sheet(&[]),
+        (
+            String::new(),
+            "refused 17\nThe keys are not listed.\n".to_string()
+        )
+    );
 }

@@ -158,7 +158,7 @@ def run_commands(path, top):
 
 
 def check_commands():
-    subprocess.run(['./feyqoolad', '--version'], check=True, stdout=subprocess.DEVNULL)  # builds it
+    subprocess.run(['./feyqoolad', 'encode', 'ping'], check=True, stdout=subprocess.DEVNULL)  # builds it
     subprocess.run(['./board', 'serve', '/dev/null'], check=True)
     if not own_network():
         if os.environ.get('HOST_SKIPS') != 'yes':

@@ -7,8 +7,8 @@ import subprocess
 import time
 
 from board_frames import GET, PING, PUT, REMOVE, entry_line, frame, head_line, key_name
-from host_disk import limit_size
-from host_run import Bench, HOST, Host, SECONDS, demand, read_file, run_part, short, together, until
+from host_disk import lift, limit_size
+from host_run import Bench, HOST, Host, SECONDS, demand, preloaded, read_file, run_part, short, together, until
 
 POLICY = ("default-src 'none'; script-src 'self'; style-src 'self'; connect-src 'self'; base-uri 'none'; form-action 'none'; frame-ancestors 'none'")
 # Keys and values with what a page must not take for markup, script, a string's end or an order of writing.
@@ -228,11 +228,25 @@ def away(bench):
     return 4
 
 
-def slow_server(bench):
-    """While the server does not answer, since its disk is full, a visitor waits for the data, and another one that comes meanwhile has its whole time to ask."""
-    with Shown(bench.table('slow'), '--sync', 'always', preexec_fn=limit_size(20), restore_signals=False) as host, host.connect() as caller:
-        caller.send(frame(PUT))
+def full_disk(bench):
+    """On a full disk the page goes on to show the entries as they were stored last, and the write that waits when there is room."""
+    with Shown(bench.table('disk', head_line(4) + entry_line(4, b'k', b'old')), '--sync', 'always', preexec_fn=limit_size(20), restore_signals=False) as host, host.connect() as caller:
+        caller.send(frame(PUT, key=b'k', value=b'new'))
         until(lambda: "can't store the table" in host.words(), 'a full disk', 'nothing is said')
+        for _ in range(4):
+            demand([one['value'] for one in host.entries()] == ['old'], 'the page on a full disk', 'other entries')
+            time.sleep(0.3)
+        lift(host)
+        until(lambda: [one['value'] for one in host.entries()] == ['new'], 'the page with room again', 'other entries')
+    return 1
+
+
+def slow_server(bench):
+    """While the server does not answer, since its disk is slow, a visitor waits for the data, and another one that comes meanwhile has its whole time to ask."""
+    slow = preloaded(bench, 'slow_disk', SLOW_DISK='4000')
+    with Shown(bench.table('slow', head_line(0)), '--sync', 'always', env=slow) as host, host.connect() as caller:
+        caller.send(frame(PUT))
+        time.sleep(0.5)
         with socket.create_connection(('127.0.0.1', host.page), timeout=SECONDS) as first, socket.socket() as second:
             first.sendall(b'GET /data HTTP/1.1\r\n\r\n')
             time.sleep(0.3)
@@ -248,9 +262,9 @@ def slow_server(bench):
 
 def part():
     with Bench() as bench:
-        gone, slow = together(lambda: away(bench), lambda: slow_server(bench))
+        gone, slow, disk = together(lambda: away(bench), lambda: slow_server(bench), lambda: full_disk(bench))
         return (f'{documents(bench)} documents, {hostile(bench)} hostile entries, {full(bench)} entries of a full table, {requests(bench)} requests, '
-                f'{crowd(bench)} at once, {never_read(bench)} that do not read, {gone} away, {slow} of a slow server')
+                f'{crowd(bench)} at once, {never_read(bench)} that do not read, {gone} away, {slow} of a slow server, {disk} on a full disk')
 
 
 if __name__ == '__main__':

@@ -156,7 +156,7 @@ impl Command {
         let version = words.number("version", 0..=u64::MAX)?;
         if operation.sends_version() && version.is_none() {
             return Err(format!(
-                "{word} needs --version N, as getwithversion tells it"
+                "{word} needs --version N, as getwithversion prints it"
             ));
         }
         let small = || 0..=u64::from(u32::MAX);

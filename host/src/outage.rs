@@ -87,7 +87,12 @@ impl Outage {
         if self.copy.store() == self.file {
             table.copy_from(&self.copy);
         } else {
-            (part.taken, part.replied, part.held) = (0, 0, true);
+            part = Part {
+                taken: 0,
+                replied: 0,
+                rest: Rest::More,
+                held: true,
+            };
         }
         part
     }
@@ -130,4 +135,77 @@ fn ping() -> Vec<u8> {
     let size = write_request(&mut out, &numbers, &[], &[]).expect("a ping is written");
     out.truncate(size);
     out
+}
+
+#[cfg(test)]
+mod tests {
+    use super::*;
+    use crate::command::{CLEAR, GET, PUT, PUT_IF_ABSENT, REMOVE};
+
+    fn request(operation: u8, key: &[u8], value: &[u8]) -> Vec<u8> {
+        let mut out = vec![0; LONGEST_REQUEST];
+        let numbers = [7, 12, u64::from(operation), 0, 1, 0, 0, 0, 0, 0];
+        let size = write_request(&mut out, &numbers, key, value).unwrap();
+        out[..size].to_vec()
+    }
+
+    /// A table with one entry, at second 5.
+    fn table() -> Table {
+        let (mut table, mut replies) = (Table::fresh(), vec![0; REPLIES]);
+        let put = request(PUT, b"k", b"old");
+        let (ends, mut told) = ([put.len() as u64], Vec::new());
+        let _ = table.serve_many(&put, &ends, 5, &mut replies, &mut told);
+        table
+    }
+
+    #[test]
+    fn a_change_waits_with_all_behind_it() {
+        let get = request(GET, b"k", b"");
+        let no_change = [
+            get.clone(),
+            request(PUT_IF_ABSENT, b"k", b"x"),
+            request(REMOVE, b"none", b""),
+        ]
+        .concat();
+        for change in [
+            request(PUT, b"k", b"old"),
+            request(PUT, b"n", b""),
+            request(REMOVE, b"k", b""),
+            request(CLEAR, b"", b""),
+        ] {
+            let mut table = table();
+            let file = table.store();
+            let input = [&no_change[..], &change, &get].concat();
+            let mut outage = Outage::new(&table, 6);
+            let part = outage.serve(&mut table, &input);
+            assert!(part.held && part.taken == no_change.len());
+            assert_eq!(table.store(), file);
+            // The same replies come where no change is behind them.
+            let replies = outage.replies[..part.replied].to_vec();
+            let mut other = self::table();
+            let part = Outage::new(&other, 6).serve(&mut other, &no_change);
+            assert!(!part.held && part.taken == no_change.len());
+            assert_eq!(part.replied, replies.len());
+            assert!(table == other, "the counts differ");
+            let part = outage.serve(&mut table, &input[no_change.len()..]);
+            assert!(part.held && part.taken == 0 && part.replied == 0);
+        }
+    }
+
+    #[test]
+    fn what_is_cut_or_refused_is_not_held() {
+        let mut table = table();
+        let (get, put) = (request(GET, b"k", b""), request(PUT, b"k", b"v"));
+        let mut outage = Outage::new(&table, 6);
+        let cut = [&get[..], &put[..5]].concat();
+        let part = outage.serve(&mut table, &cut);
+        assert!(!part.held && part.taken == get.len() && part.rest == Rest::More);
+        let refused = [&get[..], b"x"].concat();
+        let part = outage.serve(&mut table, &refused);
+        assert!(!part.held && part.rest == Rest::Ended);
+        // A refusal behind a change waits for it.
+        let behind = [&get[..], &put, b"x"].concat();
+        let part = outage.serve(&mut table, &behind);
+        assert!(part.held && part.taken == get.len() && part.rest != Rest::Ended);
+    }
 }

@@ -285,7 +285,7 @@ def few_files(bench):
         for caller in [host.connect() for _ in range(60)]:
             demand(caller.call(PING).operation == PING + 1, 'files that may be taken', 'one is not served')
             caller.socket.close()
-    for more, needed in ((), 27), (('--page', '127.0.0.1:0'), 27 + 67):  # a page has 64 visitors, listener, poll and a connection
+    for more, needed in ((), 27), (('--page', '127.0.0.1:0'), 27 + 70):  # a page has 64 visitors, listener, poll, and both ends of a bell and of a connection
         words = [PROGRAM, 'serve', bench.table('none'), '--listen', '127.0.0.1:0', *more]
         done = subprocess.run(words, preexec_fn=limit_files(needed - 1, needed - 1), capture_output=True, timeout=SECONDS, check=False)
         demand(done.returncode == 1 and b'permits %d open files, and %d are needed' % (needed - 1, needed) in done.stderr, 'no files', f'{done}')

@@ -17,7 +17,7 @@ use feyqoolad::files::fitting;
 use feyqoolad::keeper::Keeper;
 use feyqoolad::lines::{decode, encode};
 use feyqoolad::options::Words;
-use feyqoolad::page::begin;
+use feyqoolad::page::{begin, pair};
 use feyqoolad::saver::{Saver, Sync};
 use feyqoolad::server::{listen, Limits, Server};
 use feyqoolad::show::show;
@@ -25,6 +25,8 @@ use feyqoolad::usage;
 use feyqoolad::words::{shown, Went};
 
 const ADDRESS: &str = "127.0.0.1:11222";
+/// Characters of the page's heading at most.
+const LONGEST_TITLE: usize = 64;
 /// The status where the server's answer is no.
 const NO: u8 = 2;
 
@@ -116,6 +118,7 @@ struct Told {
     table: PathBuf,
     address: String,
     page: Option<String>,
+    title: Option<String>,
     sync: Sync,
     connections: u64,
     idle: u64,
@@ -123,7 +126,7 @@ struct Told {
 
 impl Told {
     fn parse(given: &[OsString]) -> Result<Told, Failure> {
-        let options = ["listen", "page", "sync", "connections", "idle"];
+        let options = ["listen", "page", "title", "sync", "connections", "idle"];
         let words = Words::part(given, &options, &[])?;
         let [table] = words.words() else {
             return Err("serve is followed by TABLE and options".to_string());
@@ -138,6 +141,7 @@ impl Told {
             table: PathBuf::from(table),
             address: words.text("listen")?.unwrap_or(ADDRESS).to_string(),
             page: words.text("page")?.map(str::to_string),
+            title: title(&words)?,
             sync,
             connections: words.number("connections", 1..=100_000)?.unwrap_or(1000),
             idle: words.number("idle", 0..=most)?.unwrap_or(600),
@@ -152,6 +156,23 @@ impl Told {
     }
 }
 
+/// The heading of the page, if one is given.
+fn title(words: &Words) -> Result<Option<String>, Failure> {
+    let Some(title) = words.text("title")? else {
+        return Ok(None);
+    };
+    let is_good = !title.trim().is_empty() && !title.chars().any(char::is_control);
+    if words.text("page")?.is_none() {
+        return Err("--title needs --page".to_string());
+    }
+    if !is_good || title.chars().count() > LONGEST_TITLE {
+        return Err(format!(
+            "--title has to be a text of at most {LONGEST_TITLE} characters"
+        ));
+    }
+    Ok(Some(title.to_string()))
+}
+
 fn serve(given: &[OsString]) -> Result<ExitCode, Failure> {
     let told = Told::parse(given).map_err(not_understood)?;
     let limits = told.limits()?;
@@ -160,7 +181,7 @@ fn serve(given: &[OsString]) -> Result<ExitCode, Failure> {
     let page = told.page.as_deref().map(listen).transpose()?;
     let (keeper, loaded) = Keeper::open(&told.table)?;
     // Signals are blocked before any thread begins, so that they come to the server.
-    let server = Signals::new()
+    let mut server = Signals::new()
         .and_then(|signals| {
             let saver = Saver::new(keeper, told.sync)?;
             Server::new(listener, signals, loaded, saver, limits)
@@ -168,7 +189,11 @@ fn serve(given: &[OsString]) -> Result<ExitCode, Failure> {
         .map_err(|error| because("can't serve", error))?;
     say(format!("serves {} on {at}", told.table.display()));
     if let Some((listener, page)) = page {
-        begin(listener, at)?;
+        let (asks, served) = pair().map_err(|error| because("can't show the page", error))?;
+        server
+            .keep(served)
+            .map_err(|error| because("can't show the page", error))?;
+        begin(listener, asks, told.title.as_deref())?;
         say(format!("shows it on http://{page}/"));
     }
     server.run()?;

@@ -10,12 +10,14 @@ pub struct Places {
     free: Vec<usize>,
     /// How many were told that no reply follows.
     shut: usize,
+    /// The place that is kept beside those of clients, and is never idle.
+    kept: Option<usize>,
 }
 
 impl Places {
-    /// How many places are taken.
+    /// How many places are taken by clients.
     pub fn taken(&self) -> usize {
-        self.connections.len() - self.free.len()
+        self.connections.len() - self.free.len() - usize::from(self.kept.is_some())
     }
 
     /// How many connections are open: those that get no reply any more only
@@ -46,10 +48,25 @@ impl Places {
         }
     }
 
+    /// Gives a connection the place that is kept.
+    pub fn keep(&mut self, connection: Connection) -> usize {
+        let index = self.add(connection);
+        self.kept = Some(index);
+        index
+    }
+
+    fn is_kept(&self, index: usize) -> bool {
+        self.kept == Some(index)
+    }
+
     /// Closes the connection at a place, if there is one.
     pub fn close(&mut self, index: usize) {
         if let Some(connection) = self.connections[index].take() {
-            self.shut -= usize::from(connection.is_shut());
+            if self.is_kept(index) {
+                self.kept = None;
+            } else {
+                self.shut -= usize::from(connection.is_shut());
+            }
             self.free.push(index);
         }
     }
@@ -57,10 +74,11 @@ impl Places {
     /// Tells the client at a place that no reply follows, if its last one was
     /// sent.
     pub fn shut(&mut self, index: usize, now: Instant) {
+        let is_kept = self.is_kept(index);
         if let Some(connection) = &mut self.connections[index] {
             let before = connection.is_shut();
             connection.shut(now);
-            self.shut += usize::from(connection.is_shut() && !before);
+            self.shut += usize::from(connection.is_shut() && !before && !is_kept);
         }
     }
 
@@ -68,6 +86,7 @@ impl Places {
     pub fn close_late(&mut self, now: Instant, idle: Option<Duration>) -> usize {
         let mut count = 0;
         for index in 0..self.connections.len() {
+            let idle = idle.filter(|_| !self.is_kept(index));
             let late = self
                 .get(index)
                 .filter(|connection| connection.is_late(now, idle));

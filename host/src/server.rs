@@ -102,6 +102,18 @@ impl Server {
         })
     }
 
+    /// Serves this connection beside those of the limit, however long nothing
+    /// moves there.
+    pub fn keep(&mut self, stream: TcpStream) -> io::Result<()> {
+        let connection = Connection::new(stream, Instant::now());
+        connection.make_ready()?;
+        let index = self.places.keep(connection);
+        match self.places.get(index) {
+            Some(connection) => self.poll.add(&connection.stream, index + FIRST, READABLE),
+            None => Ok(()),
+        }
+    }
+
     /// Serves until a signal comes, or something fails without which nothing can
     /// be served; then the table is stored.
     pub fn run(mut self) -> Result<(), Failure> {

@@ -3,13 +3,15 @@
 
 use std::fmt::Write;
 
+use super::order::compare;
 use crate::border::library::Entry;
 use crate::hex::to_digits;
 
-/// The entries in the order of their keys, byte by byte.
-pub fn of_entries(mut entries: Vec<Entry>) -> String {
-    entries.sort();
-    let mut out = String::from("{\"entries\":[");
+/// The entries by key, as people count, behind the number of the page that
+/// shows them.
+pub fn of_entries(mut entries: Vec<Entry>, page: &str) -> String {
+    entries.sort_by(|one, other| compare(one.0, other.0));
+    let mut out = format!("{{\"page\":\"{page}\",\"entries\":[");
     for (at, (key, value)) in entries.iter().enumerate() {
         let comma = if at > 0 { "," } else { "" };
         let _ = write!(out, "{comma}\n{{\"key\":{},", of_field(key));
@@ -65,9 +67,10 @@ mod tests {
 
     #[test]
     fn entries_stand_by_key() {
-        let entries: Vec<Entry> = vec![(b"b2", b"x"), (b"b10", b""), (b"b", b"z")];
-        let wanted = "{\"entries\":[\n{\"key\":\"b\",\"value\":\"z\"},\n{\"key\":\"b10\",\"value\":\"\"},\n{\"key\":\"b2\",\"value\":\"x\"}\n]}\n";
-        assert_eq!(of_entries(entries), wanted);
-        assert_eq!(of_entries(Vec::new()), "{\"entries\":[\n]}\n");
+        let entries: Vec<Entry> = vec![(b"b10", b""), (b"b2", b"x"), (b"b", b"z")];
+        let wanted = "{\"page\":\"7f\",\"entries\":[\n{\"key\":\"b\",\"value\":\"z\"},\n{\"key\":\"b2\",\"value\":\"x\"},\n{\"key\":\"b10\",\"value\":\"\"}\n]}\n";
+        assert_eq!(of_entries(entries, "7f"), wanted);
+        let none = of_entries(Vec::new(), "7f");
+        assert_eq!(none, "{\"page\":\"7f\",\"entries\":[\n]}\n");
     }
 }

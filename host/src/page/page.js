@@ -1,144 +1,308 @@
 "use strict";
-// Asks for the entries each second, and shows them in the order in which they come.
+// Asks for the entries again and again, and shows them in the order in which they come.
 // Keys and values are put into the page as text, never as markup.
 
-const ASK_AFTER = 1000; // milliseconds behind an answer
+const ASK_AFTER = 700; // milliseconds behind an answer
 const PATIENCE = 4000; // for an answer
 const TURN_AFTER = 8000; // for a screen of entries
+const READ_AFTER = 10000; // between what is read out
+const RELOAD_AFTER = 5000; // behind the beginning, at the earliest
 
+// Lengths on a wall, in hundredths of the width of a screen of 16 to 9.
+const LARGEST = 5; // letters
+const SMALLEST = 1.9; // letters that are read from afar
+const WRAPPING = 2.2; // letters that are not made smaller so that texts fit on one line
+const NARROWEST = 24; // column
+const GAP = 3; // between columns
+// Lengths in letters.
+const LOWEST = 1.85; // row
+const HIGHEST = 2.9; // row
+const LINE = 1.2; // height of a line
+const BESIDE = 0.7; // between key and value
+const SMALLER = 0.73; // letters of what is too long
+// How much larger letters have to be that are worth one more column.
+const WORTH = 1.12;
+
+const root = document.documentElement;
 const board = document.getElementById("board");
-const word = document.getElementById("word");
-const state = document.getElementById("state");
-const place = document.getElementById("place");
+const ruler = document.getElementById("ruler");
+const wall = matchMedia("screen and (min-width: 761px) and (min-height: 481px)");
+const calm = matchMedia("(prefers-reduced-motion: reduce)");
 const rows = new Map(); // by the key's text
+let answer = null; // that is shown
 let heard = null; // when the server last answered
-let current = 0; // which screen of entries is shown, from 0 on
-let turning;
+let away = false; // whether the server does not answer
+let screens = 1; // of entries
+let current = 0; // which of them is shown
+let turning; // the timer of the next one
 
-function time(date, seconds) {
-  return date.toLocaleTimeString([], { hour: "2-digit", minute: "2-digit", second: seconds ? "2-digit" : undefined, hour12: false });
+// Has a part of the page show a text; nothing is laid out anew where it does.
+function put(id, text) {
+  const part = document.getElementById(id);
+  if (part.textContent !== text) part.textContent = text;
 }
 
-// Shows a key or a value: a text, or bytes that are no text, as digits.
+function clock(date) {
+  return [date.getHours(), date.getMinutes()].map((part) => String(part).padStart(2, "0")).join(":");
+}
+
+function day(date) {
+  return date.toLocaleDateString("en-GB", { weekday: "long", day: "numeric", month: "long", year: "numeric" });
+}
+
+function count(number, one, many) {
+  return number === 1 ? `1 ${one}` : `${number} ${many}`;
+}
+
+// How long ago that was.
+function ago(date) {
+  const minutes = Math.floor((Date.now() - date) / 60000);
+  if (minutes < 1) return "less than a minute ago";
+  if (minutes < 60) return count(minutes, "minute ago", "minutes ago");
+  const hours = Math.floor(minutes / 60);
+  return hours < 48 ? count(hours, "hour ago", "hours ago") : count(Math.floor(hours / 24), "day ago", "days ago");
+}
+
+// A key or a value as text; bytes that are no text as digits.
+function words(field) {
+  return typeof field === "string" ? field || "(empty)" : "0x" + field.digits;
+}
+
+// Has a cell show a key or a value; says whether it showed another one.
 function fill(cell, field, name) {
-  const isText = typeof field === "string";
+  const is = JSON.stringify(field);
+  if (cell.is === is) return false;
+  cell.is = is;
   cell.className = name;
-  cell.classList.toggle("digits", !isText);
+  cell.classList.toggle("digits", typeof field !== "string");
   cell.classList.toggle("nothing", field === "");
-  cell.textContent = isText ? field || "(empty)" : "0x" + field.digits;
+  cell.textContent = words(field);
+  return true;
 }
 
-function makeRow(key) {
+function makeRow() {
   const row = document.createElement("li");
   row.append(document.createElement("bdi"), " ", document.createElement("bdi"));
-  fill(row.firstChild, key, "key");
   return row;
 }
 
-// Has the row show the entry, and says so where it showed another value.
-function renew(row, value) {
-  const text = JSON.stringify(value);
-  if (row.shown === text) return;
-  fill(row.lastChild, value, "value");
-  row.classList.remove("changed");
-  if (row.shown !== undefined) {
-    void row.offsetWidth; // so that the change is seen again
-    row.classList.add("changed");
+// What all keys begin with, up to a slash behind which each of them goes on.
+function sharedStart(keys) {
+  if (keys.some((key) => typeof key !== "string")) return "";
+  let start = keys.length ? keys[0] : "";
+  for (const key of keys) {
+    while (start && (key === start || !key.startsWith(start))) start = start.slice(0, start.lastIndexOf("/", start.length - 2) + 1);
   }
-  row.shown = text;
+  return start === "/" ? "" : start;
 }
 
-function leave(name, row) {
-  rows.delete(name);
-  row.classList.add("leaves");
-  setTimeout(() => row.remove(), 700);
-}
-
+// Has the board show these entries.
 function show(entries) {
-  const names = new Set(entries.map((entry) => JSON.stringify(entry.key)));
+  const news = [];
+  const held = new Map(entries.map((entry) => [JSON.stringify(entry.key), entry]));
   for (const [name, row] of rows) {
-    if (!names.has(name)) leave(name, row);
+    if (held.has(name)) continue;
+    news.push(`${row.firstChild.textContent} left`);
+    rows.delete(name);
+    row.remove();
   }
+  const start = sharedStart(entries.map((entry) => entry.key));
+  put("shared", start && document.getElementById("shared").dataset.before + start.slice(0, -1));
   let next = board.firstChild;
-  for (const entry of entries) {
-    const name = JSON.stringify(entry.key);
-    const row = rows.get(name) || makeRow(entry.key);
+  for (const [name, { key, value }] of held) {
+    const row = rows.get(name) || makeRow();
     rows.set(name, row);
-    renew(row, entry.value);
-    while (next && next.classList.contains("leaves")) next = next.nextSibling;
+    const renamed = fill(row.firstChild, start ? key.slice(start.length) : key, "key");
+    const changed = fill(row.lastChild, value, "value");
+    if (renamed || changed) row.widths = null;
     if (next === row) next = row.nextSibling;
     else board.insertBefore(row, next);
+    if (!changed || answer === null) continue;
+    news.push(`${row.firstChild.textContent}: ${words(value)}`);
+    if (!calm.matches) row.animate({ backgroundColor: ["var(--raised)", "transparent"] }, { duration: 3000, easing: "ease-in" });
   }
-  document.body.dataset.many = entries.length <= 6 ? "few" : entries.length <= 9 ? "some" : "many";
-  word.textContent = entries.length ? "" : "The board is empty.";
-  align();
-  turnTo(current);
+  if (answer !== null) readOut(news);
+  fit();
 }
 
-// Has all values begin below each other.
-function align() {
-  board.style.setProperty("--keys", "0px");
-  const widest = Math.max(0, ...[...rows.values()].map((row) => row.firstChild.offsetWidth));
-  board.style.setProperty("--keys", `${widest}px`);
+// News for those who have the page read to them, not more often than can be listened to.
+const unread = [];
+let reading;
+
+function readOut(news) {
+  unread.push(...news);
+  if (!reading) readOn();
+}
+
+function readOn() {
+  reading = unread.length ? setTimeout(readOn, READ_AFTER) : undefined;
+  if (unread.length > 3) put("news", `${unread.length} changes; ${count(rows.size, "entry", "entries")}`);
+  else if (unread.length) put("news", unread.join("; "));
+  unread.length = 0;
+}
+
+// Takes the widths, in letters, of the keys and values whose width is not known.
+function measure() {
+  const unknown = [...rows.values()].filter((row) => !row.widths);
+  ruler.replaceChildren(...unknown.flatMap((row) => [row.firstChild.cloneNode(true), row.lastChild.cloneNode(true)]));
+  const widths = [...ruler.children].map((cell) => cell.getBoundingClientRect().width / 100);
+  unknown.forEach((row, at) => { row.widths = widths.slice(2 * at, 2 * at + 2); });
+  ruler.replaceChildren();
+}
+
+// The width that all but a few keep to, which are much longer.
+function usual(widths, much) {
+  const most = much * [...widths].sort((one, other) => one - other)[Math.floor(0.9 * (widths.length - 1))];
+  return Math.max(...widths.filter((width) => width <= most));
+}
+
+// The fewest screens for so many rows, and the columns that give the largest letters there. A text that is much longer than others makes no difference.
+function choose(number, width, board, unit) {
+  const most = Math.max(1, Math.floor(board.width / (NARROWEST * unit)));
+  for (let screens = 1; ; screens++) {
+    let best = null;
+    for (let columns = 1; columns <= most; columns++) {
+      const high = Math.ceil(Math.ceil(number / screens) / columns);
+      const fitting = board.height / high / LOWEST;
+      if (fitting < SMALLEST * unit && screens < number) continue;
+      const column = (board.width - GAP * unit * (columns - 1)) / columns;
+      const size = Math.min(LARGEST * unit, fitting, Math.max(column / width, WRAPPING * unit));
+      if (!best || size > WORTH * best.size) best = { screens, columns, column, size, row: Math.min(board.height / high, HIGHEST * size) };
+    }
+    if (best) return best;
+  }
+}
+
+// So many in parts that are as even as can be.
+function spread(number, parts) {
+  return Array.from({ length: parts }, (_, at) => Math.ceil((number - at) / parts));
+}
+
+// Gives each row its place, down the columns and screen by screen.
+function place({ screens, columns }) {
+  const all = rows.values();
+  spread(rows.size, screens).forEach((share, screen) => {
+    spread(share, columns).forEach((high, column) => {
+      for (let at = 1; at <= high; at++) {
+        const row = all.next().value;
+        row.style.gridArea = `${at} / ${screen * columns + column + 1}`;
+        row.classList.toggle("first", at === 1);
+      }
+    });
+  });
+}
+
+// Lays the board out.
+function fit() {
+  const unit = Math.sqrt(innerWidth * innerHeight) / 75;
+  root.style.setProperty("--unit", `${unit}px`);
+  tell();
+  screens = 1;
+  if (wall.matches && rows.size) fitWall(unit);
+  turnTo(Math.min(current, screens - 1), true);
+}
+
+// Has a cell stand on two lines where one is too short for its width, and in smaller letters where two are.
+function wrap(cell, width, room, { size, small }) {
+  cell.classList.toggle("long", width * size > room + 1);
+  cell.classList.toggle("longer", width * small > 1.8 * room);
+}
+
+function fitWall(unit) {
+  measure();
+  const all = [...rows.values()];
+  // Values stand below each other; only a key that is much longer than others has its value further on.
+  const aligned = usual(all.map((row) => row.widths[0]), 2);
+  const whole = all.map((row) => Math.max(aligned, row.widths[0]) + BESIDE + row.widths[1]);
+  const chosen = choose(all.length, usual(whole, 1.2), { width: board.clientWidth, height: board.clientHeight }, unit);
+  const { column, size, row: high } = chosen;
+  const third = column * 0.33;
+  const small = size * Math.min(1, (high / size - 0.1) / (2 * LINE)); // two lines of these fit into a row
+  const smaller = Math.min(small, SMALLER * size);
+  const lengths = { size, row: high, column, gap: GAP * unit, keys: Math.min(third, aligned * size), small, smaller };
+  for (const [name, length] of Object.entries(lengths)) board.style.setProperty(`--${name}`, `${length}px`);
+  for (const row of all) {
+    const key = Math.min(third, Math.max(lengths.keys, row.widths[0] * size));
+    wrap(row.firstChild, row.widths[0], third, lengths);
+    wrap(row.lastChild, row.widths[1], column - key - BESIDE * size, lengths);
+  }
+  place(chosen);
+  screens = chosen.screens;
+}
+
+// Shows one of the screens.
+function turnTo(number, still) {
+  current = (number + screens) % screens;
+  const gap = parseFloat(board.style.getPropertyValue("--gap")) || 0;
+  board.classList.toggle("still", Boolean(still));
+  board.style.setProperty("--shift", `${-current * (board.clientWidth + gap)}px`);
+  put("place", screens > 1 ? `${current + 1} of ${screens}` : "");
+}
+
+// Turns on by so many screens, and again when that one was read.
+function turn(by) {
+  clearTimeout(turning);
+  turning = setTimeout(turn, TURN_AFTER, 1);
+  if (screens > 1) turnTo(current + by);
+}
+
+// Says what time it is, whether the server answers, and what stands in place of entries.
+function tell() {
+  const now = new Date();
+  const lost = away && heard !== null;
+  put("date", `${day(now)}, ${clock(now)}`);
+  put("state", away ? "Not live; the server is asked again each second" : heard ? `Live, ${count(rows.size, "entry", "entries")}` : "");
+  put("since", lost ? `As of ${clock(heard)}, ${ago(heard)}` : "");
+  document.getElementById("lost").hidden = !lost;
+  let [large, small] = ["", ""];
+  if (heard === null) [large, small] = away ? ["The server does not answer.", "The board comes by itself when it does."] : ["", "Asking the server."];
+  else if (!rows.size) [large, small] = [clock(now), away ? "The board was empty when the server last answered." : "All is quiet: there is nothing on the board right now."];
+  put("clock", large === clock(now) ? "" : clock(now));
+  put("large", large);
+  put("small", small);
+  document.getElementById("word").hidden = !small;
+  document.getElementById("word").classList.toggle("lost", heard === null);
 }
 
 async function ask() {
   const waiting = new AbortController();
   const timer = setTimeout(() => waiting.abort(), PATIENCE);
   try {
-    const answer = await fetch("/data", { cache: "no-store", signal: waiting.signal });
-    if (!answer.ok) throw new Error(answer.statusText);
-    const data = await answer.json();
-    heard = new Date();
-    show(data.entries);
-    tell(false);
+    const came = await fetch("/data", { cache: "no-store", signal: waiting.signal });
+    if (!came.ok) throw new Error(came.statusText);
+    take(await came.text());
   } catch (error) {
-    tell(true);
+    hear(false);
   }
   clearTimeout(timer);
   setTimeout(ask, ASK_AFTER);
 }
 
-function tell(away) {
+function take(text) {
+  const data = JSON.parse(text);
+  // A screen runs for months, and the server may have another page meanwhile.
+  if (data.page !== root.dataset.page && performance.now() > RELOAD_AFTER) location.reload();
+  heard = new Date();
+  if (text !== answer) show(data.entries);
+  answer = text;
+  hear(true);
+}
+
+// Notes whether the server answers.
+function hear(answers) {
+  if (answers !== away) return tell();
+  away = !answers;
   document.body.classList.toggle("away", away);
-  const count = rows.size === 1 ? "1 entry" : `${rows.size} entries`;
-  let text = `Live, ${count}`;
-  if (away && heard) text = `The server does not answer. The board is as it was at ${time(heard, true)}.`;
-  if (away && !heard) {
-    word.textContent = "The server does not answer.";
-    text = "It is asked again each second.";
-  }
-  if (state.textContent !== text) state.textContent = text;
-}
-
-// Where not all entries fit on a wall's screen, they are shown screen by screen.
-function turnTo(number) {
-  const gap = parseFloat(getComputedStyle(board).columnGap) || 0;
-  const width = board.clientWidth + gap;
-  const count = Math.max(1, Math.ceil((board.scrollWidth + gap) / width - 0.1));
-  current = (number + count) % count;
-  board.style.transform = `translateX(${-current * width}px)`;
-  place.textContent = count > 1 ? `${current + 1} of ${count}` : "";
-}
-
-// Turns on by so many screens, and again when that was read.
-function turn(by) {
-  turnTo(current + by);
-  clearTimeout(turning);
-  turning = setTimeout(turn, TURN_AFTER, 1);
+  readOut([away ? "The server does not answer." : "The server answers."]);
+  fit();
 }
 
 addEventListener("keydown", (event) => {
   if (event.key === "ArrowRight") turn(1);
   if (event.key === "ArrowLeft") turn(-1);
 });
-addEventListener("resize", () => { align(); turnTo(current); });
-
-function tick() {
-  document.getElementById("clock").textContent = time(new Date(), false);
-}
-
-tick();
-setInterval(tick, 1000);
+addEventListener("resize", fit);
+setInterval(tell, 1000);
+fit();
 turn(0);
 ask();

@@ -4,12 +4,14 @@ use std::io::{self, Read};
 use std::net::{Shutdown, TcpStream};
 use std::time::{Duration, Instant};
 
-use super::http::{wanted, Body, Wanted, LONGEST_HEAD};
+use super::http::{request, Body, Request, LONGEST_HEAD};
 use crate::border::system::{READABLE, WRITABLE};
 use crate::connection::{is_later, write_some};
 
 /// How long a visitor may take to send its request.
 const ASKING: Duration = Duration::from_secs(3);
+/// How long it may be waited for what it wants.
+const WAITING: Duration = Duration::from_secs(4);
 /// How long it may take to read the answer.
 const READING: Duration = Duration::from_secs(10);
 /// How long what it still sends is passed over behind the answer. Closing at
@@ -20,6 +22,7 @@ pub struct Visitor {
     stream: TcpStream,
     input: Box<[u8]>,
     held: usize,
+    asked: Option<Request>,
     answer: Option<(Vec<u8>, Body)>,
     /// Bytes of the answer that were sent.
     sent: usize,
@@ -27,6 +30,8 @@ pub struct Visitor {
     shut: bool,
     /// The visitor sends no more.
     ended: bool,
+    /// When a byte of the request last came, or one of the answer went.
+    moved: Instant,
     /// When it is closed.
     until: Instant,
 }
@@ -39,10 +44,12 @@ impl Visitor {
             stream,
             input: vec![0; LONGEST_HEAD].into_boxed_slice(),
             held: 0,
+            asked: None,
             answer: None,
             sent: 0,
             shut: false,
             ended: false,
+            moved: now,
             until: now + ASKING,
         })
     }
@@ -52,8 +59,8 @@ impl Visitor {
     }
 
     /// Reads what has come. Behind the request it is passed over.
-    pub fn receive(&mut self) -> io::Result<()> {
-        if self.answer.is_some() {
+    pub fn receive(&mut self, now: Instant) -> io::Result<()> {
+        if self.asked.is_some() {
             self.held = 0;
         }
         match self.stream.read(&mut self.input[self.held..]) {
@@ -62,19 +69,24 @@ impl Visitor {
             Err(error) if is_later(&error) => {}
             Err(error) => return Err(error),
         }
+        if self.asked.is_none() {
+            self.asked = request(&self.input[..self.held], self.ended);
+            self.moved = now;
+            if self.asked.is_some() {
+                self.until = now + WAITING;
+            }
+        }
         Ok(())
     }
 
     /// What it wants, once that is known and before it is answered.
-    pub fn wants(&self) -> Option<Wanted> {
-        match self.answer {
-            Some(_) => None,
-            None => wanted(&self.input[..self.held]),
-        }
+    pub fn wants(&self) -> Option<Request> {
+        self.asked.filter(|_| self.answer.is_none())
     }
 
     pub fn answer(&mut self, head: Vec<u8>, body: Body, now: Instant) {
         self.answer = Some((head, body));
+        self.moved = now;
         self.until = now + READING;
     }
 
@@ -94,6 +106,7 @@ impl Visitor {
                 return Ok(());
             }
             self.sent += count;
+            self.moved = now;
         }
         if !self.shut {
             self.shut = true;
@@ -107,13 +120,19 @@ impl Visitor {
     pub fn interest(&self) -> u32 {
         match (&self.answer, self.shut) {
             (Some(_), false) => WRITABLE,
+            (None, _) if self.ended => 0,
             _ => READABLE,
         }
     }
 
     /// Whether nothing is left to be done.
     pub fn is_over(&self) -> bool {
-        self.ended && (self.answer.is_none() || self.shut)
+        self.ended && self.wants().is_none() && (self.answer.is_none() || self.shut)
+    }
+
+    /// Since when nothing has moved, unless it waits for an answer.
+    pub fn rests_since(&self) -> Option<Instant> {
+        self.wants().is_none().then_some(self.moved)
     }
 
     pub fn is_late(&self, now: Instant) -> bool {

@@ -15,7 +15,7 @@ UNFIT = re.compile(r'has no `Need-|has no\s+field|is not in scope|one has `[\w·
 FOLLOWS = 'was not admitted'
 PLACE = re.compile(r'/proofs/(\S+?)(?:/Proof)?\.antt:\d+:\d+: error: `([^`]+)`')
 # A proof that the prover searches for by itself.
-SEARCHED = re.compile(r'^note: \S*/src/(\S+)\.rt:(\d+):\d+: .*it is not proved that ')
+SEARCHED = re.compile(r'^note: \S*/src/(\S+)\.rt:(\d+):\d+: it is not proved that .*\(`([^`]+)`\)')
 
 
 class Program:
@@ -46,19 +46,19 @@ def programs(path):
         yield Program(name[1] if name else path.split('/')[-1].rsplit('.', 1)[0], part)
 
 
-def function_at(path, line):
-    """The function that has the line of a source file, as the folder of its proof: none in a type's functions, which stand in no folder of their own."""
-    module = path.split('/src/')[1][:-3]
-    name = None
-    with open(path, encoding='utf-8') as lines:
+def function_at(crate, module, line):
+    """The function that has the line of a source file, as the folder of its proof."""
+    kind = name = None
+    with open(f'crates/{crate}/src/{module}.rt', encoding='utf-8') as lines:
         for number, text in enumerate(lines, 1):
             if number > line:
                 break
-            start = re.match(r'(?:pub(?:\(crate\))? )?(?:extern "C" )?fn (\w+)', text)
+            start = re.match(r'( *)(?:pub(?:\(crate\))? )?(?:extern "C" )?fn (\w+)', text)
             if start:
-                name = start[1]
-            elif re.match(r'impl |[a-z]', text):
+                name = f'{kind}/{start[2]}' if start[1] else start[2]
+            elif re.match(r'[a-z]', text):
                 name = None
+                kind = (re.findall(r'^impl (\w+)', text) or [None])[0]
     return name and (name if module in ('lib', 'main') else f'{module}/{name}')
 
 
@@ -66,19 +66,18 @@ def strays(crate, program):
     """The changes of functions that have no place among those of the wrong program."""
     folders = {place.split()[0] for place in program.places}
     for name, old, _ in program.changes:
-        path = f'crates/{crate}/{name}'
         if name.startswith('src/'):
-            with open(path, encoding='utf-8') as file:
-                text = file.read()
-            function = function_at(path, text[:text.index(old)].count('\n') + 1) if old in text else None
+            with open(f'crates/{crate}/{name}', encoding='utf-8') as file:
+                before, found, _ = file.read().partition(old)
+            function = function_at(crate, name[4:-3], before.count('\n') + 1) if found else None
             if function and function not in folders:
                 yield function
 
 
-def refusals(lines):
+def refusals(crate, lines):
     """Each refusal of a log that follows from no other one: its place, and what the prover says of it. What goes on behind an error begins with two blanks."""
     for at, line in enumerate(lines):
-        error = re.search(r'\berror\b', line)
+        error = re.search(r'(?:^|: )error\b', line)
         searched = SEARCHED.match(line)
         if not error and not searched:
             continue
@@ -92,7 +91,7 @@ def refusals(lines):
         if place:
             yield f'{place[1]} {place[2]}', said
         elif searched:
-            yield f'{searched[1]} searched', said
+            yield f'{function_at(crate, searched[1], int(searched[2]))} {searched[3]}', said
         else:
             yield '', said
 
@@ -110,7 +109,7 @@ def faults_of(path, unplaced):
         yield 'the prover did not refuse it'
         return
     said = {}
-    for place, text in refusals(lines):
+    for place, text in refusals(crate, lines):
         said.setdefault(place, text)
     facts = [place for place, text in said.items() if not UNFIT.search(text)]
     seen = {}

@@ -2,7 +2,7 @@
 """Holds the documents to the programs.
 
 The commands of README.md and of docs/USING.md, which are the blocks `sh`, are run in their order, each document in a fresh copy of the clone with a home and a
-network of its own: they print the blocks `output`, a server says the lines of the block `text` behind its command, and no file is left in the clone. Each block of
+network of its own, without the toolchain: they print the blocks `output`, a server says the lines of the block `text` behind its command, and no file is left in the clone. Each block of
 `requests` gives the block of `replies` behind it, by the second program and by BOARD. docs/TESTING.md says the comparison's size as tests/compare printed it last.
 Documents for users have short sentences and plain words. `documents.py commands` does the first alone, `documents.py words` the last."""
 import ctypes
@@ -98,7 +98,11 @@ class Fresh:
                 os.makedirs(os.path.dirname(os.path.join(self.at, name)), exist_ok=True)
                 shutil.copy(name, os.path.join(self.at, name))
         self.before = self.files()
-        self.environment = {**os.environ, 'HOME': self.home}
+        # What was built has to run without the toolchain, in a folder that was copied.
+        self.environment = {**os.environ, 'HOME': self.home, 'PATH': '/usr/sbin:/usr/bin:/sbin:/bin'}
+        found = [tool for tool in ('rt', 'cargo') if shutil.which(tool, path=self.environment['PATH'])]
+        if found:
+            print(f'documents: {found} are on every PATH here, so it is not seen whether a copy runs without them')
         self.server = self.said = None
 
     def files(self):

@@ -30,7 +30,7 @@ pub fn fitting(wanted: u64, with_page: bool) -> Result<u64, Failure> {
     }
     if fit < wanted {
         say(format!(
-            "the system permits {most} open files, so --connections is {fit}, and not {wanted}"
+            "warning: the system permits {most} open files, so --connections is {fit}, and not {wanted}"
         ));
     }
     Ok(fit)

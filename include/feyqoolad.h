@@ -1,4 +1,4 @@
-/* The library of Feyqoolad for C: a Hot Rod cache server for protocols 1.0, 1.1 and 1.2, and the reader and the writer of its messages.
+/* The library of Feyqoolad for C: a Hot Rod cache server for protocols 1.0, 1.1, 1.2 and 2.0, and the reader and the writer of its messages.
 
    `rt staticlib exports` proves the library and writes target/staticlib/libexports.a, for x86-64 Linux:
 
@@ -83,14 +83,26 @@ enum fq_refusal {
     FQ_BAD_FILE = 17            /* not a stored table */
 };
 
-/* Messages. */
+/* Messages. The versions 10, 11, 12 and 20 are served. Flags are 0 or 1 in 10 and 11, 0 to 7 in 12, and 0 to 31 in 20: 0x0001 asks for the value held before,
+   0x0002 is for an entry without a lifespan, and no other has an effect. A request of version 20 has no transaction type.
+
+   The statuses of a reply that is no error reply: with 0x0001 in version 20, an operation that changes an entry and finds its key held answers FQ_DONE_WITH_VALUE or
+   FQ_NOT_DONE_WITH_VALUE, and the value that was held follows; behind every other status of these nothing follows. In 10 to 12 a length follows each of their
+   statuses where 0x0001 is set, 0 where no value is told. */
+enum fq_status {
+    FQ_AS_ASKED = 0x00,
+    FQ_NOT_DONE = 0x01,             /* the key is held, is not held, or has another version, by the operation */
+    FQ_NO_SUCH_KEY = 0x02,
+    FQ_DONE_WITH_VALUE = 0x03,
+    FQ_NOT_DONE_WITH_VALUE = 0x04
+};
 
 /* Reads the request at the front of the input. Told: bytes read, id, version, operation, flags, intelligence, topology, lifespan, max idle, entry
    version, the entry count of bulkGet or the scope of bulkGetKeys, and start and length of name, key and value. */
 uint64_t fq_read_request(const uint8_t *input, size_t input_len, uint64_t *answer, size_t answer_len);
 
 /* Reads the reply at the front of the input, to a request of version `version` with operation `op`, and with flag 0x0001 where `flag`: 3 for a version that
-   is not served, then 4 for an operation that it does not have, both before any byte is looked at. Told: bytes read, id, operation,
+   is not served, then 4 for an operation that it does not have, both before any byte is looked at; 8 for a status that these can't give. Told: bytes read, id, operation,
    status, entry version, start and length of value and error text, and the nine statistics, which are 0 where it is no stats reply: time since start,
    current and total number of entries, stores, retrievals, hits, misses, remove hits, remove misses; then how many entries a bulk reply has, and start and
    length of their bytes, from the first byte 1 or 0 on, which fq_next_entry walks through. */
@@ -101,12 +113,12 @@ uint64_t fq_read_reply(const uint8_t *input, size_t input_len, uint8_t version, 
 uint64_t fq_write_request(uint8_t *out, size_t out_len, const uint64_t *numbers, size_t numbers_len, const uint8_t *name, size_t name_len,
                           const uint8_t *key, size_t key_len, const uint8_t *value, size_t value_len);
 
-/* Writes a reply at the front of `out`, to a request of version `version` with operation `op`, and with flag 0x0001 where `flag`: 16, then 12. Given: id, operation (the
-   request's plus 1, or 0x50), status, entry version. A field that the status does not send is 0 or empty. */
+/* Writes a reply at the front of `out`, to a request of version `version` with operation `op`, and with flag 0x0001 where `flag`: 16 (also for a version
+   that is not served and an operation that it does not have), then 12. Given: id, operation (the request's plus 1, or 0x50), status, entry version. A field that the status does not send is 0 or empty. */
 uint64_t fq_write_reply(uint8_t *out, size_t out_len, uint8_t version, uint8_t op, bool flag, const uint64_t *numbers, size_t numbers_len, const uint8_t *value,
                         size_t value_len, const uint8_t *text, size_t text_len);
 
-/* Writes the reply to stats (operation 0x15) at the front of `out`: 16, then 12. Given: the nine statistics, in the order in which fq_read_reply tells
+/* Writes the reply to stats (operation 0x15) of this version at the front of `out`: 16, then 12. Given: the nine statistics, in the order in which fq_read_reply tells
    them. A list of another length, and one with a number above the largest vLong, is 16; so is a stats reply that fq_write_reply is given. */
 uint64_t fq_write_statistics(uint8_t *out, size_t out_len, uint8_t version, uint64_t id, const uint64_t *numbers, size_t numbers_len);
 
@@ -115,7 +127,7 @@ uint64_t fq_write_statistics(uint8_t *out, size_t out_len, uint8_t version, uint
    start and length of key and value. */
 uint64_t fq_next_entry(const uint8_t *input, size_t input_len, uint64_t at, bool values, uint64_t *answer, size_t answer_len);
 
-/* Writes the reply to bulkGet where `values`, or to bulkGetKeys, at the front of `out`: 16, then 12. Given for each entry: start and length of its key, start
+/* Writes the reply to bulkGet where `values`, or to bulkGetKeys, of this version at the front of `out`: 16, then 12. Given for each entry: start and length of its key, start
    and length of its value in `bytes`. Of a part that does not lie within the bytes, as many are sent as there are. More than FQ_TABLE_KEYS entries are 16,
    and so is a value that is not sent and not empty. */
 uint64_t fq_write_entries(uint8_t *out, size_t out_len, uint8_t version, uint64_t id, bool values, const uint8_t *bytes, size_t bytes_len, const uint64_t *numbers,

@@ -82,7 +82,7 @@ def first_calls(bench):
     stays = entry_line(7, b'b2', b'Bo', late + 1000) + entry_line(9, b'b3')
     some = head_line(9) + entry_line(3, b'k', b'Ida', late) + entry_line(4, b'b4', b'', 1) + stays
     full = head_line(128) + b''.join(entry_line(at + 1, b'%d' % at, b'v', late - at) for at in range(128))
-    calls = [(some, frame(operation, entry_version=3, version=12, flags=flag)) for operation in OPERATIONS for flag in (0, 1)]
+    calls = [(some, frame(operation, entry_version=3, version=version, flags=flag)) for operation in OPERATIONS for version in (12, 20) for flag in (0, 1)]
     calls += [(full, frame(PUT)), (full, frame(GET, key=b'5')), (some, frame(PING, name=b'none'))]
     for table, one in calls:
         (reply,), left = reference([one], table, late)

@@ -10,14 +10,14 @@ import time
 
 from board_frames import (BULK_GET, BULK_GET_KEYS, CLEAR, CONTAINS_KEY, GET, GET_WITH_VERSION, LARGEST_DEADLINE, PING, PUT, PUT_IF_ABSENT, REMOVE, REMOVE_IF_UNMODIFIED, REPLACE,
                           REPLACE_IF_UNMODIFIED, STATS, entry_line, frame, head_line)
-from host_run import BOARD, Bench, HOST, Host, SECONDS, TOP, demand, read_file, run_part, until, write_file
+from host_run import BOARD, Bench, HOST, Host, REFERENCE, SECONDS, TOP, demand, read_file, run_part, until, write_file
 
 CONTROL, BYTES = b'a\nb', b'\xff\x00'.replace(b'\x00', b'\x80')
 # Words, what is printed, and the status.
 TALK = [('ping', 'the server answers', 0), ('put b1 Ida --lifespan 100', 'stored', 0), ('get b1', 'Ida', 0), ('getwithversion b1', 'version 1: Ida', 0),
         ('get b2', 'there is no such key', 2), ('getwithversion b2', 'there is no such key', 2), ('contains b1', 'yes', 0), ('contains b2', 'no', 2),
         ('put b1 Bo --previous --max-idle 5', 'stored; before: Ida', 0), ('put b2 x --previous', 'stored', 0), ('putifabsent b1 x', 'not stored: the key is there', 2),
-        ('putifabsent b1 x --previous', 'not stored: the key is there; before: Bo', 2), ('putifabsent b3 x --previous', 'stored', 0),
+        ('putifabsent b1 x --previous', 'not stored: the key is there; held: Bo', 2), ('putifabsent b3 x --previous', 'stored', 0),
         ('replace b9 x', 'not stored: there is no such key', 2), ('replace b3 y --previous', 'stored; before: x', 0),
         ('replaceifunmodified b3 z --version 1', 'not stored: the entry has another version', 2),
         ('replaceifunmodified b3 z --version 5 --previous', 'stored; before: y', 0), ('replaceifunmodified b9 z --version 5', 'not stored: there is no such key', 2),
@@ -30,6 +30,7 @@ WRONG = [('nothing b1', 'there is no command'), ('get', 'is followed by KEY'), (
          ('put a b --lifespan 4294967296', 'has to be a number from 0 to 4294967295'), ('put a b --lifespan -1', 'has to be a number'), ('put a b --lifespan +5', 'has to be a number'), ('put a b --lifespan ', 'needs a value'),
          ('removeifunmodified a', 'needs --version N'), ('put ' + 'k' * 65 + ' v', 'refused 16'), ('put k ' + 'v' * 257, 'refused 16'),
          ('list x', 'is followed by no words'), ('keys --count 1', 'no option --count'), ('list --count 4294967296', 'has to be a number'),
+         ('keys --protocol 11', 'keys needs --protocol 12 or 20'), ('ping --protocol 13', '--protocol has to be 10, 11, 12 or 20'), ('ping --protocol 020', '--protocol has to be'), ('encode keys --protocol 10', 'keys needs --protocol'),
          ('show', 'is followed by TABLE'), ('show /nowhere', 'there is no table /nowhere'), ('show /dev/null', 'is not a file'), ('encode get', 'is followed by KEY'), ('decode', 'is followed by REQUESTS'), ('decode /nowhere', "can't open /nowhere"),
          ('decode -', "can't both be standard input"), ('decode - -', "can't both be standard input"), ('encode', 'a command is missing'), ('encode put', 'is followed by KEY VALUE'),
          (b'\xff b1', 'there is no command'), (b'encode \xff', 'there is no command'), ('serve', 'is followed by TABLE'), ('serve table --what', 'no option --what'),
@@ -81,6 +82,30 @@ removes that did not: 2
 '''
 
 
+# Words for a key of their own, what is printed in versions 10 to 12, and what in 20, whose status says whether a value follows.
+OLD = [(('putifabsent', 'a', '--previous'), 'stored', 'stored'), (('put', 'b', '--previous'), 'stored; before: a', 'stored; before: a'), (('put', 'b'), 'stored', 'stored'),
+       (('putifabsent', 'c', '--previous'), 'not stored: the key is there; held: b', 'not stored: the key is there; held: b'), (('putifabsent', 'c'), 'not stored: the key is there', 'not stored: the key is there'),
+       (('replaceifunmodified', 'c', '--version', '0', '--previous'), 'not stored: the entry has another version', 'not stored: the entry has another version; held: b'),
+       (('removeifunmodified', '--version', '0', '--previous'), 'not removed: the entry has another version', 'not removed: the entry has another version; held: b'),
+       (('replace', '', '--previous'), 'stored; before: b', 'stored; before: b'), (('replace', 'd', '--previous'), 'stored', 'stored; before: (empty)'),
+       (('remove', '--previous'), 'removed; before: d', 'removed; before: d'), (('remove', '--previous'), 'there is no such key', 'there is no such key'),
+       (('replace', 'e', '--previous'), 'not stored: there is no such key', 'not stored: there is no such key'), (('get',), 'there is no such key', 'there is no such key')]
+
+
+def protocols(bench):
+    """The same words in each version of the protocol."""
+    with Host(bench.table('protocols')) as host:
+        for protocol in ('10', '11', '12', '20'):
+            for words, early, late in OLD:
+                done = run([words[0], f'k{protocol}', *words[1:], '--protocol', protocol, '--to', f'127.0.0.1:{host.port}'])
+                wanted = late if protocol == '20' else early
+                status = 2 if wanted.startswith(('not', 'there')) else 0
+                demand((done.stdout.decode(), done.returncode, done.stderr) == (wanted + '\n', status, b''), f'{" ".join(words)} in version {protocol}', f'{done}, wanted {wanted!r}')
+        done = run(['keys', '--protocol', '12', '--to', f'127.0.0.1:{host.port}'])
+        demand(done.stdout == b'there are no entries\n', 'keys in version 12', f'{done}')
+    return 4 * len(OLD) + 1
+
+
 def statistics(bench):
     """The nine statistics of a few calls, a line each."""
     with Host(bench.table('statistics')) as host:
@@ -114,14 +139,17 @@ def strange_servers():
     return len(answers)
 
 
-ENCODED = [('put b1 Ida --lifespan 100 --max-idle 7', frame(PUT, key=b'b1', value=b'Ida', lifespan=100, idle=7, version=12)),
-           ('get b1', frame(GET, key=b'b1', version=12)), ('putifabsent b1 x --previous', frame(PUT_IF_ABSENT, key=b'b1', value=b'x', flags=1, version=12)),
-           ('replace b1 x', frame(REPLACE, key=b'b1', value=b'x', version=12)), ('remove b1', frame(REMOVE, key=b'b1', version=12)),
-           ('replaceifunmodified b1 x --version 300', frame(REPLACE_IF_UNMODIFIED, key=b'b1', value=b'x', entry_version=300, version=12)),
-           ('removeifunmodified b1 --version 18446744073709551615', frame(REMOVE_IF_UNMODIFIED, key=b'b1', entry_version=2 ** 64 - 1, version=12)),
-           ('contains b1', frame(CONTAINS_KEY, key=b'b1', version=12)), ('getwithversion b1', frame(GET_WITH_VERSION, key=b'b1', version=12)),
-           ('list', frame(BULK_GET, version=12)), ('list --count 300', frame(BULK_GET, bulk=300, version=12)), ('keys', frame(BULK_GET_KEYS, version=12)),
-           ('clear', frame(CLEAR, version=12)), ('stats', frame(STATS, version=12)), ('ping', frame(PING, version=12))]
+ENCODED = [('put b1 Ida --lifespan 100 --max-idle 7', frame(PUT, key=b'b1', value=b'Ida', lifespan=100, idle=7, version=20)),
+           ('get b1', frame(GET, key=b'b1', version=20)), ('putifabsent b1 x --previous', frame(PUT_IF_ABSENT, key=b'b1', value=b'x', flags=1, version=20)),
+           ('replace b1 x', frame(REPLACE, key=b'b1', value=b'x', version=20)), ('remove b1', frame(REMOVE, key=b'b1', version=20)),
+           ('replaceifunmodified b1 x --version 300', frame(REPLACE_IF_UNMODIFIED, key=b'b1', value=b'x', entry_version=300, version=20)),
+           ('removeifunmodified b1 --version 18446744073709551615', frame(REMOVE_IF_UNMODIFIED, key=b'b1', entry_version=2 ** 64 - 1, version=20)),
+           ('contains b1', frame(CONTAINS_KEY, key=b'b1', version=20)), ('getwithversion b1', frame(GET_WITH_VERSION, key=b'b1', version=20)),
+           ('list', frame(BULK_GET, version=20)), ('list --count 300', frame(BULK_GET, bulk=300, version=20)), ('keys', frame(BULK_GET_KEYS, version=20)),
+           ('clear', frame(CLEAR, version=20)), ('stats', frame(STATS, version=20)), ('ping', frame(PING, version=20)),
+           ('put b1 Ida --lifespan 100 --protocol 10', frame(PUT, key=b'b1', value=b'Ida', lifespan=100, version=10)), ('remove b1 --previous --protocol 11', frame(REMOVE, key=b'b1', flags=1, version=11)),
+           ('replace b1 x --protocol 12 --previous', frame(REPLACE, key=b'b1', value=b'x', flags=1, version=12)), ('keys --protocol 12', frame(BULK_GET_KEYS, version=12)),
+           ('get b1 --protocol 20', frame(GET, key=b'b1', version=20))]
 DECODED = '''ping: the server answers
 put b1: stored
 getwithversion b1: version 1: Ida
@@ -141,10 +169,13 @@ def lines(bench):
     demand((done.stdout.decode(), done.returncode) == (DECODED, 0), 'decode', f'{done}')
     write_file(requests, b''.join(run(['encode', *words.split()]).stdout for words, _ in ENCODED) + b'no line\n00000000 a0\n')
     replies = subprocess.run([BOARD, 'serve', requests], capture_output=True, check=True).stdout
+    others = subprocess.run([REFERENCE, 'serve', requests], capture_output=True, check=True).stdout
+    demand(others == replies, 'encode', f'the second program answers {others!r}')
     done = run(['decode', requests], input=replies)
     said = done.stdout.decode().splitlines()
-    demand(said[1] == 'get b1: Ida' and said[2] == 'putifabsent b1: not stored: the key is there; before: Ida', 'decode', f'{done}')
-    demand(said[-2:] == ['?: refused 14: not a request line', '?: refused 15: not exactly one request'] and len(said) == 17, 'decode', f'{done}')
+    demand(said[1] == 'get b1: Ida' and said[2] == 'putifabsent b1: not stored: the key is there; held: Ida', 'decode', f'{done}')
+    demand(said[-2:] == ['?: refused 14: not a request line', '?: refused 15: not exactly one request'] and len(said) == len(ENCODED) + 2, 'decode', f'{done}')
+    demand(said[15:18] == ['put b1: stored', 'remove b1: removed; before: Ida', 'replace b1: not stored: there is no such key'], 'decode', f'{done}')
     demand(said[9:12] == ['list: there are no entries', 'list 300: there are no entries', 'keys: there are no entries'], 'decode', f'{done}')
     demand(re.match(r'stats: seconds since the first call: \d+; entries: 0; keys added: 1; puts: 1; gets: 1; ', said[13]), 'decode', f'{done}')
     for change in (replies[:replies.rindex(b'\n', 0, -1) + 1], replies + b'a101180000\n'):
@@ -341,7 +372,7 @@ def helps(bench):
                 for option, value in options:
                     done = run([name, option])
                     demand((f'{option} needs a value' in done.stderr.decode()) == bool(value) and b'there is no option' not in done.stderr or name == 'encode', f'{name} {option}', f'{done}')
-                others = {'--lifespan', '--version', '--previous', '--count', '--to', '--second', '--listen', '--idle'} - {one for one, _ in options}
+                others = {'--lifespan', '--version', '--previous', '--count', '--protocol', '--to', '--second', '--listen', '--idle'} - {one for one, _ in options}
                 for option in others if name != 'encode' else ():
                     demand(b'there is no option' in run([name, option, '1']).stderr, f'{name} {option}', 'it is taken, and the help does not list it')
     return 2 * len(parts)
@@ -349,7 +380,7 @@ def helps(bench):
 
 def part():
     with Bench() as bench:
-        return f'{talk(bench) + statistics(bench)} commands, {strange_servers()} strange servers, {lines(bench)} lines, {show(bench)} tables shown, {address(bench)} without an address, {outputs()} outputs, {helps(bench)} of the help, {at_once(bench)} on a fresh clone, {script(bench)} of the script'
+        return f'{talk(bench) + protocols(bench) + statistics(bench)} commands, {strange_servers()} strange servers, {lines(bench)} lines, {show(bench)} tables shown, {address(bench)} without an address, {outputs()} outputs, {helps(bench)} of the help, {at_once(bench)} on a fresh clone, {script(bench)} of the script'
 
 
 if __name__ == '__main__':

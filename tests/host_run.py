@@ -186,9 +186,9 @@ class Caller:
         self.socket.settimeout(SECONDS)
         demand(more is None and not self.bytes, case, f'{short(more)} came')
 
-    def reply(self, operation, flags=0, case='a reply'):
-        """Reads the reply to a request with this operation and these flags."""
-        while (found := read_reply(self.bytes, operation, flags & 1)) is None:
+    def reply(self, operation, flags=0, case='a reply', version=10):
+        """Reads the reply to a request with this operation, these flags and this version."""
+        while (found := read_reply(self.bytes, operation, flags & 1, version)) is None:
             more = self.socket.recv(65536)
             demand(more, case, f'closed behind {short(self.bytes)}')
             self.bytes += more
@@ -198,7 +198,7 @@ class Caller:
     def call(self, operation, **fields):
         """Sends a request and reads its reply."""
         self.send(frame(operation, **fields))
-        return self.reply(operation, fields.get('flags', 0))
+        return self.reply(operation, fields.get('flags', 0), version=fields.get('version', 10))
 
 
 class Reply:
@@ -246,8 +246,8 @@ def read_entries(data, at, values):
 WITH_OLD = (PUT, PUT_IF_ABSENT, REPLACE, REPLACE_IF_UNMODIFIED, REMOVE, REMOVE_IF_UNMODIFIED)
 
 
-def read_reply(data, operation, flag):
-    """The reply at the front of the bytes, or nothing where it is not whole."""
+def read_reply(data, operation, flag, version):
+    """The reply at the front of the bytes, or nothing where it is not whole. In version 20 an old value is behind the statuses 3 and 4 alone."""
     reply = Reply()
     found = read_number(data, 1)
     if found is None or found[1] + 3 > len(data):
@@ -256,7 +256,7 @@ def read_reply(data, operation, flag):
     reply.operation, reply.status, marker = data[at:at + 3]
     demand(data[0] == 0xa1 and marker == 0 and reply.operation in (operation + 1, 0x50), 'a reply', f'{short(data)} to operation {operation:02x}')
     at += 3
-    has_value = operation in (GET, GET_WITH_VERSION) and reply.status == 0 or operation in WITH_OLD and flag
+    has_value = operation in (GET, GET_WITH_VERSION) and reply.status == 0 or operation in WITH_OLD and (reply.status in (3, 4) if version == 20 else flag)
     if reply.operation == 0x50:
         found = read_sized(data, at)
     elif operation in (BULK_GET, BULK_GET_KEYS):

@@ -1,5 +1,5 @@
 /* instructions KIND COUNT: serves COUNT requests of a kind from a table of 128 entries with keys of 32 bytes, 24 of them the same, and values of 256
-   bytes, a thousand in a stream. It measures nothing: tests/instructions counts what it takes for another COUNT. A refusal ends it with status 1. */
+   bytes, a thousand in a stream, in version 12, or in 20 where the kind ends so. It measures nothing: tests/instructions counts what it takes for another COUNT. A refusal ends it with status 1. */
 #include <stdio.h>
 #include <stdlib.h>
 #include <string.h>
@@ -9,6 +9,8 @@
 enum { KEYS = 128, KEY = 32, VALUE = 256, ROOM = 1 << 20, ROW = 1000 };
 
 static uint8_t table[FQ_TABLE_SIZE], reply[ROOM], request[FQ_LONGEST_REQUEST], row[ROW * FQ_LONGEST_REQUEST];
+
+static uint64_t version = 12, flags;
 
 static void fail(const char *what) {
     fprintf(stderr, "instructions: %s\n", what);
@@ -22,7 +24,7 @@ static size_t write_one(uint8_t *out, uint8_t op, int i, uint32_t lifespan) {
     snprintf((char *)key + 24, 9, "%08d", i % KEYS);
     memset(value, 'v', VALUE);
     bool keyed = op == 0x01 || op == 0x03;
-    uint64_t numbers[FQ_REQUEST_GIVEN] = {1, 12, op, 0, 1, 0, op == 0x01 ? lifespan : 0, 0, 0, 0};
+    uint64_t numbers[FQ_REQUEST_GIVEN] = {1, version, op, flags, 1, 0, op == 0x01 ? lifespan : 0, 0, 0, 0};
     uint64_t done = fq_write_request(out, FQ_LONGEST_REQUEST, numbers, FQ_REQUEST_GIVEN, key, 0, key, keyed ? KEY : 0, value, op == 0x01 ? VALUE : 0);
     if (done <= FQ_DONE) fail("a request is not written");
     return done - FQ_DONE;
@@ -41,7 +43,7 @@ static void serve(const uint8_t *input, size_t len, size_t calls, uint32_t secon
 }
 
 static uint8_t operation(const char *kind, int i) {
-    if (strcmp(kind, "put") == 0) return 0x01;
+    if (strncmp(kind, "put", 3) == 0 || strncmp(kind, "old", 3) == 0) return 0x01;
     if (strcmp(kind, "mix") == 0) return i % 10 == 9 ? 0x01 : 0x03;
     if (strcmp(kind, "stats") == 0) return 0x15;
     if (strcmp(kind, "bulkGet") == 0) return 0x19;
@@ -51,6 +53,8 @@ static uint8_t operation(const char *kind, int i) {
 int main(int count, char **words) {
     if (count != 3) fail("usage: instructions KIND COUNT");
     uint32_t lifespan = strcmp(words[1], "dated") == 0 ? 1000 : 0;
+    version = strstr(words[1], "20") ? 20 : 12;
+    flags = strncmp(words[1], "old", 3) == 0; /* a put that asks for the value before */
     if (fq_make(table, FQ_TABLE_SIZE) != FQ_DONE) fail("no table is made");
     for (int i = 0; i < KEYS; i++) serve(request, write_one(request, 0x01, i, lifespan), 1, 5);
     for (int from = 0, all = atoi(words[2]); from < all; from += ROW) {

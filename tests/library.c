@@ -139,6 +139,57 @@ static void messages(void) {
     SAME(fq_write_request(frame, sizeof frame, given, FQ_REQUEST_GIVEN - 1, name, 0, key, 0, value, 0), FQ_BAD_MESSAGE);
 }
 
+/* Version 20: a header without a transaction type, and replies whose status says whether an old value follows, by version, operation and flag. */
+static void version_20(void) {
+    static const uint8_t ida[] = {'I', 'd', 'a'}, none[1];
+    static const uint8_t put[] = {0xa0, 0x01, 0x14, 0x01, 0, 0x1f, 1, 0, 2, 'b', '1', 0, 0, 3, 'I', 'd', 'a'};
+    static const uint8_t stored_first[] = {0xa1, 0x01, 0x02, 0, 0}, stored_again[] = {0xa1, 0x01, 0x02, 3, 0, 3, 'I', 'd', 'a'}, unstored[] = {0xa1, 0x01, 0x06, 4, 0, 0};
+    const uint64_t given[FQ_REQUEST_GIVEN] = {1, 20, 1, 31, 1, 0, 0, 0, 0, 0}, flags_32[FQ_REQUEST_GIVEN] = {1, 20, 1, 32, 1, 0, 0, 0, 0, 0};
+    const uint64_t version_21[FQ_REQUEST_GIVEN] = {1, 21, 1, 0, 1, 0, 0, 0, 0, 0};
+    /* For each operation the statuses that it can give with the flag, a bit each. */
+    static const struct {
+        uint8_t op, statuses;
+    } with_flag[] = {{0x01, 0x09}, {0x05, 0x11}, {0x07, 0x0a}, {0x09, 0x1c}, {0x0b, 0x0c}, {0x0d, 0x1c}, {0x03, 0x05}, {0x0f, 0x05}, {0x17, 0x01}};
+    uint8_t frame[FQ_LONGEST_REQUEST], later[sizeof put];
+    SAME(fq_write_request(frame, sizeof frame, given, FQ_REQUEST_GIVEN, none, 0, (const uint8_t *)"b1", 2, ida, 3), FQ_DONE + sizeof put);
+    same_bytes(__LINE__, frame, sizeof put, put, sizeof put);
+    SAME(fq_read_request(put, sizeof put - 1, answer, FQ_REQUEST_TOLD), 0);
+    SAME(fq_read_request(put, sizeof put, answer, FQ_REQUEST_TOLD), FQ_DONE + sizeof put);
+    same_bytes(__LINE__, answer + 1, sizeof given, given, sizeof given);
+    SAME(fq_write_request(frame, sizeof frame, flags_32, FQ_REQUEST_GIVEN, none, 0, none, 0, none, 0), FQ_BAD_MESSAGE);
+    SAME(fq_write_request(frame, sizeof frame, version_21, FQ_REQUEST_GIVEN, none, 0, none, 0, none, 0), FQ_BAD_MESSAGE);
+    memcpy(later, put, sizeof put);
+    later[2] = 21;
+    SAME(fq_read_request(later, sizeof later, answer, FQ_REQUEST_TOLD), FQ_BAD_VERSION);
+    SAME(fq_make(other, sizeof other), FQ_DONE);
+    SAME(fq_serve(put, sizeof put, other, sizeof other, 1, reply, FQ_REPLY_ROOM, answer, FQ_SERVE_TOLD), FQ_DONE);
+    same_bytes(__LINE__, reply, answer[1], stored_first, sizeof stored_first);
+    SAME(fq_serve(put, sizeof put, other, sizeof other, 1, reply, FQ_REPLY_ROOM, answer, FQ_SERVE_TOLD), FQ_DONE);
+    same_bytes(__LINE__, reply, answer[1], stored_again, sizeof stored_again);
+    for (size_t at = 0; at < sizeof with_flag / sizeof with_flag[0]; at++) {
+        for (uint8_t status = 0; status < 8; status++) {
+            const uint8_t op = with_flag[at].op, empty[] = {0xa1, 0x01, (uint8_t)(op + 1), status, 0, 0};
+            const uint64_t numbers[FQ_REPLY_GIVEN] = {1, op + 1u, status, 0};
+            bool can = with_flag[at].statuses >> status & 1, has_value = status == 3 || status == 4 || (op == 0x03 && status == 0);
+            uint64_t size = has_value ? 6 : 5;
+            SAME(fq_read_reply(empty, sizeof empty, 20, op, true, answer, FQ_REPLY_TOLD), can ? FQ_DONE + size : FQ_BAD_FIELD);
+            SAME(fq_write_reply(frame, sizeof frame, 20, op, true, numbers, FQ_REPLY_GIVEN, none, 0, none, 0), can ? FQ_DONE + size : FQ_BAD_MESSAGE);
+            if (can) same_bytes(__LINE__, frame, size, empty, size);
+            SAME(fq_write_reply(frame, sizeof frame, 20, op, true, numbers, FQ_REPLY_GIVEN, ida, 3, none, 0), can && has_value ? FQ_DONE + 9 : FQ_BAD_MESSAGE);
+            /* Without the flag, and in an earlier version, neither 03 nor 04 comes. */
+            if (status > 2) SAME(fq_read_reply(empty, sizeof empty, 20, op, false, answer, FQ_REPLY_TOLD), FQ_BAD_FIELD);
+            if (status > 2) SAME(fq_read_reply(empty, sizeof empty, 12, op, true, answer, FQ_REPLY_TOLD), FQ_BAD_FIELD);
+        }
+    }
+    SAME(fq_read_reply(unstored, sizeof unstored, 20, 0x05, true, answer, FQ_REPLY_TOLD), FQ_DONE + sizeof unstored);
+    SAME(fq_read_reply(none, 0, 13, 0x02, true, answer, FQ_REPLY_TOLD), FQ_BAD_VERSION);
+    SAME(fq_read_reply(none, 0, 11, 0x1d, false, answer, FQ_REPLY_TOLD), FQ_BAD_COMMAND);
+    SAME(fq_read_reply(none, 0, 20, 0x1d, false, answer, FQ_REPLY_TOLD), 0);
+    SAME(fq_write_statistics(frame, sizeof frame, 13, 1, given, FQ_STATISTICS_GIVEN), FQ_BAD_MESSAGE);
+    SAME(fq_write_entries(frame, sizeof frame, 11, 1, false, none, 0, given, 0), FQ_BAD_MESSAGE);
+    SAME(fq_write_entries(frame, sizeof frame, 20, 1, false, none, 0, given, 0), FQ_DONE + 6);
+}
+
 /* The longest stats reply, and one with other numbers. */
 static void statistics(void) {
     static const uint8_t none[1];
@@ -368,6 +419,7 @@ int main(int count, char **words) {
     by_lines(1);
     by_file();
     messages();
+    version_20();
     keys();
     statistics();
     entries();
@@ -375,7 +427,7 @@ int main(int count, char **words) {
     expiry();
     short_lists();
     longest_file();
-    printf("library: the paper's five requests from C, by calls, by lines and by a file; messages, keys, entries, streams, an entry that expires, lists that are "
+    printf("library: the paper's five requests from C, by calls, by lines and by a file; messages, version 20, keys, entries, streams, an entry that expires, lists that are "
            "too short, the longest file and the longest reply\n");
     return 0;
 }

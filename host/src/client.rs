@@ -4,11 +4,11 @@ use std::io::{self, Read, Write};
 use std::net::{SocketAddr, TcpStream, ToSocketAddrs};
 use std::time::Duration;
 
-use crate::border::library::{read_reply, Found, Reply};
+use crate::border::library::{read_reply, Asked, Found, Reply};
 use crate::command::{Command, ERROR, ID};
 use crate::failure::{because, Failure};
 use crate::limits::LONGEST_BULK;
-use crate::words::{of_reply, Asked, Went};
+use crate::words::{of_reply, Went};
 
 /// How long the server may take for each step.
 const PATIENCE: Duration = Duration::from_secs(10);
@@ -61,12 +61,7 @@ fn is_awaited(reply: &Reply) -> bool {
 pub fn receive(stream: &mut TcpStream, asked: Asked, bytes: &mut [u8]) -> Result<Reply, Failure> {
     let mut held = 0;
     loop {
-        match read_reply(
-            &bytes[..held],
-            asked.version,
-            asked.operation,
-            asked.previous,
-        ) {
+        match read_reply(&bytes[..held], asked) {
             Found::Whole(reply) if is_awaited(&reply) => return Ok(reply),
             Found::Whole(_) => return Err("the reply is to another request".to_string()),
             Found::Refused(number) => {

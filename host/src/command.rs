@@ -4,11 +4,11 @@
 use std::ffi::OsString;
 use std::os::unix::ffi::OsStringExt;
 
-use crate::border::library::write_request;
+use crate::border::library::{write_request, Asked};
 use crate::failure::Failure;
 use crate::limits::{KEY_LIMIT, LONGEST_REQUEST, VALUE_LIMIT};
 use crate::options::Words;
-use crate::words::{shown, Asked};
+use crate::words::shown;
 
 pub const PUT: u8 = 0x01;
 pub const GET: u8 = 0x03;
@@ -94,6 +94,11 @@ impl Operation {
         matches!(self.told, Told::KeyAndVersion | Told::KeyVersionAndValue)
     }
 
+    /// Whether a protocol version has it.
+    fn is_in(&self, protocol: u8) -> bool {
+        self.code != BULK_GET_KEYS || protocol >= 12
+    }
+
     /// Whether it changes an entry, whose value before can be asked for.
     fn has_previous(&self) -> bool {
         self.sends_value() || matches!(self.code, REMOVE | REMOVE_IF_UNMODIFIED)
@@ -101,7 +106,7 @@ impl Operation {
 
     /// The options that have a value.
     fn options(&self) -> Vec<&'static str> {
-        let mut options = Vec::new();
+        let mut options = vec!["protocol"];
         if self.sends_value() {
             options.extend(["lifespan", "max-idle"]);
         }
@@ -115,8 +120,10 @@ impl Operation {
     }
 }
 
-/// The protocol version in which requests are written: 1.2.
-pub const PROTOCOL: u8 = 12;
+/// The protocol versions in which requests can be written.
+const PROTOCOLS: [u8; 4] = [10, 11, 12, 20];
+/// The one in which they are written where none is told: 2.0.
+pub const PROTOCOL: u8 = 20;
 /// A client that knows of no cluster.
 const BASIC: u64 = 1;
 /// The message id of the one request that is sent.
@@ -124,6 +131,7 @@ pub const ID: u64 = 1;
 
 /// A request to be written.
 pub struct Command {
+    protocol: u8,
     pub operation: &'static Operation,
     /// Whether the value before is asked for.
     pub previous: bool,
@@ -161,6 +169,7 @@ impl Command {
         }
         let small = || 0..=u64::from(u32::MAX);
         let command = Command {
+            protocol: protocol(operation, &words)?,
             operation,
             previous: words.has("previous"),
             key,
@@ -176,6 +185,7 @@ impl Command {
     /// Asks for all entries.
     pub fn list() -> Command {
         Command {
+            protocol: PROTOCOL,
             operation: &LIST,
             previous: false,
             key: Vec::new(),
@@ -190,7 +200,7 @@ impl Command {
     /// What a reply to it has to be read as.
     pub fn asked(&self) -> Asked {
         Asked {
-            version: PROTOCOL,
+            version: self.protocol,
             operation: self.operation.code,
             previous: self.previous,
         }
@@ -201,7 +211,7 @@ impl Command {
         let mut out = vec![0; LONGEST_REQUEST];
         let numbers = [
             ID,
-            u64::from(PROTOCOL),
+            u64::from(self.protocol),
             u64::from(self.operation.code),
             u64::from(self.previous),
             BASIC,
@@ -220,6 +230,21 @@ impl Command {
         })?;
         out.truncate(size);
         Ok(out)
+    }
+}
+
+/// The protocol version that was told, which has to have the operation.
+fn protocol(operation: &Operation, words: &Words) -> Result<u8, Failure> {
+    let Some(text) = words.text("protocol")? else {
+        return Ok(PROTOCOL);
+    };
+    let protocol = PROTOCOLS
+        .into_iter()
+        .find(|one| one.to_string() == text)
+        .ok_or("--protocol has to be 10, 11, 12 or 20")?;
+    match operation.is_in(protocol) {
+        true => Ok(protocol),
+        false => Err(format!("{} needs --protocol 12 or 20", operation.word)),
     }
 }
 

@@ -4,12 +4,12 @@ use std::ffi::OsString;
 use std::fs::File;
 use std::io::{self, BufRead, BufReader, Write};
 
-use crate::border::library::{read_reply, read_request, Found};
+use crate::border::library::{read_reply, read_request, Asked, Found};
 use crate::command::{Command, Operation, PING, PROTOCOL};
 use crate::failure::{because, Failure};
 use crate::hex::{from_digits, to_digits};
 use crate::server::second;
-use crate::words::{of_reply, shown, Asked};
+use crate::words::{of_reply, shown};
 
 /// `encode COMMAND ..`: the request line of a command.
 pub fn encode(given: &[OsString]) -> Result<String, Failure> {
@@ -73,7 +73,7 @@ fn reply_in_words(digits: &[u8], asked: Asked) -> String {
     let Some(bytes) = from_digits(digits) else {
         return "not a reply line".to_string();
     };
-    match read_reply(&bytes, asked.version, asked.operation, asked.previous) {
+    match read_reply(&bytes, asked) {
         Found::Whole(reply) if reply.size == bytes.len() => {
             of_reply(asked, &reply, &bytes).1.replace('\n', "; ")
         }

@@ -78,8 +78,7 @@ fn list(mut table: Table) -> Result<(Reply, Vec<u8>), Failure> {
         .next()
         .expect("one connection is served");
     bytes.truncate(served.replied);
-    let asked = command.asked();
-    match read_reply(&bytes, asked.version, asked.operation, asked.previous) {
+    match read_reply(&bytes, command.asked()) {
         Found::Whole(reply) => Ok((reply, bytes)),
         _ => Err("the library gives no reply".to_string()),
     }

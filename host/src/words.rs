@@ -1,6 +1,6 @@
 //! Replies in words for people.
 
-use crate::border::library::{entries, Entry, Reply};
+use crate::border::library::{entries, Asked, Entry, Reply};
 use crate::command::{
     BULK_GET, BULK_GET_KEYS, CLEAR, CONTAINS_KEY, ERROR, GET, GET_WITH_VERSION, PING,
     PUT_IF_ABSENT, REMOVE, REMOVE_IF_UNMODIFIED, REPLACE, STATS,
@@ -17,15 +17,6 @@ pub enum Went {
     No,
     /// An error reply.
     Failed,
-}
-
-/// What was asked: the version and the operation, and whether with the value
-/// before.
-#[derive(Clone, Copy)]
-pub struct Asked {
-    pub version: u8,
-    pub operation: u8,
-    pub previous: bool,
 }
 
 /// Bytes for people: text as it is; what is no text, or has characters that a
@@ -46,12 +37,12 @@ pub fn of_reply(asked: Asked, reply: &Reply, bytes: &[u8]) -> (Went, String) {
         return (Went::Failed, words);
     }
     let value = &bytes[reply.value.clone()];
-    let went = if reply.status == 0 {
-        Went::Done
-    } else {
-        Went::No
+    let (went, status) = match reply.status {
+        0 | DONE_WITH_VALUE => (Went::Done, 0),
+        NO_WITH_VALUE => (Went::No, 1),
+        status => (Went::No, status),
     };
-    let mut words = match (asked.operation, reply.status) {
+    let mut words = match (asked.operation, status) {
         (GET, 0) => shown(value),
         (STATS, _) => of_statistics(&reply.statistics),
         (BULK_GET, _) => lines(entries(bytes, reply, true), of_entry),
@@ -59,11 +50,26 @@ pub fn of_reply(asked: Asked, reply: &Reply, bytes: &[u8]) -> (Went, String) {
         (GET_WITH_VERSION, 0) => format!("version {}: {}", reply.entry_version, shown(value)),
         (operation, status) => outcome(operation, status).to_string(),
     };
-    let held = reply.status == 0 || asked.operation == PUT_IF_ABSENT;
-    if asked.previous && held && !value.is_empty() {
-        words.push_str(&format!("; before: {}", shown(value)));
+    if has_previous(asked, reply.status, value) {
+        let when = if status == 0 { "before" } else { "held" };
+        words.push_str(&format!("; {when}: {}", shown(value)));
     }
     (went, words)
+}
+
+/// The statuses of version 20 that say that a value follows: done, with the
+/// value before; and not done, with the value held.
+const DONE_WITH_VALUE: u8 = 3;
+const NO_WITH_VALUE: u8 = 4;
+
+/// Whether a reply of this status tells a value that the call found. In
+/// versions before 20 an empty one may mean that there was none.
+fn has_previous(asked: Asked, status: u8, value: &[u8]) -> bool {
+    match status {
+        DONE_WITH_VALUE | NO_WITH_VALUE => true,
+        0 => asked.previous && !value.is_empty(),
+        _ => asked.previous && asked.operation == PUT_IF_ABSENT && !value.is_empty(),
+    }
 }
 
 /// The entries, one a line.

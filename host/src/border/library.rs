@@ -129,18 +129,26 @@ pub fn read_request(input: &[u8]) -> Found<Request> {
     }
 }
 
-/// Reads the reply at the front of the input, to a request of this version and
-/// operation, with or without the flag for the value before.
-pub fn read_reply(input: &[u8], version: u8, operation: u8, flag: bool) -> Found<Reply> {
+/// What was asked, by which the reply is read: the protocol version and the
+/// operation, and whether with the value before.
+#[derive(Clone, Copy)]
+pub struct Asked {
+    pub version: u8,
+    pub operation: u8,
+    pub previous: bool,
+}
+
+/// Reads the reply at the front of the input, to what was asked.
+pub fn read_reply(input: &[u8], asked: Asked) -> Found<Reply> {
     let mut told = [0; REPLY_TOLD];
     // SAFETY: both slices are lent for the call, with their lengths.
     let code = unsafe {
         fq_read_reply(
             input.as_ptr(),
             input.len(),
-            version,
-            operation,
-            flag,
+            asked.version,
+            asked.operation,
+            asked.previous,
             told.as_mut_ptr(),
             told.len(),
         )

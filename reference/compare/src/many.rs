@@ -164,47 +164,58 @@ fn made<S: ServesMany>(
     turn: &Turn,
     before: &Lent,
 ) -> Result<Vec<StreamAnswer>, Difference> {
-    let lent = Lent::random(&mut trial.chance, turn.room);
-    let mut expected = lent.clone();
-    let old = world.table.clone();
-    let answer = serve_many(
-        &turn.row,
-        &turn.ends,
-        &mut world.table,
-        turn.second,
-        expected.slice_mut(),
-    );
+    let mut reply = Lent::random(&mut trial.chance, turn.room);
+    let mut expected = reply.clone();
+    let answer = by_reference(turn, &mut world.table, expected.slice_mut());
     let needed = SHARE_WORDS * turn.ends.len();
     if needed > 0 && trial.chance.one_in(8) {
         let few = Words::new(trial.chance.pick(&[0, needed - 1, needed / 2]));
         too_short(trial, world, turn, few, before)?;
     }
     let mut words = Words::enough(&mut trial.chance, needed);
-    let mut reply = lent;
     let code = called(trial, &mut world.memory, turn, &mut reply, &mut words)?;
     reply.same("the reply buffer, with a margin on both sides", &expected)?;
     match answer {
         Err(refusal) => {
             same("the return code", refusal_code(refusal), code)?;
             words.kept_behind(0)?;
-            world
-                .memory
-                .same("a refused call changes the memory", before)?;
+            let what = "a refused call changes the memory";
+            world.memory.same(what, before)?;
             Ok(Vec::new())
         }
         Ok(answers) => {
             same("the return code", GOOD, code)?;
-            let calls: usize = answers.iter().map(|answer| answer.answered).sum();
-            trial.counts.served += calls as u64;
             words.are(&words_of(&answers))?;
-            state_is(trial, world, before)?;
-            if old == world.table && answers.iter().all(|answer| answer.taken == 0) {
-                let what = "the table's memory is changed where nothing is taken";
-                world.memory.same(what, before)?;
-            }
+            left(trial, world, &answers, before)?;
             Ok(answers)
         }
     }
+}
+
+fn by_reference(
+    turn: &Turn,
+    table: &mut Table,
+    replies: &mut [u8],
+) -> Result<Vec<StreamAnswer>, NotServed> {
+    serve_many(&turn.row, &turn.ends, table, turn.second, replies)
+}
+
+/// The memory stands for the reference's table; where nothing is taken every
+/// byte of it is as it was.
+fn left<S: ServesMany>(
+    trial: &mut Trial<S>,
+    world: &World,
+    answers: &[StreamAnswer],
+    before: &Lent,
+) -> Outcome {
+    let calls: usize = answers.iter().map(|answer| answer.answered).sum();
+    trial.counts.served += calls as u64;
+    state_is(trial, world, before)?;
+    if answers.iter().all(|answer| answer.taken == 0) {
+        let what = "the table's memory is changed where nothing is taken";
+        return world.memory.same(what, before);
+    }
+    Ok(())
 }
 
 /// The call itself: input and ends stay as they are.
@@ -356,43 +367,39 @@ fn bulk_at_every_place<S: ServesMany>(trial: &mut Trial<S>) -> Outcome {
 
 /// Lists that are no ends, one of them wrong at each place.
 fn bad_ends<S: ServesMany>(trial: &mut Trial<S>) -> Outcome {
-    let mut world = World::any(&mut trial.chance);
+    let world = World::any(&mut trial.chance);
     let inputs = inputs(&mut trial.chance, &world, 4);
     let second = make::second_for(&mut trial.chance, &world.table);
     let good = turn(&inputs, second, AMPLE);
     let size = good.row.len() as u64;
-    for at in 0..good.ends.len() {
-        let near = good.ends[at];
-        for end in [
-            near + 1,
-            near.saturating_sub(1),
-            size + 1,
-            size,
-            0,
-            u64::MAX,
-            1 << 32,
-        ] {
+    for (at, near) in good.ends.iter().enumerate() {
+        let under = near.saturating_sub(1);
+        for end in [near + 1, under, size + 1, size, 0, u64::MAX, 1 << 32] {
             let mut turn = good.clone();
             turn.ends[at] = end;
             turn.room = trial.chance.pick(&[0, LEAST_ROOM - 1, LEAST_ROOM, AMPLE]);
             served(trial, &mut world.clone(), &turn)?;
-            let table = world.table.clone();
             damaged(trial, &turn)?;
-            hold(table == world.table, "the reference's table is changed")?;
         }
     }
-    // Ends and no input; no end at all.
+    no_ends(trial, &good)
+}
+
+/// Ends and no input; no end at all.
+fn no_ends<S: ServesMany>(trial: &mut Trial<S>, good: &Turn) -> Outcome {
+    let empty = Vec::new();
     for (row, ends) in [
-        (Vec::new(), vec![1]),
-        (Vec::new(), vec![0, 0]),
-        (good.row, Vec::new()),
+        (&empty, vec![1]),
+        (&empty, vec![0, 0]),
+        (&good.row, Vec::new()),
     ] {
         let turn = Turn {
-            row,
+            row: row.clone(),
             ends,
-            second,
             room: trial.chance.pick(&[LEAST_ROOM - 1, LEAST_ROOM]),
+            ..good.clone()
         };
+        let mut world = World::any(&mut trial.chance);
         served(trial, &mut world, &turn)?;
     }
     Ok(())
@@ -407,40 +414,32 @@ fn damaged<S: ServesMany>(trial: &mut Trial<S>, turn: &Turn) -> Outcome {
         return Ok(());
     }
     let before = world.memory.clone();
-    let lent = Lent::random(&mut trial.chance, turn.room);
+    refused(trial, &mut world.memory, turn).map_err(|found| {
+        found
+            .with("call", "fq_serve_many")
+            .with("damage", what)
+            .with("ends", format!("{:?}", turn.ends))
+            .with("room", turn.room)
+            .with("memory", memory::shown(before.slice()))
+    })
+}
+
+fn refused<S: ServesMany>(trial: &mut Trial<S>, memory: &mut Lent, turn: &Turn) -> Outcome {
+    let (before, lent) = (memory.clone(), Lent::random(&mut trial.chance, turn.room));
     let mut reply = lent.clone();
     let needed = SHARE_WORDS * turn.ends.len();
     let mut words = Words::about(&mut trial.chance, needed.max(1));
-    let short = words.slice().len() < needed;
-    let judged = serve_many(
-        &turn.row,
-        &turn.ends,
-        &mut Table::default(),
-        turn.second,
-        &mut vec![0; turn.room],
-    );
-    let expected = match judged {
-        _ if short => UNTOLD,
+    let mut room = vec![0; turn.room];
+    let expected = match by_reference(turn, &mut Table::default(), &mut room) {
+        _ if words.slice().len() < needed => UNTOLD,
         Err(refusal) => refusal_code(refusal),
         Ok(_) => 13,
     };
-    let code = called(trial, &mut world.memory, turn, &mut reply, &mut words)?;
-    same("the return code on memory that is no table", expected, code)
-        .and_then(|()| words.kept_behind(0))
-        .and_then(|()| reply.same("a refused call changes the reply buffer", &lent))
-        .and_then(|()| {
-            world
-                .memory
-                .same("a refused call changes the memory", &before)
-        })
-        .map_err(|found| {
-            found
-                .with("call", "fq_serve_many")
-                .with("damage", what)
-                .with("ends", format!("{:?}", turn.ends))
-                .with("room", turn.room)
-                .with("memory", memory::shown(before.slice()))
-        })
+    let code = called(trial, memory, turn, &mut reply, &mut words)?;
+    same("the return code on memory that is no table", expected, code)?;
+    words.kept_behind(0)?;
+    reply.same("a refused call changes the reply buffer", &lent)?;
+    memory.same("a refused call changes the memory", &before)
 }
 
 /// Good ends on memory that is no table, in every room.
@@ -468,16 +467,30 @@ fn streams_one_by_one<S: ServesMany>(trial: &mut Trial<S>) -> Outcome {
     }
     let second = make::second_for(&mut trial.chance, &world.table);
     let turn = turn(&inputs, second, AMPLE);
+    beside_streams(trial, &world, &inputs, &turn).map_err(|found| {
+        found
+            .with("call", "fq_serve_many beside fq_serve_stream")
+            .bytes("input", &turn.row)
+            .with("ends", format!("{:?}", turn.ends))
+    })
+}
+
+fn beside_streams<S: ServesMany>(
+    trial: &mut Trial<S>,
+    world: &World,
+    inputs: &[Vec<u8>],
+    turn: &Turn,
+) -> Outcome {
     let (mut memory, mut other) = (world.memory.clone(), world.memory.clone());
     let mut replies = Lent::random(&mut trial.chance, AMPLE);
     let mut expected = replies.clone();
     let (mut told, mut sent) = (Vec::new(), 0);
-    for input in &inputs {
+    for input in inputs {
         let mut words = Words::new(STREAM_WORDS);
         let code = trial.subject.serve_stream(
             input,
             other.slice_mut(),
-            second,
+            turn.second,
             &mut expected.slice_mut()[sent..],
             words.slice_mut(),
         );
@@ -486,15 +499,9 @@ fn streams_one_by_one<S: ServesMany>(trial: &mut Trial<S>) -> Outcome {
         sent += words.slice()[1] as usize;
     }
     let mut words = Words::new(SHARE_WORDS * inputs.len());
-    let code = called(trial, &mut memory, &turn, &mut replies, &mut words)?;
-    same("the return code", GOOD, code)
-        .and_then(|()| words.are(&told))
-        .and_then(|()| replies.same("the replies of the streams one by one", &expected))
-        .and_then(|()| memory.same("the memory after the streams one by one", &other))
-        .map_err(|found| {
-            found
-                .with("call", "fq_serve_many beside fq_serve_stream")
-                .bytes("input", &turn.row)
-                .with("ends", format!("{:?}", turn.ends))
-        })
+    let code = called(trial, &mut memory, turn, &mut replies, &mut words)?;
+    same("the return code", GOOD, code)?;
+    words.are(&told)?;
+    replies.same("the replies of the streams one by one", &expected)?;
+    memory.same("the memory after the streams one by one", &other)
 }

@@ -7,11 +7,12 @@
 
 use reference::fields::KEY_LIMIT;
 use reference::map::MOST_KEYS;
+use reference::operation::PING;
 use reference::{list_keys, load, store, Entry, Request, Table};
 
 use crate::calls::{compared, room_for, Call, World};
 use crate::chance::Chance;
-use crate::difference::{hold, same, same_bytes, Outcome};
+use crate::difference::{hold, same, Difference, Outcome};
 use crate::fields::{join, of_request};
 use crate::lent::{Lent, Words};
 use crate::make;
@@ -92,44 +93,14 @@ fn body(memory: &[u8], asked: &Asked) -> Vec<u8> {
     bytes
 }
 
-/// A listing by both, in this room. Of a sound table it is also the body made
-/// from the rows.
+/// A listing by both, in this room. It is also the body made from the rows.
 fn listed<S: ListsKeys>(
     trial: &mut Trial<S>,
     world: &World,
     asked: &Asked,
     room: usize,
 ) -> Outcome {
-    let mut out = Lent::random(&mut trial.chance, room);
-    let mut expected = out.clone();
-    let answer = list_keys(
-        &world.table,
-        &asked.name,
-        &asked.from,
-        asked.most,
-        expected.slice_mut(),
-    );
-    let whole = body(world.memory.slice(), asked);
-    let by_rows = match (asked.name.is_empty(), room < whole.len()) {
-        (false, _) => 9,
-        (_, true) => 12,
-        _ => GOOD + whole.len() as u64,
-    };
-    let code = called(trial, &world.memory, asked, &mut out)
-        .and_then(|code| same("the return code", write_code(answer), code).map(|()| code))
-        .and_then(|code| same("the return code, by the rows", by_rows, code).map(|()| code))
-        .and_then(|code| {
-            out.same("the buffer, with a margin on both sides", &expected)
-                .map(|()| code)
-        });
-    code.and_then(|code| match code.checked_sub(GOOD) {
-        Some(length) => {
-            let written = &out.slice()[..length as usize];
-            same_bytes("the body, made from the rows", &whole, written)
-        }
-        None => Ok(()),
-    })
-    .map_err(|found| {
+    compared_listing(trial, world, asked, room).map_err(|found| {
         found
             .with("call", "fq_list_keys")
             .with("asked", format!("{asked:?}"))
@@ -138,13 +109,39 @@ fn listed<S: ListsKeys>(
     })
 }
 
+fn compared_listing<S: ListsKeys>(
+    trial: &mut Trial<S>,
+    world: &World,
+    asked: &Asked,
+    room: usize,
+) -> Outcome {
+    let mut out = Lent::random(&mut trial.chance, room);
+    let (mut expected, mut by_rows) = (out.clone(), out.clone());
+    let (name, from) = (&asked.name, &asked.from);
+    let answer = list_keys(&world.table, name, from, asked.most, expected.slice_mut());
+    let whole = body(world.memory.slice(), asked);
+    let by_papers = match (name.is_empty(), room < whole.len()) {
+        (false, _) => 9,
+        (_, true) => 12,
+        _ => GOOD + whole.len() as u64,
+    };
+    if by_papers > GOOD {
+        by_rows.slice_mut()[..whole.len()].copy_from_slice(&whole);
+    }
+    let code = called(trial, &world.memory, asked, &mut out)?;
+    same("the return code", write_code(answer), code)?;
+    same("the return code, by the rows", by_papers, code)?;
+    out.same("the buffer, with a margin on both sides", &expected)?;
+    out.same("the buffer, with the body made from the rows", &by_rows)
+}
+
 /// The call itself, which only reads the table.
 fn called<S: ListsKeys>(
     trial: &mut Trial<S>,
     memory: &Lent,
     asked: &Asked,
     out: &mut Lent,
-) -> Result<u64, crate::difference::Difference> {
+) -> Result<u64, Difference> {
     let (name, from) = (Lent::of(&asked.name), Lent::of(&asked.from));
     let lent = memory.clone();
     let code = trial.subject.list_keys(
@@ -272,15 +269,19 @@ fn reloaded<S: ListsKeys + Stores>(trial: &mut Trial<S>, world: &mut World) -> O
         .map_err(|found| found.with("memory", memory::shown(world.memory.slice())))
 }
 
-/// A full table of which all, the first or the last in the order expire at once.
-fn all_expire<S: ListsKeys>(trial: &mut Trial<S>) -> Outcome {
-    let mut keys = close_keys(&mut trial.chance);
+/// A full table of which all, the first, the last or every other key in the order
+/// expire at second 10.
+fn expiring(chance: &mut Chance) -> World {
+    let mut keys = close_keys(chance);
     keys.truncate(MOST_KEYS);
-    let which = trial.chance.below(4);
-    let mut table = Table::default();
+    let which = chance.below(4);
     let last = keys.len() - 1;
     let mut versions: Vec<u64> = (1..=keys.len() as u64).collect();
-    trial.chance.shuffle(&mut versions);
+    chance.shuffle(&mut versions);
+    let mut table = Table {
+        last: keys.len() as u64,
+        ..Table::default()
+    };
     for (at, (key, version)) in keys.iter().zip(versions).enumerate() {
         let ends = [true, at == 0, at == last, at % 2 == 0][which];
         let entry = Entry {
@@ -290,12 +291,16 @@ fn all_expire<S: ListsKeys>(trial: &mut Trial<S>) -> Outcome {
         };
         table.entries.insert(key.clone(), entry);
     }
-    table.last = keys.len() as u64;
-    let mut world = World::of(&mut trial.chance, table, keys);
+    World::of(chance, table, keys)
+}
+
+/// Listings before and behind a call at which many entries expire at once.
+fn all_expire<S: ListsKeys>(trial: &mut Trial<S>) -> Outcome {
+    let mut world = expiring(&mut trial.chance);
     let ping = Request {
         id: 1,
         version: 20,
-        operation: reference::operation::PING,
+        operation: PING,
         intelligence: 1,
         ..Request::default()
     };

@@ -5,7 +5,10 @@
 //! of the entry that this request wrote, and the tables only in that entry's
 //! value.
 
-use reference::operation::{greatest_bulk, sends_key, BULK_GET, GET, GET_WITH_VERSION, PUT};
+use reference::operation::{
+    greatest_bulk, sends_key, BULK_GET, GET, GET_WITH_VERSION, PUT, PUT_IF_ABSENT, REMOVE,
+    REMOVE_IF_UNMODIFIED, REPLACE, REPLACE_IF_UNMODIFIED, TWO,
+};
 use reference::{read_reply, read_request, Listed, Read, Reply, Request};
 
 use crate::calls::{room_for, World};
@@ -55,6 +58,16 @@ pub fn round<S: Subject>(trial: &mut Trial<S>) -> Outcome {
     }
     Ok(())
 }
+
+/// The operations with an old value.
+const OLD_VALUE: [u8; 6] = [
+    PUT,
+    PUT_IF_ABSENT,
+    REPLACE,
+    REPLACE_IF_UNMODIFIED,
+    REMOVE,
+    REMOVE_IF_UNMODIFIED,
+];
 
 /// A request that sends a value of at least one byte, mostly a put.
 fn writer(chance: &mut Chance, world: &World) -> Request {
@@ -113,13 +126,19 @@ fn some_requests(chance: &mut Chance, world: &World) -> Vec<u8> {
     row
 }
 
-/// Requests for the same key, which may show the value.
+/// Requests for the same key, which may show the value, also as the old one behind
+/// a status 03 or 04.
 fn readers(chance: &mut Chance, written: &Request) -> Vec<u8> {
     let mut row = Vec::new();
     for _ in 0..1 + chance.below(4) {
         let any = make::operation(chance);
-        let operation = chance.pick(&[GET, GET_WITH_VERSION, BULK_GET, any]);
+        let old = chance.pick(&OLD_VALUE);
+        let operation = chance.pick(&[GET, GET_WITH_VERSION, BULK_GET, any, old]);
         let mut request = make::request_of(chance, operation);
+        if operation == old {
+            request.version = TWO;
+            request.flags |= 1;
+        }
         if sends_key(operation) {
             request.key = written.key.clone();
         }

@@ -235,7 +235,16 @@ fn replies_of_the_map_by_what_is_held() {
         // A held value of no bytes is told too.
         let mut empty = table_with(b"", 1, 1);
         assert_eq!(served(&asked, &mut empty), format!("{}00", &present[..10]));
-        // Without the flag the replies are those of version 12.
+    }
+}
+
+#[test]
+fn without_the_flag_replies_are_those_of_12() {
+    for op in OLD_VALUE {
+        let asked = Request {
+            entry_version: if sends_entry_version(op) { 1 } else { 0 },
+            ..two(flagged(op, b"k", b"x"))
+        };
         for flags in [0, 2, 8, 16, 30] {
             let plain = Request {
                 flags,

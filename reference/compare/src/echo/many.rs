@@ -78,45 +78,59 @@ impl Echo {
             let last = at + 1 == ends.len() && self.has(Fault::ManyTailIsLast);
             let end = if last { input.len() } else { *end as usize };
             let end = end.min(input.len());
-            let from = if self.has(Fault::ManyFromStart) {
-                0
-            } else {
-                start
-            };
-            let part = input.get(from..end).unwrap_or(&[]);
-            let behind = if self.has(Fault::ManyOverwrites) {
-                0
-            } else {
-                sent
-            };
-            let mut stream = self.stream(part, &mut lent, behind);
-            let empty = self.has(Fault::ManyEmptyDone) && part.is_empty();
-            let waits = self.has(Fault::ManyWaitsTwelve) && stream.code == FULL;
-            stream.code = match stream.code {
-                FULL if empty => 0,
-                _ if waits => 12,
-                code => code,
-            };
+            let part = input.get(start..end).unwrap_or(&[]);
+            let stream = self.share(part, &mut lent, sent);
             told.push([stream.taken as u64, stream.sent as u64, stream.code]);
-            sent += stream.sent;
-            start = end;
-            if self.has(Fault::ManyStopsAtRefused) && (1..=8).contains(&stream.code) {
-                break;
-            }
-            if self.has(Fault::ManyStopsAtFull) && stream.code == FULL {
+            sent += if self.has(Fault::ManyOverwrites) {
+                0
+            } else {
+                stream.sent
+            };
+            start = if self.has(Fault::ManyFromStart) {
+                0
+            } else {
+                end
+            };
+            if self.stops_others(stream.code) {
                 break;
             }
         }
+        told.resize(ends.len(), [0, 0, 0]);
+        self.tell(told, answer);
+        GOOD
+    }
+
+    /// The stream of one connection, with a fault in what is told of it.
+    fn share(&self, part: &[u8], lent: &mut Lent, sent: usize) -> Stream {
+        let mut stream = self.stream(part, lent, sent);
+        match self.fault {
+            Some(Fault::ManyEmptyDone) if part.is_empty() && stream.code == FULL => {
+                stream.code = 0;
+            }
+            Some(Fault::ManyWaitsTwelve) if stream.code == FULL => stream.code = 12,
+            _ => {}
+        }
+        stream
+    }
+
+    /// Whether the connections behind one with this code are left alone.
+    fn stops_others(&self, code: u64) -> bool {
+        match self.fault {
+            Some(Fault::ManyStopsAtRefused) => (1..=8).contains(&code),
+            Some(Fault::ManyStopsAtFull) => code == FULL,
+            _ => false,
+        }
+    }
+
+    fn tell(&self, mut told: Vec<[u64; SHARE_WORDS]>, answer: &mut [u64]) {
         if self.has(Fault::ManySwapsShares) && told.len() > 1 {
             told.swap(0, 1);
         }
-        told.resize(ends.len(), [0, 0, 0]);
         let mut words = told.concat();
         if self.has(Fault::ManyTellsMore) {
             words.push(0);
         }
         words.truncate(answer.len());
         fill(answer, &words);
-        GOOD
     }
 }

@@ -4,7 +4,7 @@
 The commands of README.md and of docs/USING.md, which are the blocks `sh`, are run in their order, each document in a fresh copy of the clone with a home and a
 network of its own, without the toolchain: they print the blocks `output`, a server says the lines of the block `text` behind its command, and no file is left in the clone. Each block of
 `requests` gives the block of `replies` behind it, by the second program and by BOARD. docs/TESTING.md says the comparison's size as tests/compare printed it last.
-Documents for users have short sentences and plain words. `documents.py commands` does the first alone, `documents.py words` the last."""
+Documents for users have short sentences and plain words, and links lead to files. `documents.py commands` does the first alone, `documents.py words` the last."""
 import ctypes
 import fcntl
 import glob
@@ -196,6 +196,19 @@ def check_words():
     print('documents: sentences are short')
 
 
+def check_links():
+    """Every link leads to a file, and so does every path of README.md, docs/USING.md and docs/TESTING.md."""
+    count = 0
+    for path in sorted(glob.glob('*.md') + glob.glob('docs/*.md')):
+        links = [os.path.join(os.path.dirname(path), one) for one in re.findall(r'\]\(([^)#:]+)(?:#[^)]*)?\)', text_of(path))]
+        paths = re.findall(r'`((?:crates|host|reference|tests|tools|docs)/[A-Za-z0-9_./-]+)`', text_of(path)) if path in ('README.md', 'docs/USING.md', 'docs/TESTING.md') else []
+        for one in links + paths:
+            if not os.path.exists(one):
+                sys.exit(f'{path}: there is no {one}')
+        count += len(links + paths)
+    print(f'documents: {count} links lead to files')
+
+
 def main():
     only = sys.argv[1:2]
     if only not in (['commands'], ['words']):
@@ -203,6 +216,7 @@ def main():
         check_examples()
     if only != ['commands']:
         check_words()
+        check_links()
     if only != ['words']:
         check_commands()
 

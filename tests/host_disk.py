@@ -65,13 +65,15 @@ def always(bench):
     stored last; what changes nothing is served, and an entry leaves by its deadline. Then all replies come, in order, and nobody was idle meanwhile."""
     deadline = int(time.time()) + 4
     old = head_line(4) + entry_line(3, b'leaves', b'soon', deadline) + entry_line(4, b'k', b'old')
-    with Limited(bench.table('always', old), '--sync', 'always', '--idle', '3') as host, host.connect() as one, host.connect() as other, host.connect() as third:
-        demand(other.call(GET, key=b'k').value == b'old', 'a full disk', 'a get is not served, though nothing is to be stored')
+    with Limited(bench.table('always', old), '--sync', 'always', '--idle', '4') as host, host.connect() as one:
         one.send(frame(PUT, key=b'k', value=b'new'))
         until(lambda: "can't store the table" in host.words(), 'a full disk', 'nothing is said')
-        crowd = [host.connect() for _ in range(CROWD)]
-        for caller in [other, *crowd]:
-            demand(caller.call(GET, key=b'k').value == b'old', 'a get behind a put on a full disk', 'another value')
+        crowd = []
+        for _ in range(CROWD):
+            crowd.append(host.connect())
+            demand(crowd[-1].call(GET, key=b'k').value == b'old', 'a get behind a put on a full disk', 'another value')
+        other, third = host.connect(), host.connect()
+        demand(other.call(GET, key=b'k').value == b'old', 'a full disk', 'a get is not served')
         # What is in front of a write is answered, and what is behind it waits with it.
         third.send(frame(GET, key=b'k') * 3 + frame(PUT_IF_ABSENT, key=b'k') + frame(REMOVE, key=b'none') + frame(REMOVE, key=b'k') + frame(GET, key=b'k') + frame(PING))
         values = [third.reply(GET).value for _ in range(3)] + [third.reply(PUT_IF_ABSENT).status, third.reply(REMOVE).status]
@@ -95,10 +97,11 @@ def always(bench):
         demand(one.reply(PUT).status == 0, 'room again', 'the put is not done')
         replies = [third.reply(REMOVE).status, third.reply(GET).status, third.reply(PING).status]
         demand(replies == [0, 2, 0] and read_file(host.table) == head_line(5), 'room again', f'{replies}, the file is {short(read_file(host.table))} at the replies')
-        demand(re.search(r'the table is stored again, after \d+ seconds', host.words()), 'room again', f'it says {host.words()}')
-        demand(other.call(GET, key=b'k').status == 2, 'room again', 'another value')
+        until(lambda: re.search(r'the table is stored again, after \d+ seconds', host.words()), 'room again', f'it says {host.words()}')
+        with host.connect() as last:
+            demand(last.call(GET, key=b'k').status == 2, 'room again', 'another value')
         demand(one.call(PUT, key=b'k', value=b'next').status == 0 and read_file(host.table) == head_line(6) + entry_line(6, b'k', b'next'), 'room again', 'a put is not stored')
-        for caller in crowd:
+        for caller in [other, third, *crowd]:
             caller.socket.close()
     return 8 + CROWD
 

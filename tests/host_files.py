@@ -189,9 +189,9 @@ def signals(bench):
 
 
 def second_signal(bench):
-    """A second signal while the table is stored at the end, which takes 1.4 seconds here: it ends at once, with a sentence and status 1, and the file is whole."""
+    """A second signal while the table is stored at the end, which takes ten seconds here: it ends at once, with a sentence and status 1, and the file is whole."""
     case = 'a second signal'
-    with Host(bench.table('twice', OLD), env=preloaded(bench, 'slow_disk')) as host, host.connect() as caller:
+    with Host(bench.table('twice', OLD), env=preloaded(bench, 'slow_disk', SLOW_DISK='5000')) as host, host.connect() as caller:
         caller.call(PUT, key=b'late')
         host.run.send_signal(signal.SIGTERM)
         time.sleep(0.2)

@@ -12,7 +12,7 @@
        0               more bytes are needed
        1 to 17         refused; the numbers are those of enum fq_refusal
        FQ_DONE + n     done, with n bytes read or written; n is 0 where a function says so
-       FQ_REPLY_FULL   fq_serve_stream alone: `reply` has to be emptied
+       FQ_REPLY_FULL   of a stream, by fq_serve_stream or told by fq_serve_many: `reply` has to be emptied
        FQ_NO_ENDS      fq_serve_many alone: the ends do not ascend, or one is behind the input's end
 
    and a refused call changes neither a table nor a buffer, save for the error reply where fq_serve or fq_serve_stream sends one.
@@ -167,11 +167,17 @@ uint64_t fq_serve_stream(const uint8_t *input, size_t input_len, uint8_t *table,
                          uint64_t *answer, size_t answer_len);
 
 /* Serves the streams of several connections, whose inputs stand end to end in `input`: the first from its start to ends[0], each other from the end before
-   to its own. Each is served as by fq_serve_stream, in their order, on the table that the one before left and on `reply` behind all replies before, and a
-   refusal 1 to 8 ends the stream of its connection alone. The table is checked once. FQ_DONE is done; 12 where `answer` has less than FQ_SHARE_TOLD numbers
-   for each connection, FQ_NO_ENDS, 12 where `reply` has less than FQ_REPLY_ROOM bytes, 13: then nothing is done or told. Told of each connection: bytes
-   taken of its input, bytes of its replies, which stand end to end at the front of `reply`, and 0, 1 to 8 or FQ_REPLY_FULL as fq_serve_stream answers them:
-   a connection that is told FQ_REPLY_FULL waits for an emptied buffer, and the first one never without a byte taken. */
+   to its own. In their order each is served as a stream on the table that the one before left, and on `reply` behind all replies before; a refusal 1 to 8 ends
+   the stream of its connection alone. The table is checked once. FQ_DONE is done. The whole call is refused, in this order: 12 where `answer` has less than
+   FQ_SHARE_TOLD numbers for each connection, FQ_NO_ENDS, 12 where `reply` has less than FQ_REPLY_ROOM bytes, 13; then nothing is done or told. So a 12 is of
+   `answer` where that is too short, and of `reply` else.
+
+   Told of each connection: bytes taken of its input, bytes of its replies, which stand end to end at the front of `reply`, and 0 where what is left is no whole
+   request, 1 to 8 where its stream ends, or FQ_REPLY_FULL: it waits, for less than FQ_REPLY_ROOM bytes are left behind all replies, or less than FQ_BULK_ROOM
+   before a bulkGet or bulkGetKeys; take the replies out, and give its rest again. As long as nothing is sent, a connection is served as by fq_serve_stream, so
+   that it waits only behind bytes taken: who comes first comes on. Lend FQ_BULK_ROOM bytes at least: in less, a bulkGet or bulkGetKeys that no reply stands
+   before is taken without a reply, and its stream goes on without a word. What all connections get is what one list of their requests gives, one connection's
+   behind the other's, served one by one. */
 uint64_t fq_serve_many(const uint8_t *input, size_t input_len, const uint64_t *ends, size_t ends_len, uint8_t *table, size_t table_len, uint32_t second,
                        uint8_t *reply, size_t reply_len, uint64_t *answer, size_t answer_len);
 

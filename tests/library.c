@@ -310,6 +310,75 @@ static void stream(void) {
     SAME(fq_serve_lines(row, 0, other, sizeof other, out.at, FQ_LINES_ROOM, false, true, answer, FQ_LINES_TOLD), FQ_DONE);
 }
 
+/* What fq_serve_many told of a connection: bytes taken, bytes of its replies, and how its stream ended. */
+static void shared(int line, size_t at, uint64_t taken, uint64_t size, uint64_t end) {
+    same(line, answer[FQ_SHARE_TOLD * at], taken);
+    same(line, answer[FQ_SHARE_TOLD * at + 1], size);
+    same(line, answer[FQ_SHARE_TOLD * at + 2], end);
+}
+
+/* A call of fq_serve_many on the table `other`; with `still` it has to leave table, replies and numbers as they were. */
+static void serves_many(int line, const uint8_t *row, size_t n, const uint64_t *ends, size_t count, size_t room, size_t numbers, uint64_t wanted, bool still) {
+    static uint8_t before[FQ_TABLE_SIZE], kept[FQ_LINES_ROOM];
+    uint64_t untold[FQ_REPLY_TOLD];
+    memset(reply, 0x55, sizeof reply);
+    memset(answer, 0x55, sizeof answer);
+    memcpy(before, other, sizeof other);
+    memcpy(kept, reply, sizeof reply);
+    memcpy(untold, answer, sizeof answer);
+    same(line, fq_serve_many(row, n, ends, count, other, sizeof other, 5, reply, room, answer, numbers), wanted);
+    if (!still) return;
+    same_bytes(line, other, sizeof other, before, sizeof before);
+    same_bytes(line, reply, sizeof reply, kept, sizeof kept);
+    same_bytes(line, answer, sizeof answer, untold, sizeof untold);
+}
+
+/* The whole call is refused: too short a list, ends, too little room, no table, in this order. */
+static void many_refused(const uint8_t *row, size_t n) {
+    static const uint64_t down[] = {16, 15}, far[] = {16, 64}, two[] = {16, 17};
+    serves_many(__LINE__, row, n, down, 2, FQ_REPLY_ROOM - 1, 2 * FQ_SHARE_TOLD - 1, FQ_NO_ROOM, true);
+    serves_many(__LINE__, row, n, down, 2, FQ_REPLY_ROOM - 1, 2 * FQ_SHARE_TOLD, FQ_NO_ENDS, true);
+    serves_many(__LINE__, row, n, far, 2, FQ_BULK_ROOM, 2 * FQ_SHARE_TOLD, FQ_NO_ENDS, true);
+    other[7] ^= 0xff;
+    serves_many(__LINE__, row, n, two, 2, FQ_REPLY_ROOM - 1, 2 * FQ_SHARE_TOLD, FQ_NO_ROOM, true);
+    serves_many(__LINE__, row, n, two, 2, FQ_REPLY_ROOM, 2 * FQ_SHARE_TOLD, FQ_NO_TABLE, true);
+    other[7] ^= 0xff;
+    serves_many(__LINE__, row, n, two, 0, FQ_REPLY_ROOM, 0, FQ_DONE, true);
+}
+
+/* A ping, a bulkGet and a ping, of three connections: the second waits for room, or has it; and 512 bytes are room for one reply. */
+static void many_rooms(void) {
+    static const uint8_t row[] = {0xa0, 0x01, 0x0a, 0x17, 0, 0, 1, 0, 0, 0xa0, 0x02, 0x0a, 0x19, 0, 0, 1, 0, 0, 0, 0xa0, 0x03, 0x0a, 0x17, 0, 0, 1, 0, 0};
+    static const uint64_t ends[] = {9, 19, 28}, alone[] = {10};
+    serves_many(__LINE__, row, sizeof row, ends, 3, FQ_BULK_ROOM + 4, 9, FQ_DONE, false);
+    shared(__LINE__, 0, 9, 5, 0), shared(__LINE__, 1, 0, 0, FQ_REPLY_FULL), shared(__LINE__, 2, 9, 5, 0);
+    serves_many(__LINE__, row, sizeof row, ends, 3, FQ_BULK_ROOM + 5, 9, FQ_DONE, false);
+    shared(__LINE__, 0, 9, 5, 0), shared(__LINE__, 1, 10, 12, 0), shared(__LINE__, 2, 9, 5, 0);
+    serves_many(__LINE__, row, sizeof row, ends, 3, FQ_REPLY_ROOM, 9, FQ_DONE, false);
+    shared(__LINE__, 0, 9, 5, FQ_REPLY_FULL), shared(__LINE__, 1, 0, 0, FQ_REPLY_FULL), shared(__LINE__, 2, 0, 0, FQ_REPLY_FULL);
+    serves_many(__LINE__, row + 9, 10, alone, 1, FQ_BULK_ROOM - 1, 3, FQ_DONE, false);
+    shared(__LINE__, 0, 10, 0, 0);
+    SAME(reply[0], 0x55);
+}
+
+/* Several connections: a put, a byte that begins no request, the get of what was put and a beginning, and no bytes. Behind the last end a byte is nobody's. */
+static void many(void) {
+    static const uint8_t row[] = {0xa0, 0x02, 0x0a, 0x01, 0, 0, 1, 0, 0, 2, 'b', '1', 0, 0, 1, 'x', /* put */
+                                  0xa1,
+                                  0xa0, 0x04, 0x0a, 0x03, 0, 0, 1, 0, 0, 2, 'b', '1', 0xa0, 0x05, /* get, and a beginning */
+                                  0xa1};
+    static const uint8_t wanted[] = {0xa1, 0x02, 0x02, 0, 0, 0xa1, 0, 0x50, 0x81, 0, 9, 'b', 'a', 'd', ' ', 'm', 'a', 'g', 'i', 'c',
+                                     0xa1, 0x04, 0x04, 0, 0, 1, 'x', 0x55};
+    static const uint64_t ends[] = {16, 17, 31, 31};
+    SAME(fq_make(other, sizeof other), FQ_DONE);
+    serves_many(__LINE__, row, sizeof row, ends, 4, sizeof reply, 12, FQ_DONE, false);
+    shared(__LINE__, 0, 16, 5, 0), shared(__LINE__, 1, 0, 15, FQ_BAD_MAGIC), shared(__LINE__, 2, 12, 7, 0), shared(__LINE__, 3, 0, 0, 0);
+    same_bytes(__LINE__, reply, sizeof wanted, wanted, sizeof wanted);
+    SAME(answer[12], 0x5555555555555555);
+    many_refused(row, sizeof row);
+    many_rooms();
+}
+
 /* The request at this second is served with this reply. */
 static void serves(int line, const uint8_t *frame, size_t n, uint32_t second, const void *wanted, size_t wanted_len) {
     same(line, fq_serve(frame, n, other, sizeof other, second, reply, FQ_REPLY_ROOM, answer, FQ_SERVE_TOLD), FQ_DONE);
@@ -424,10 +493,11 @@ int main(int count, char **words) {
     statistics();
     entries();
     stream();
+    many();
     expiry();
     short_lists();
     longest_file();
-    printf("library: the paper's five requests from C, by calls, by lines and by a file; messages, version 20, keys, entries, streams, an entry that expires, lists that are "
-           "too short, the longest file and the longest reply\n");
+    printf("library: the paper's five requests from C, by calls, by lines and by a file; messages, version 20, keys, entries, streams, many connections, an entry that "
+           "expires, lists that are too short, the longest file and the longest reply\n");
     return 0;
 }

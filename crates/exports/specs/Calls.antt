@@ -8,9 +8,9 @@ use Rattle.map.specs.Step.{Context}
 use Rattle.table.specs.declared.Compared.{Compared}
 use Rattle.table.specs.declared.Outcome.{Outcome}
 use Rattle.table.specs.declared.Outcome.the-variants as o
-use Rattle.service.specs.Serve.{Verdict, served, more, refused, full}
 use Rattle.service.specs.Stream.{Call, Done, Serves}
 use Rattle.service.specs.Many.{Total, Streams}
+use Rattle.service.specs.Shares.{verdictCode}
 use Rattle.server.specs.declared.Shared.{Shared}
 use Rattle.server.specs.declared.Shared.the-variants as sh
 use Rattle.server.specs.Gives.{ServesMany}
@@ -20,12 +20,6 @@ use Rattle.server.specs.Lines.{ServesLines}
 use Rattle.stored.specs.File.{form1}
 use Rattle.stored.specs.StoreLoad.{Storing, Loaded}
 use Rattle.exports.specs.Codes.{sentCode, tell}
-
-abbrev pub verdictCode : Verdict → ℕ
-verdictCode served = 256
-verdictCode more = 0
-verdictCode (refused k) = k
-verdictCode full = 257
 
 -- nothing is done, and each list lent is as it was: 12, since the list for the answer is too short
 pub record Untold (n : ℕ) (old new lent out t t' : List ℕ) : Type 0 where

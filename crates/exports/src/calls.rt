@@ -101,7 +101,7 @@ pub(crate) fn serve(
     let a = server::serve(input, table, second, reply);
     tell::numbers(answer, &[a.taken as u64, a.size as u64]);
     let v = a.verdict;
-    tell::verdict(v)
+    server::verdict_code(v)
 }
 
 pub(crate) fn serve_stream(
@@ -116,7 +116,7 @@ pub(crate) fn serve_stream(
     let a = server::serve_stream(input, table, second, reply);
     tell::numbers(answer, &[a.taken as u64, a.size as u64, a.calls as u64]);
     let v = a.verdict;
-    tell::verdict(v)
+    server::verdict_code(v)
 }
 
 pub(crate) fn serve_lines(

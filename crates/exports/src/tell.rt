@@ -6,7 +6,6 @@ use message::Request;
 use message::Sent;
 use reply_reader::Entries;
 use server::Shared;
-use server::Verdict;
 use statistics::Statistics;
 use table::Outcome;
 ghost use mathlib.Core.Path.{_≡_};
@@ -16,8 +15,7 @@ ghost use mathlib.Core.Option.{none, some};
 ghost use Rattle.statistics.specs.Statistics.{listOf};
 ghost use Rattle.message.specs.Sent.{asSent};
 ghost use Rattle.reply_reader.specs.ReplyRead.{unlisted, withStatistics, withEntries};
-ghost use Rattle.server.specs.CallDone.{asVerdict};
-ghost use Rattle.exports.specs.Calls.{verdictCode, sharedCode, bit as bitOf, outcomeCode};
+ghost use Rattle.exports.specs.Calls.{sharedCode, bit as bitOf, outcomeCode};
 ghost use Rattle.exports.specs.Codes.{sentCode, tell};
 ghost use Rattle.exports.specs.Messages.{wholeRequest, wholeReply, wholeEntry};
 
@@ -180,7 +178,7 @@ pub(crate) fn end(answer: &mut [u64], n: usize)
     numbers(answer, &[n as u64, 0, 0, 0, 0, 0]);
 }
 
-// The answer of a writer, and how a call ended.
+// The answer of a writer.
 pub(crate) fn sent(s: Sent) -> u64
     requires { ⌜ sentCode (asSent s) < 2 ^ 64 ⌝ }
     ensures { λ r. ⌜ r ≡ sentCode (asSent s) ⌝ }
@@ -188,17 +186,6 @@ pub(crate) fn sent(s: Sent) -> u64
     match s {
         Sent::Written(n) => 256 + n as u64,
         Sent::Refused(k) => k as u64,
-    }
-}
-
-pub(crate) fn verdict(v: Verdict) -> u64
-    ensures { λ r. ⌜ r ≡ verdictCode (asVerdict v) ⌝ }
-{
-    match v {
-        Verdict::Served => 256,
-        Verdict::More => 0,
-        Verdict::Refused(k) => k as u64,
-        Verdict::Full => 257,
     }
 }
 

@@ -3,3 +3,4 @@ pub mod Act
 pub mod Bulk
 pub mod Lines
 pub mod Gives
+pub mod ManyCalls

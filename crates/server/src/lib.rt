@@ -11,6 +11,7 @@ ghost use lib.Dec.{ltb};
 ghost use Rattle.map.specs.Step.{contextOf};
 ghost use Rattle.service.specs.Stream.{Serves};
 ghost use Rattle.service.specs.Many.{isShort, at, Streams};
+ghost use Rattle.service.specs.Shares.{verdictCode};
 ghost use Rattle.server.specs.CallDone.{asVerdict, doneOf, totalOf, Ready, CallsAt};
 ghost use Rattle.server.specs.Lines.{ServesLines};
 ghost use Rattle.server.specs.Gives.{Begun, ServesMany};
@@ -26,6 +27,18 @@ pub enum Verdict {
     More,
     Refused(u8),
     Full,
+}
+
+// How a call or a stream ended, as a number: 256 for served, 0 for more needed, the refusal, or 257 for full.
+pub fn verdict_code(v: Verdict) -> u64
+    ensures { λ r. ⌜ r ≡ verdictCode (asVerdict v) ⌝ }
+{
+    match v {
+        Verdict::Served => 256,
+        Verdict::More => 0,
+        Verdict::Refused(k) => k as u64,
+        Verdict::Full => 257,
+    }
 }
 
 // The answer of a call: the bytes of the input that it took, the bytes of the reply, and how it ended.

@@ -23,3 +23,4 @@ pub mod Laid
 pub mod Apart
 pub mod Made
 pub mod Paired
+pub mod Rounds

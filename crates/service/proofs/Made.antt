@@ -78,7 +78,7 @@ run-holds {input} {table} {cs} {ds} x =
     }
 
 -- the table behind calls
-pub total-table : (v : Verdict) (lent table : List ℕ) (ds es : List Done) → Series (totalBy v lent table ds .table) es → {input : List ℕ} {cs : List Call} → Run input table cs ds
+total-table : (v : Verdict) (lent table : List ℕ) (ds es : List Done) → Series (totalBy v lent table ds .table) es → {input : List ℕ} {cs : List Call} → Run input table cs ds
     → Series table (ds ++ es)
 unfolding totalBy
 total-table v lent table [] es s run-end = s

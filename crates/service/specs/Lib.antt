@@ -12,3 +12,4 @@ pub mod Shares
 pub mod Linear
 pub mod Made
 pub mod Paired
+pub mod Rounds

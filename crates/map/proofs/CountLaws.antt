@@ -15,12 +15,12 @@ use Rattle.wire.proofs.Laws.{and-false}
 use Rattle.message.specs.declared.Operation.{Operation}
 use Rattle.message.specs.declared.Operation.the-variants.{Put, Get, PutIfAbsent, Replace, ReplaceIfUnmodified, Remove, RemoveIfUnmodified, ContainsKey, GetWithVersion, Clear, Stats, Ping, BulkGet, BulkGetKeys}
 use Rattle.message.specs.Request.{Request}
-use Rattle.message.specs.ReplyTable.{bodyAt, toldStatus}
+use Rattle.message.specs.ReplyTable.{bodyAt, replyStatus}
 use Rattle.map.specs.History.{countsHeld, mostCount, onward, is, adds, marked, tally, retrievals, hits, misses, noHistory, startOf}
 use Rattle.map.specs.State.{Entry, State, fresh, find, without}
 use Rattle.map.specs.Plan.{Change, keep, store, drop, empty, plans, plan}
 use Rattle.map.specs.Shown.{shows, counted}
-use Rattle.map.specs.Step.{Context, Result, Outcome, refused, answered, entry, stored, dropped, emptied, isNone, names, held, versionOf, tellsOld, planned, statistics, statusOf, result, present, swept, noted, arrive, step, stateAfter, run}
+use Rattle.map.specs.Step.{Context, Result, Outcome, refused, answered, entry, stored, dropped, emptied, isNone, names, held, versionOf, withOld, planned, statistics, statusOf, result, present, swept, noted, arrive, step, stateAfter, run}
 use Rattle.map.specs.Table.{Counts}
 use Rattle.map.specs.Counted.{says, absentAt, number, ends, atMost}
 use Rattle.map.proofs.Each.{each-left}
@@ -57,8 +57,8 @@ saysOf o s before after =
 
 -- a plan's status, told or not, and its change say what is counted
 plan-says : (t : Bool) (o : Operation) (v : ℕ) (h : Option ℕ)
-    → saysOf o (toldStatus t o (not (isNone h)) (plan o v h .status)) (isNone h) (after (plan o v h .change) (isNone h)) ≡ adds o (isNone h)
-unfolding plan plans adds toldStatus
+    → saysOf o (replyStatus t o (not (isNone h)) (plan o v h .status)) (isNone h) (after (plan o v h .change) (isNone h)) ≡ adds o (isNone h)
+unfolding plan plans adds replyStatus
 plan-says true Put v none = refl
 plan-says true Put v (some w) = refl
 plan-says false Put v none = refl
@@ -119,7 +119,7 @@ module _ (c : Context) (r : Request) (st : State) (a : Result) (t : State) (e : 
       let d = did c r st a t e in
       let x = arrive c r st in
       rw (latest-step, d .same, d .state, gone-after r x (planned r x .change))
-      (rw (none-version (held r x)) at (plan-says (tellsOld r) (r .op) (r .args .entryVersion) (versionOf (held r x))))
+      (rw (none-version (held r x)) at (plan-says (withOld r) (r .op) (r .args .entryVersion) (versionOf (held r x))))
 
 -- what is refused counts nowhere
 abbrev nowhere : List Bool
@@ -289,7 +289,7 @@ module _ (c : Context) (r : Request) (st : State) (a : Result) (t : State) (e : 
 
   -- a stats reply shows the statistics behind the arrival of its own call
   pub stats-shown : r .op ≡ Stats → a .shown ≡ counted (statistics c (arrive c r st))
-  unfolding result statusOf toldStatus planned plan plans shows bodyAt
+  unfolding result statusOf replyStatus planned plan plans shows bodyAt
   stats-shown q = rw (did c r st a t e .same, q)
 
   -- "the first call served": the first one that is answered

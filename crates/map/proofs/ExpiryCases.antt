@@ -8,7 +8,7 @@ use Rattle.message.specs.declared.Operation.the-variants.{Put, Get, Remove}
 use Rattle.message.specs.Arguments.{args}
 use Rattle.message.specs.Request.{Request}
 use Rattle.message.specs.Edition.{editionOf}
-use Rattle.message.specs.ReplyTable.{bodyAt, toldStatus}
+use Rattle.message.specs.ReplyTable.{bodyAt, replyStatus}
 use Rattle.map.specs.History.{noHistory}
 use Rattle.map.specs.State.{Entry, State, find, without}
 use Rattle.map.specs.Deadline.{deadline, expired}
@@ -48,20 +48,20 @@ replies xs = map (λ (x : Taken). told (x .outcome)) (run xs board)
 
 -- A call at the deadline that is served takes the entry away: a call behind it at an earlier second does not see it.
 pub served-takes : replies (asks 10 Get [] 0 ∷ asks 9 Get [] 0 ∷ []) ≡ (0x02, nothing) ∷ (0x02, nothing) ∷ []
-unfolding run step core arrive noted swept act result statusOf toldStatus editionOf planned plan plans shows bodyAt held find without expired
+unfolding run step core arrive noted swept act result statusOf replyStatus editionOf planned plan plans shows bodyAt held find without expired
 served-takes = refl
 
 -- One that is refused (9, another cache) leaves it, and leaves the latest second: the same call sees it.
 pub refused-leaves : replies (asks 10 Get (0x78 ∷ []) 0 ∷ asks 9 Get [] 0 ∷ []) ≡ (9, nothing) ∷ (0x00, value ship) ∷ []
-unfolding run step core arrive noted swept act result statusOf toldStatus editionOf planned plan plans shows bodyAt held find without expired sameList
+unfolding run step core arrive noted swept act result statusOf replyStatus editionOf planned plan plans shows bodyAt held find without expired sameList
 refused-leaves = refl
 
 -- A remove of an expired key: the key was not there.
 pub remove-late : replies (asks 10 Remove [] 0 ∷ []) ≡ (0x02, nothing) ∷ []
-unfolding run step core arrive noted swept act result statusOf toldStatus editionOf planned plan plans shows bodyAt held find without expired
+unfolding run step core arrive noted swept act result statusOf replyStatus editionOf planned plan plans shows bodyAt held find without expired
 remove-late = refl
 
 -- A put with a past date takes effect, and its entry counts as absent from then on, at whatever second.
 pub past-date : replies (asks 3_000_000 Put [] 2_592_001 ∷ asks 0 Get [] 0 ∷ []) ≡ (0x00, nothing) ∷ (0x02, nothing) ∷ []
-unfolding run step core arrive noted swept act result statusOf toldStatus editionOf planned plan plans shows bodyAt held find without expired full stored entry deadline
+unfolding run step core arrive noted swept act result statusOf replyStatus editionOf planned plan plans shows bodyAt held find without expired full stored entry deadline
 past-date = refl

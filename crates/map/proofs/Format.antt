@@ -19,7 +19,7 @@ use Rattle.message.specs.Operation.{codeOf}
 use Rattle.message.specs.Arguments.{valueLimit}
 use Rattle.message.specs.Request.{opFits, operation, isVersion, editionAt, Request, request}
 use Rattle.message.specs.ReplyTable as m
-use Rattle.message.specs.ReplyTable.{Body, table, bodyAt, isAllowed, allowed, toldStatus}
+use Rattle.message.specs.ReplyTable.{Body, table, bodyAt, isAllowed, allowed, replyStatus}
 use Rattle.message.specs.Payload.{Payload, noBody, valueBody, versionedBody, statisticsBody, listedBody, fieldsOf, formOf}
 use Rattle.message.specs.Reply.{Reply, fields, message, isAwaited, statusesOf, Awaits, bulkOperation, bulkReply, reply, longestReply}
 use Rattle.message.specs.Listing.{mostListed}
@@ -35,7 +35,7 @@ use Rattle.map.specs.History.{startOf}
 use Rattle.map.specs.State.{Entry, State}
 use Rattle.map.specs.Plan.{Plan, plans, plan}
 use Rattle.map.specs.Shown.{Shown, nothing, noValue, value, shows, listedBy}
-use Rattle.map.specs.Step.{mostKeys, Context, lastVersion, Result, wantsOld, tellsOld, isNone, names, held, versionOf, planned, statistics, statusOf, result}
+use Rattle.map.specs.Step.{mostKeys, Context, lastVersion, Result, wantsOld, withOld, isNone, names, held, versionOf, planned, statistics, statusOf, result}
 use Rattle.map.specs.Table.{Each, Sizes, Issued, IsTable}
 use Rattle.map.specs.Reply.{askedBy, pairOf, payloadOf, replyTo, flat, shownPieces, pieces}
 use Rattle.map.proofs.ListedLaws.{listed-each, listed-few}
@@ -56,49 +56,49 @@ Fit m.text f = ⊥
 Fit m.entries f = Unit {0}
 Fit m.keys f = Unit {0}
 
--- the status that is told of a plan is one of the operation's, and its body fits the entry found
-abbrev Told : Bool → Operation → Option Entry → Plan → Type 0
-Told t o f p =
-    let s = toldStatus t o (not (isNone f)) (p .status) in
+-- the status of the reply to a plan is one of the operation's, and its body fits the entry found
+abbrev pub Row : Bool → Operation → Option Entry → Plan → Type 0
+Row t o f p =
+    let s = replyStatus t o (not (isNone f)) (p .status) in
     Valid (guard (λ s. isAllowed (bodyAt s (table t o))) 8 byte) s × Fit (allowed (bodyAt s (table t o))) f
 
-told : (t : Bool) (o : Operation) (x : ℕ) (f : Option Entry) → Told t o f (plan o x (versionOf f))
-unfolding plan plans bodyAt guard byte toldStatus
-told true Put x none = (refl, tt)
-told true Put x (some e) = (refl, tt)
-told false Put x none = (refl, tt)
-told false Put x (some e) = (refl, tt)
-told t Get x none = (refl, tt)
-told t Get x (some e) = (refl, tt)
-told true PutIfAbsent x none = (refl, tt)
-told true PutIfAbsent x (some e) = (refl, tt)
-told false PutIfAbsent x none = (refl, tt)
-told false PutIfAbsent x (some e) = (refl, tt)
-told true Replace x none = (refl, tt)
-told true Replace x (some e) = (refl, tt)
-told false Replace x none = (refl, tt)
-told false Replace x (some e) = (refl, tt)
-told true ReplaceIfUnmodified x none = (refl, tt)
-told true ReplaceIfUnmodified x (some e) = pick (Told true ReplaceIfUnmodified (some e)) (eqb (e .version) x) (λ q. (refl, tt)) (refl, tt)
-told false ReplaceIfUnmodified x none = (refl, tt)
-told false ReplaceIfUnmodified x (some e) = pick (Told false ReplaceIfUnmodified (some e)) (eqb (e .version) x) (λ q. (refl, tt)) (refl, tt)
-told true Remove x none = (refl, tt)
-told true Remove x (some e) = (refl, tt)
-told false Remove x none = (refl, tt)
-told false Remove x (some e) = (refl, tt)
-told true RemoveIfUnmodified x none = (refl, tt)
-told true RemoveIfUnmodified x (some e) = pick (Told true RemoveIfUnmodified (some e)) (eqb (e .version) x) (λ q. (refl, tt)) (refl, tt)
-told false RemoveIfUnmodified x none = (refl, tt)
-told false RemoveIfUnmodified x (some e) = pick (Told false RemoveIfUnmodified (some e)) (eqb (e .version) x) (λ q. (refl, tt)) (refl, tt)
-told t ContainsKey x none = (refl, tt)
-told t ContainsKey x (some e) = (refl, tt)
-told t GetWithVersion x none = (refl, tt)
-told t GetWithVersion x (some e) = (refl, tt)
-told t Clear x f = (refl, tt)
-told t Stats x f = (refl, tt)
-told t Ping x f = (refl, tt)
-told t BulkGet x f = (refl, tt)
-told t BulkGetKeys x f = (refl, tt)
+pub row-fits : (t : Bool) (o : Operation) (x : ℕ) (f : Option Entry) → Row t o f (plan o x (versionOf f))
+unfolding plan plans bodyAt guard byte replyStatus
+row-fits true Put x none = (refl, tt)
+row-fits true Put x (some e) = (refl, tt)
+row-fits false Put x none = (refl, tt)
+row-fits false Put x (some e) = (refl, tt)
+row-fits t Get x none = (refl, tt)
+row-fits t Get x (some e) = (refl, tt)
+row-fits true PutIfAbsent x none = (refl, tt)
+row-fits true PutIfAbsent x (some e) = (refl, tt)
+row-fits false PutIfAbsent x none = (refl, tt)
+row-fits false PutIfAbsent x (some e) = (refl, tt)
+row-fits true Replace x none = (refl, tt)
+row-fits true Replace x (some e) = (refl, tt)
+row-fits false Replace x none = (refl, tt)
+row-fits false Replace x (some e) = (refl, tt)
+row-fits true ReplaceIfUnmodified x none = (refl, tt)
+row-fits true ReplaceIfUnmodified x (some e) = pick (Row true ReplaceIfUnmodified (some e)) (eqb (e .version) x) (λ q. (refl, tt)) (refl, tt)
+row-fits false ReplaceIfUnmodified x none = (refl, tt)
+row-fits false ReplaceIfUnmodified x (some e) = pick (Row false ReplaceIfUnmodified (some e)) (eqb (e .version) x) (λ q. (refl, tt)) (refl, tt)
+row-fits true Remove x none = (refl, tt)
+row-fits true Remove x (some e) = (refl, tt)
+row-fits false Remove x none = (refl, tt)
+row-fits false Remove x (some e) = (refl, tt)
+row-fits true RemoveIfUnmodified x none = (refl, tt)
+row-fits true RemoveIfUnmodified x (some e) = pick (Row true RemoveIfUnmodified (some e)) (eqb (e .version) x) (λ q. (refl, tt)) (refl, tt)
+row-fits false RemoveIfUnmodified x none = (refl, tt)
+row-fits false RemoveIfUnmodified x (some e) = pick (Row false RemoveIfUnmodified (some e)) (eqb (e .version) x) (λ q. (refl, tt)) (refl, tt)
+row-fits t ContainsKey x none = (refl, tt)
+row-fits t ContainsKey x (some e) = (refl, tt)
+row-fits t GetWithVersion x none = (refl, tt)
+row-fits t GetWithVersion x (some e) = (refl, tt)
+row-fits t Clear x f = (refl, tt)
+row-fits t Stats x f = (refl, tt)
+row-fits t Ping x f = (refl, tt)
+row-fits t BulkGet x f = (refl, tt)
+row-fits t BulkGetKeys x f = (refl, tt)
 
 -- the code of an operation's reply is awaited, and its rows are the operation's
 abbrev Coded : Bool → Operation → Type 0
@@ -216,11 +216,11 @@ asks r v =
 module _ (c : Context) (r : Request) (st : State) where
   -- the row of the reply table
   abbrev pub row : Body
-  row = allowed (bodyAt (statusOf r st) (table (tellsOld r) (r .op)))
+  row = allowed (bodyAt (statusOf r st) (table (withOld r) (r .op)))
 
-  planned-told : Told (tellsOld r) (r .op) (held r st) (planned r st)
+  planned-row : Row (withOld r) (r .op) (held r st) (planned r st)
   unfolding planned
-  planned-told = told (tellsOld r) (r .op) (r .args .entryVersion) (held r st)
+  planned-row = row-fits (withOld r) (r .op) (r .args .entryVersion) (held r st)
 
   few : length (st .entries) ≤ mostKeys → Few (listedBy r st)
   few l = omega (arith, listed-few r st)
@@ -232,14 +232,14 @@ module _ (c : Context) (r : Request) (st : State) where
       pieces-enc r (result c r st)
       ∙ rw (
         reply-is (asks r v),
-        message-enc (isAwaited (r .op)) (statusesOf (tellsOld r) (r .op)) (wantsOld r) (replyTo r (result c r st)),
-        coded (tellsOld r) (r .op) .1,
-        shown-enc (wantsOld r) row (statistics c st) (listedBy r st) (held r st) (few l) (planned-told .1),
+        message-enc (isAwaited (r .op)) (statusesOf (withOld r) (r .op)) (wantsOld r) (replyTo r (result c r st)),
+        coded (withOld r) (r .op) .1,
+        shown-enc (wantsOld r) row (statistics c st) (listedBy r st) (held r st) (few l) (planned-row .1),
       )
 
   -- the reply to a bulk request has the entries that it lists, and nothing else
   pub bulk-reply : (values : Bool) → r .op ≡ bulkOperation values → replyTo r (result c r st) ≡ bulkReply values (r .id) (map (pairOf values) (listedBy r st))
-  unfolding result statusOf toldStatus planned plan plans shows bodyAt
+  unfolding result statusOf replyStatus planned plan plans shows bodyAt
   bulk-reply true e = rw e
   bulk-reply false e = rw e
 
@@ -258,14 +258,14 @@ module _ (c : Context) (r : Request) (st : State) where
     unfolding result statusOf
     reply-valid =
         rw (reply-is (asks r v))
-        (whole-reply (isAwaited (r .op)) (statusesOf (tellsOld r) (r .op)) (wantsOld r) (replyTo r (result c r st))
+        (whole-reply (isAwaited (r .op)) (statusesOf (withOld r) (r .op)) (wantsOld r) (replyTo r (result c r st))
         (record {
           id = asked.parts r v .id;
-          op = coded (tellsOld r) (r .op) .0;
-          status = rw (coded (tellsOld r) (r .op) .1) (planned-told .0);
-          body = rw (coded (tellsOld r) (r .op) .1)
+          op = coded (withOld r) (r .op) .0;
+          status = rw (coded (withOld r) (r .op) .1) (planned-row .0);
+          body = rw (coded (withOld r) (r .op) .1)
               (shown-good (wantsOld r) row (statistics c st) (listedBy r st) (held r st) (statistics-valid c st s h)
-              (few (s .few)) (listed-each r st Sizes (s .sizes)) (planned-told .1) (held-fits r st s));
+              (few (s .few)) (listed-each r st Sizes (s .sizes)) (planned-row .1) (held-fits r st s));
         }))
 
     -- no reply is longer than the longest one to its operation

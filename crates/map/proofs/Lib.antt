@@ -19,4 +19,5 @@ pub mod Sent
 pub mod ListedFormat
 pub mod Format
 pub mod CombineLaws
-pub mod ToldLaws
+pub mod OldLaws
+pub mod StatusLaws

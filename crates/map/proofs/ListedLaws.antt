@@ -10,7 +10,7 @@ use lib.Dec.{eqb}
 use borrow.Author.Tests.{ltb-true, lt-ltb, le-ltb, ne-eqb}
 use Rattle.wire.proofs.Basics.{pick}
 use Rattle.message.specs.declared.Operation.the-variants.{BulkGetKeys}
-use Rattle.message.specs.ReplyTable.{bodyAt, toldStatus}
+use Rattle.message.specs.ReplyTable.{bodyAt, replyStatus}
 use Rattle.message.specs.Reply.{bulkOperation}
 use Rattle.message.specs.Request.{Request}
 use Rattle.message.specs.Written.{Begins}
@@ -118,6 +118,6 @@ module _ (r : Request) where
 -- what the reply to a bulk request shows: "An entry whose deadline .. counts as absent for every .. listing"
 pub bulk-shown : (c : Context) (r : Request) (st : State) (a : Result) (t : State) → step c r st ≡ answered a t
     → (values : Bool) → r .op ≡ bulkOperation values → a .shown ≡ listed values (listedBy r (arrive c r st))
-unfolding result statusOf toldStatus planned plan plans shows bodyAt
+unfolding result statusOf replyStatus planned plan plans shows bodyAt
 bulk-shown c r st a t e true q = rw (did c r st a t e .same, q)
 bulk-shown c r st a t e false q = rw (did c r st a t e .same, q)

@@ -14,3 +14,4 @@ pub mod Revalue
 pub mod Order
 pub mod Update
 pub mod Combine
+pub mod OldValue

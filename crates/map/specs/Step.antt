@@ -7,7 +7,7 @@ use lib.ListN.{length}
 use lib.Dec.{eqb, leb, ltb}
 use Rattle.message.specs.Arguments.{isEmpty}
 use Rattle.message.specs.Request.{Request, editionAt}
-use Rattle.message.specs.ReplyTable.{bodyAt, allowed, table, toldStatus}
+use Rattle.message.specs.ReplyTable.{bodyAt, allowed, table, replyStatus}
 use Rattle.message.specs.Payload.{formOf}
 use Rattle.map.specs.History.{tally, startOf}
 use Rattle.map.specs.State.{Entry, State, withEntries, withLast, withHistory, find, without, hasKey}
@@ -43,9 +43,9 @@ pub data Outcome : Type 0 where
 abbrev pub wantsOld : Request → Bool
 wantsOld r = eqb (r .flags % 2) 1
 
--- whether the status of its reply tells of an old value
-abbrev pub tellsOld : Request → Bool
-tellsOld r = editionAt (r .version) .tells && wantsOld r
+-- whether the status of its reply says whether an old value follows: flag 0x0001 in an edition that has the statuses for it
+abbrev pub withOld : Request → Bool
+withOld r = editionAt (r .version) .oldStatuses && wantsOld r
 
 -- the entry that a request writes at a present second
 unfoldable pub entry : ℕ → Request → ℕ → Entry
@@ -91,15 +91,15 @@ planned r st = plan (r .op) (r .args .entryVersion) (versionOf (held r st))
 unfoldable pub statistics : Context → State → List ℕ
 statistics c st = (c .second - startOf (st .history .first) (c .second)) ∷ length (st .entries) ∷ st .history .counts
 
--- the plan's status, as the reply tells it
+-- the status of the reply, by the planned one and by whether the key is held
 unfoldable pub statusOf : Request → State → ℕ
-statusOf r st = toldStatus (tellsOld r) (r .op) (not (isNone (held r st))) (planned r st .status)
+statusOf r st = replyStatus (withOld r) (r .op) (not (isNone (held r st))) (planned r st .status)
 
 unfoldable pub result : Context → Request → State → Result
 result c r st =
     record {
       status = statusOf r st;
-      shown = shows (formOf (wantsOld r) (allowed (bodyAt (statusOf r st) (table (tellsOld r) (r .op))))) (statistics c st) (listedBy r st) (held r st);
+      shown = shows (formOf (wantsOld r) (allowed (bodyAt (statusOf r st) (table (withOld r) (r .op))))) (statistics c st) (listedBy r st) (held r st);
     }
 
 -- "11: the write would take effect and no version is left"

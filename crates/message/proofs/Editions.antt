@@ -25,7 +25,7 @@ version-small v =
     (pick P (eqb v 11) (λ e s. omega (arith, eqb-true v 11 e))
     (pick P (eqb v 12) (λ e s. omega (arith, eqb-true v 12 e)) (pick P (eqb v 20) (λ e s. omega (arith, eqb-true v 20 e)) (λ s. never (cc)))))
 
--- version 20 is the one without a transaction type, and the one whose statuses tell of an old value
+-- version 20 is the one without a transaction type, and the one that has the statuses 03 and 04
 pub transaction-is : (v : ℕ) → editionAt v .transaction ≡ not (eqb v 20)
 unfolding editionOf
 transaction-is v =
@@ -37,14 +37,14 @@ transaction-is v =
     last true = refl
     last false = refl
 
-pub tells-is : (v : ℕ) → editionAt v .tells ≡ eqb v 20
+pub old-statuses-is : (v : ℕ) → editionAt v .oldStatuses ≡ eqb v 20
 unfolding editionOf
-tells-is v =
-    let P : Option Edition → Type 0 = λ e. served e .tells ≡ eqb v 20 in
+old-statuses-is v =
+    let P : Option Edition → Type 0 = λ e. served e .oldStatuses ≡ eqb v 20 in
     pick P (eqb v 10) (λ e. rw (eqb-true v 10 e))
     (pick P (eqb v 11) (λ e. rw (eqb-true v 11 e)) (pick P (eqb v 12) (λ e. rw (eqb-true v 12 e)) (last (eqb v 20))))
   where
-    last : (t : Bool) → served (cond t (some twenty) none) .tells ≡ t
+    last : (t : Bool) → served (cond t (some twenty) none) .oldStatuses ≡ t
     last true = refl
     last false = refl
 

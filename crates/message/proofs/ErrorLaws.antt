@@ -32,19 +32,19 @@ or-true : (x : Bool) → (x || true) ≡ true
 or-true true = refl
 or-true false = refl
 
-module _ (tells : Bool) (o : Operation) (flag : Bool) (r : Reply) (e : eqb (r .op) errorCode ≡ true) (t : isAllowed (bodyAt (r .status) errors) ≡ true) where
+module _ (withOld : Bool) (o : Operation) (flag : Bool) (r : Reply) (e : eqb (r .op) errorCode ≡ true) (t : isAllowed (bodyAt (r .status) errors) ≡ true) where
   comes : isAwaited o (r .op) ≡ true
   comes = rw e (or-true (eqb (r .op) (codeOf o + 1)))
 
-  error-statuses : statusesOf tells o (r .op) ≡ errors
+  error-statuses : statusesOf withOld o (r .op) ≡ errors
   error-statuses = rw e
 
   -- what an error carries does not go by the flag
-  error-body : fieldsOf (formOf flag (allowed (bodyAt (r .status) (statusesOf tells o (r .op))))) ≡ fieldsOf (formOf false (allowed (bodyAt (r .status) errors)))
+  error-body : fieldsOf (formOf flag (allowed (bodyAt (r .status) (statusesOf withOld o (r .op))))) ≡ fieldsOf (formOf false (allowed (bodyAt (r .status) errors)))
   unfolding fieldsOf
   error-body = rw (error-statuses, error-text (r .status) t)
 
-  error-parts : Parts (λ op. eqb op errorCode) (λ op. errors) false r → Parts (isAwaited o) (statusesOf tells o) flag r
+  error-parts : Parts (λ op. eqb op errorCode) (λ op. errors) false r → Parts (isAwaited o) (statusesOf withOld o) flag r
   error-parts p =
       record {
         id = p .id;
@@ -53,7 +53,7 @@ module _ (tells : Bool) (o : Operation) (flag : Bool) (r : Reply) (e : eqb (r .o
         body = rw error-body (p .body);
       }
 
-  error-same : message (isAwaited o) (statusesOf tells o) flag .enc r ≡ errorReply .enc r
+  error-same : message (isAwaited o) (statusesOf withOld o) flag .enc r ≡ errorReply .enc r
   unfolding message errorReply fields seq guard as-type
   error-same = rw error-body
 
@@ -64,7 +64,7 @@ error-reply {a} {e} {o} s r v =
     let p = parts (λ op. eqb op errorCode) (λ op. errors) false r v in
     let x = guard-valid _ 4 byte (r .op) (p .op) .0 in
     let y = guard-valid _ 8 byte (r .status) (p .status) .0 in
-    let t = e .tells && a .flag in
+    let t = e .oldStatuses && a .flag in
     rw (reply-is s) (whole-reply (isAwaited o) (statusesOf t o) (a .flag) r (error-parts t o (a .flag) r x y p), error-same t o (a .flag) r x y)
 
 -- an error reply of any id, status and text

@@ -82,5 +82,5 @@ pub code-small : (o : Operation) → codeOf o < 0x1e
 code-small o = ltb-true (codeOf o) 0x1e (every (λ o. ltb (codeOf o) 0x1e) refl o)
 
 -- the statuses of a reply to an operation are the operation's
-pub statuses-are : (tells : Bool) (o : Operation) → statusesOf tells o (codeOf o + 1) ≡ table tells o
-statuses-are tells o = rw (ne-eqb (codeOf o + 1) 0x50 (λ e. omega (arith, code-small o)))
+pub statuses-are : (withOld : Bool) (o : Operation) → statusesOf withOld o (codeOf o + 1) ≡ table withOld o
+statuses-are withOld o = rw (ne-eqb (codeOf o + 1) 0x50 (λ e. omega (arith, code-small o)))

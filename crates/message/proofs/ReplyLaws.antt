@@ -134,7 +134,7 @@ module _ (comes : ℕ → Bool) (statuses : ℕ → List (ℕ × Body)) (flag : 
 
 -- over the edition
 reply-to-laws : (flag : Bool) (w : Awaited) → Laws (replyTo flag w)
-reply-to-laws flag (known e o) = message-laws (isAwaited o) (statusesOf (e .tells && flag) o) flag
+reply-to-laws flag (known e o) = message-laws (isAwaited o) (statusesOf (e .oldStatuses && flag) o) flag
 reply-to-laws flag (refused k) = refuse-laws k
 
 pub reply-laws : (a : Asked) → Laws (reply a)
@@ -142,7 +142,7 @@ unfolding reply
 reply-laws a = reply-to-laws (a .flag) (awaited a)
 
 -- the reply that is awaited
-pub reply-is : {a : Asked} {e : Edition} {o : Operation} → Awaits a e o → reply a ≡ message (isAwaited o) (statusesOf (e .tells && a .flag) o) (a .flag)
+pub reply-is : {a : Asked} {e : Edition} {o : Operation} → Awaits a e o → reply a ≡ message (isAwaited o) (statusesOf (e .oldStatuses && a .flag) o) (a .flag)
 unfolding reply
 reply-is s = rw (s .is)
 

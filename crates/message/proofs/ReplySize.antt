@@ -98,20 +98,20 @@ mostCarried o = longestReply o - 13
 carried-is : (o : Operation) → 13 + mostCarried o ≡ longestReply o
 carried-is o = eqb-true (13 + mostCarried o) (longestReply o) (every (λ o. eqb (13 + mostCarried o) (longestReply o)) refl o)
 
-under-table : (tells : Bool) (o : Operation) → bodies (short (mostCarried o)) (table tells o) ≡ true
+under-table : (withOld : Bool) (o : Operation) → bodies (short (mostCarried o)) (table withOld o) ≡ true
 under-table true o = every (λ o. bodies (short (mostCarried o)) (table true o)) refl o
 under-table false o = every (λ o. bodies (short (mostCarried o)) (table false o)) refl o
 
-under-statuses : (tells : Bool) (o : Operation) (op s : ℕ) → bodyLongest (allowed (bodyAt s (statusesOf tells o op))) ≤ mostCarried o
-under-statuses tells o op s =
-    leb-true (bodyLongest (allowed (bodyAt s (statusesOf tells o op)))) (mostCarried o)
-    (every-body (short (mostCarried o)) s (statusesOf tells o op) (le-leb 0 (mostCarried o) zero-le)
+under-statuses : (withOld : Bool) (o : Operation) (op s : ℕ) → bodyLongest (allowed (bodyAt s (statusesOf withOld o op))) ≤ mostCarried o
+under-statuses withOld o op s =
+    leb-true (bodyLongest (allowed (bodyAt s (statusesOf withOld o op)))) (mostCarried o)
+    (every-body (short (mostCarried o)) s (statusesOf withOld o op) (le-leb 0 (mostCarried o) zero-le)
     (pick (λ rs. bodies (short (mostCarried o)) rs ≡ true) (eqb op errorCode) (λ e. every (λ o. bodies (short (mostCarried o)) errors) refl o)
-    (under-table tells o)))
+    (under-table withOld o)))
 
 pub reply-most : {a : Asked} {e : Edition} {o : Operation} → Awaits a e o → (r : Reply) → Valid (reply a) r → length (reply a .enc r) ≤ longestReply o
 reply-most {a} {e} {o} s r v =
-    let t = e .tells && a .flag in
+    let t = e .oldStatuses && a .flag in
     let m = message-most (isAwaited o) (statusesOf t o) (a .flag) (mostCarried o) (λ op k z. most-less (under-statuses t o op k) (body-most (a .flag) (allowed (bodyAt k (statusesOf t o op))))) in
     subst (λ n. length (reply a .enc r) ≤ n) (carried-is o) (rw (reply-is s) (m .most r (rw (reply-is s) at v)))
 

@@ -15,15 +15,15 @@ pub record Edition : Type 0 where
   pub transaction : Bool
   -- the operations that it has
   pub serves : Operation → Bool
-  -- whether a reply's status tells that the value held before the call follows
-  pub tells : Bool
+  -- whether it has the statuses 03 and 04, which say that an old value follows
+  pub oldStatuses : Bool
 
 abbrev edition : ℕ → (Operation → Bool) → Edition
-edition n s = record { flags = n; transaction = true; serves = s; tells = false }
+edition n s = record { flags = n; transaction = true; serves = s; oldStatuses = false }
 
 -- "The request header has no transaction type or id; flags are 0 to 31"
 abbrev pub twenty : Edition
-twenty = record { flags = 31; transaction = false; serves = λ o. true; tells = true }
+twenty = record { flags = 31; transaction = false; serves = λ o. true; oldStatuses = true }
 
 -- "bulkGetKeys (0x1D) from 12 on": every other operation is in all served versions
 abbrev pub early : Operation → Bool

@@ -55,7 +55,7 @@ abbrev pub isAwaited : Operation → ℕ → Bool
 isAwaited o op = eqb op (codeOf o + 1) || eqb op errorCode
 
 abbrev pub statusesOf : Bool → Operation → ℕ → List (ℕ × Body)
-statusesOf tells o op = cond (eqb op errorCode) errors (table tells o)
+statusesOf withOld o op = cond (eqb op errorCode) errors (table withOld o)
 
 -- What reply is awaited, by what was asked: that to an operation in an edition, or none, by the refusal's number.
 pub data Awaited : Type 0 where
@@ -77,7 +77,7 @@ pub record Awaits (a : Asked) (e : Edition) (o : Operation) : Type 0 where
   pub is : awaited a ≡ known e o
 
 abbrev pub replyTo : Bool → Awaited → Codec Reply
-replyTo flag (known e o) = message (isAwaited o) (statusesOf (e .tells && flag) o) flag
+replyTo flag (known e o) = message (isAwaited o) (statusesOf (e .oldStatuses && flag) o) flag
 replyTo flag (refused k) = refuse k
 
 unfoldable pub reply : Asked → Codec Reply

@@ -57,11 +57,11 @@ module _ (flag : Bool) where
   nil : listedOf (oldForm flag 0) ≡ none
   nil = old-is flag 0
 
-  told : (tells : Bool) (o : Operation) → All (Told (codeOf o + 1)) (table tells o)
+  told : (withOld : Bool) (o : Operation) → All (Told (codeOf o + 1)) (table withOld o)
   unfolding bulkOf
   told true Put = (refl, (refl, tt))
   told false Put = (one, tt)
-  told tells Get = (refl, (refl, tt))
+  told withOld Get = (refl, (refl, tt))
   told true PutIfAbsent = (refl, (refl, tt))
   told false PutIfAbsent = (nil, (one, tt))
   told true Replace = (refl, (refl, tt))
@@ -72,26 +72,26 @@ module _ (flag : Bool) where
   told false Remove = (one, (nil, tt))
   told true RemoveIfUnmodified = (refl, (refl, (refl, tt)))
   told false RemoveIfUnmodified = (one, (nil, (nil, tt)))
-  told tells ContainsKey = (refl, (refl, tt))
-  told tells GetWithVersion = (refl, (refl, tt))
-  told tells Clear = (refl, tt)
-  told tells Stats = (refl, tt)
-  told tells Ping = (refl, tt)
-  told tells BulkGet = (refl, tt)
-  told tells BulkGetKeys = (refl, tt)
+  told withOld ContainsKey = (refl, (refl, tt))
+  told withOld GetWithVersion = (refl, (refl, tt))
+  told withOld Clear = (refl, tt)
+  told withOld Stats = (refl, tt)
+  told withOld Ping = (refl, tt)
+  told withOld BulkGet = (refl, tt)
+  told withOld BulkGetKeys = (refl, tt)
 
   told-error : All (Told errorCode) errors
   unfolding bulkOf
   told-error = (refl, (refl, (refl, (refl, (refl, (refl, tt))))))
 
-  pub bulk-form : (tells : Bool) (o : Operation) (op s : ℕ) → isAwaited o op ≡ true → isAllowed (bodyAt s (statusesOf tells o op)) ≡ true
-      → bulkOf op ≡ listedOf (formOf flag (allowed (bodyAt s (statusesOf tells o op))))
-  bulk-form tells o op s w a = sym (go (eqb op errorCode) refl w a)
+  pub bulk-form : (withOld : Bool) (o : Operation) (op s : ℕ) → isAwaited o op ≡ true → isAllowed (bodyAt s (statusesOf withOld o op)) ≡ true
+      → bulkOf op ≡ listedOf (formOf flag (allowed (bodyAt s (statusesOf withOld o op))))
+  bulk-form withOld o op s w a = sym (go (eqb op errorCode) refl w a)
     where
-      go : (t : Bool) → eqb op errorCode ≡ t → (eqb op (codeOf o + 1) || t) ≡ true → isAllowed (bodyAt s (cond t errors (table tells o))) ≡ true
-          → listedOf (formOf flag (allowed (bodyAt s (cond t errors (table tells o))))) ≡ bulkOf op
+      go : (t : Bool) → eqb op errorCode ≡ t → (eqb op (codeOf o + 1) || t) ≡ true → isAllowed (bodyAt s (cond t errors (table withOld o))) ≡ true
+          → listedOf (formOf flag (allowed (bodyAt s (cond t errors (table withOld o))))) ≡ bulkOf op
       go true e w a = all-at (Told errorCode) s errors told-error a ∙ ap bulkOf (sym (eqb-true op errorCode e))
-      go false e w a = all-at (Told (codeOf o + 1)) s (table tells o) (told tells o) a ∙ ap bulkOf (sym (eqb-true op (codeOf o + 1) (left (eqb op (codeOf o + 1)) w)))
+      go false e w a = all-at (Told (codeOf o + 1)) s (table withOld o) (told withOld o) a ∙ ap bulkOf (sym (eqb-true op (codeOf o + 1) (left (eqb op (codeOf o + 1)) w)))
 
 -- the bytes of entries: there is one, and they read back
 module _ (values : Bool) where

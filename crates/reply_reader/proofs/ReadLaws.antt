@@ -63,15 +63,15 @@ module _ (s : List ℕ) (at : ℕ) (a : ReplyHead) where
       simp (at-type, after-after)
       (after-on (readAt (listing values) s at) (λ es j e. rw (same-head a z, k, span-here values s at es j b e, ← (span-none j))))
 
-module _ (tells : Bool) (o : Operation) (flag : Bool) (s : List ℕ) where
+module _ (withOld : Bool) (o : Operation) (flag : Bool) (s : List ℕ) where
   unfoldable pub rest5 : (id op status : ℕ) → ℕ → Read Answer
   rest5 i o' t j =
-      mapped replyAt (after (readAt (fieldsOf (formOf flag (allowed (bodyAt t (statusesOf tells o o'))))) s j)
+      mapped replyAt (after (readAt (fieldsOf (formOf flag (allowed (bodyAt t (statusesOf withOld o o'))))) s j)
       (λ p l. whole (record { id = i; op = o'; status = t; payload = p }) l))
 
   unfoldable pub rest4 : (id op status : ℕ) → ℕ → Read Answer
   rest4 i o' t j =
-      cond (isAllowed (bodyAt t (statusesOf tells o o'))) (after (readAt (between 0 0 8) s j) (λ m l. rest5 i o' t l)) (refused 8)
+      cond (isAllowed (bodyAt t (statusesOf withOld o o'))) (after (readAt (between 0 0 8) s j) (λ m l. rest5 i o' t l)) (refused 8)
 
   unfoldable pub rest3 : (id op : ℕ) → ℕ → Read Answer
   rest3 i o' j = cond (isAwaited o o') (after (readAt byte s j) (λ t l. rest4 i o' t l)) (refused 4)
@@ -82,6 +82,6 @@ module _ (tells : Bool) (o : Operation) (flag : Bool) (s : List ℕ) where
   unfoldable pub rest1 : ℕ → Read Answer
   rest1 j = after (readAt vLong s j) (λ i l. rest2 i l)
 
-  pub at-message : (at : ℕ) → mapped replyAt (readAt (message (isAwaited o) (statusesOf tells o) flag) s at) ≡ after (readAt (between 0xa1 0xa1 1) s at) (λ m j. rest1 j)
+  pub at-message : (at : ℕ) → mapped replyAt (readAt (message (isAwaited o) (statusesOf withOld o) flag) s at) ≡ after (readAt (between 0xa1 0xa1 1) s at) (λ m j. rest1 j)
   unfolding message fields rest1 rest2 rest3 rest4 rest5 mapped
   at-message at = simp (at-type, at-seq, at-guard, at-between, after-after, at-cond, only)

@@ -109,9 +109,9 @@ module _ (s : List ℕ) (b : Bytes s) where
     same : answered s (replyAt m n) ≡ m
     steps : Stepped (bulkOf (m .op)) (m .payload .entries) n
 
-  message-shown : (tells : Bool) (o : Operation) (flag : Bool) (m : Reply) (n : ℕ) → readAt (message (isAwaited o) (statusesOf tells o) flag) s 0 ≡ whole m n → Shown m n
+  message-shown : (withOld : Bool) (o : Operation) (flag : Bool) (m : Reply) (n : ℕ) → readAt (message (isAwaited o) (statusesOf withOld o) flag) s 0 ≡ whole m n → Shown m n
   unfolding message fields replyAt
-  message-shown tells o flag m n e =
+  message-shown withOld o flag m n e =
       let x = typed _ _ _ _ s 0 m n e in
       let a = halves _ _ s 0 _ n (x .read) in
       let i = halves _ _ s _ _ n (a .second) in
@@ -121,12 +121,12 @@ module _ (s : List ℕ) (b : Bytes s) where
       let d = body-stands (k .mid) _ n _ (k .second) in
       let w = x .val .1 .1 .0 in
       let u = x .val .1 .1 .1 .0 in
-      let g = bulk-form flag tells o w u (passed-at (isAwaited o) 4 byte s _ w _ (c .first)) (passed-at (λ y. isAllowed (bodyAt y (statusesOf tells o w))) 8 byte s _ u _ (t .first)) in
+      let g = bulk-form flag withOld o w u (passed-at (isAwaited o) 4 byte s _ w _ (c .first)) (passed-at (λ y. isAllowed (bodyAt y (statusesOf withOld o w))) 8 byte s _ u _ (t .first)) in
       subst (λ (q : Reply). Shown q n) (x .same) (record { same = rw (d .value, d .text, g, d .entries); steps = rw g (d .steps) })
 
   shown : (flag : Bool) (w : Awaited) (m : Reply) (n : ℕ) → replyTo flag w .dec s ≡ whole m n → Shown m n
   unfolding refuse
-  shown flag (known e o) m n x = message-shown (e .tells && flag) o flag m n (at-front _ s ∙ x)
+  shown flag (known e o) m n x = message-shown (e .oldStatuses && flag) o flag m n (at-front _ s ∙ x)
   shown flag (refused k) m n x = never (cc)
 
   -- the entries of a bulk reply are read step by step from where they stand: `listing::next_entry` is such a step

@@ -35,8 +35,8 @@ pub fn read_reply(s: &[u8], asked: Asked) -> ReplyRead
     let awaited = rules::awaited_by(asked);
     match awaited {
         Awaited::Known(o) => {
-            let tells = rules::tells(asked.version, asked.flag);
-            read::read_message(s, o, tells, asked.flag)
+            let old = rules::with_old(asked.version, asked.flag);
+            read::read_message(s, o, old, asked.flag)
         }
         Awaited::Refused(k) => ReplyRead::Refused(k),
     }

@@ -147,9 +147,9 @@ fn read_body(s: &[u8], c: Cursor, a: ReplyHead, f: Form) -> ReplyRead
     }
 }
 
-// The reply to an operation that is served. tells: its status tells of an old value.
-pub(crate) fn read_message(s: &[u8], o: Operation, tells: bool, flag: bool) -> ReplyRead
-    ensures { λ r. ⌜ asReply r ≡ mapped replyAt (readAt (message (isAwaited o) (statusesOf tells o) flag) (now (s .entry)) 0) ⌝ }
+// The reply to an operation that is served. old: the status says whether an old value follows.
+pub(crate) fn read_message(s: &[u8], o: Operation, old: bool, flag: bool) -> ReplyRead
+    ensures { λ r. ⌜ asReply r ≡ mapped replyAt (readAt (message (isAwaited o) (statusesOf old o) flag) (now (s .entry)) 0) ⌝ }
 {
     let r1 = field::read_between(s, Cursor { at: 0 }, 0xa1, 0xa1, 1);
     let NumberRead::Whole(_, c1) = r1 else {
@@ -170,7 +170,7 @@ pub(crate) fn read_message(s: &[u8], o: Operation, tells: bool, flag: bool) -> R
     let ByteRead::Whole(status, c4) = r4 else {
         return ReplyRead::More;
     };
-    let b = rules::body_at(tells, o, op, status);
+    let b = rules::body_at(old, o, op, status);
     if !rules::is_allowed(b) {
         return ReplyRead::Refused(8);
     }

@@ -1,24 +1,25 @@
 -- The laws of a reply's writer: its rules, its length, and its fields one after the other. Assumes nothing.
 use mathlib.Core.Path.{_≡_, refl, sym, ap, _∙_}
 use mathlib.Core.List.{List, [], _∷_, _++_, append-assoc}
-use mathlib.Core.Bool.{Bool, true, false, _&&_, _||_}
+use mathlib.Core.Bool.{Bool, true, false, cond, _&&_, _||_}
 use mathlib.Core.Option.{Option, some}
 use Prim.Native.Nat.{ℕ, _+_, _≤_, _<_}
-use native.Mathlib.Nat.{add-zero}
+use native.Mathlib.Nat.{zero-add, add-zero}
 use native.Mathlib.Decide.{decLt}
 use native.Mathlib.Omega.{arith}
-use lib.ListN.{length, length-append}
+use lib.ListN.{length, drop, length-append}
+use lib.Seq.{sets, sets-eq, length-sets}
 use lib.Dec.{eqb, ltb, leb, lit<}
 use borrow.Author.Tests.{lt-ltb, leb-true, leb-false, eqb-true, ne-eqb}
 use Rattle.wire.specs.Codec.{Codec, Valid, Bytes, empty, refuse, byte, seq, guard, as-type, all}
 use Rattle.wire.specs.Number.{vLong}
 use Rattle.wire.specs.Field.{entryVersion, limited}
 use Rattle.wire.specs.Listed.{moreByte, behind, item, others, listed}
-use Rattle.wire.specs.Write.{Room, Wrote, putAt, written, kept, send}
+use Rattle.wire.specs.Write.{Room, Wrote, putAt, Sent, written, kept, send}
 use Rattle.wire.proofs.Laws.{never, and, both, and-false}
 use Rattle.wire.proofs.FieldLaws.{big-length, limited-good, limited-long, limited-over, limited-length}
 use Rattle.wire.proofs.ListedEnc.{listed-some}
-use Rattle.wire.proofs.WriteLaws.{send-broken, send-short, send-done, put-wrote, put-moved, put-kept, wrote-seq, wrote-first, wrote-second, wrote-guard, wrote-type}
+use Rattle.wire.proofs.WriteLaws.{count, send-broken, send-short, send-done, send-room, put-wrote, put-moved, put-kept, wrote-seq, wrote-first, wrote-second, wrote-guard, wrote-type}
 use Rattle.text.specs.Text.{isText}
 use Rattle.field.specs.FieldRead.{limitedText}
 use Rattle.statistics.specs.Statistics.{statistics}
@@ -34,8 +35,8 @@ use Rattle.message.specs.Listing.{itemOf, listing}
 use Rattle.message.specs.ReplyTable as m
 use Rattle.message.specs.ReplyTable.{Body, table, bodyAt, isAllowed, allowed}
 use Rattle.message.specs.Payload.{Payload, payload, counted, bulkPayload, noEntryVersion, noValue, noText, noLists, textLimit, noBody, valueBody, versionedBody, textBody, statisticsBody, listedBody, fieldsOf, formOf}
-use Rattle.message.specs.Reply.{Reply, bulkOperation, bulkReply, toReply, fromReply, fields, message, isAwaited, statusesOf, Awaited, known, refused, awaited, replyTo, reply}
-use Rattle.reply_writer.specs.Frame.{framed, answersTo}
+use Rattle.message.specs.Reply.{Reply, bulkOperation, bulkReply, toReply, fromReply, fields, message, isAwaited, statusesOf, Awaited, known, refused, awaited, replyTo, reply, entriesReply}
+use Rattle.reply_writer.specs.Frame.{framed, answersTo, sentHead}
 
 -- a body that carries nothing
 none-sent : (x y z : Bool) → ((x && (y && z)) && true) ≡ ((x && y) && z)
@@ -306,14 +307,23 @@ module _ (values : Bool) (id : ℕ) (es : List (List ℕ × List ℕ)) (old : Li
           send-done (framed (listedBody values)) _ old (bulk-valid values id es v (bulk-moved .0)) (omega (arith, bulk-moved .1, bulk-length values id es, l)) _ _
           (bulk-wrote values id es bulk-mid (rw q at y))
 
+-- what a message that was sent left of the list
+sent-wrote : {A : Type 0} (c : Codec A) (a : A) (old : List ℕ) {new : List ℕ} {n : ℕ} → Valid c a → Room c a 0 old → (written n, new) ≡ send c a old → Wrote c a old new 0 n
+sent-wrote c a old {new} {n} v h e =
+    let x = e ∙ send-room c a old v h in
+    let p : n ≡ length (c .enc a) = count (ap (λ (y : Sent × List ℕ). y .0) x) in
+    let q : new ≡ c .enc a ++ drop (length (c .enc a)) old = ap (λ (y : Sent × List ℕ). y .1) x in
+    let d : new ≡ sets old 0 (c .enc a) = q ∙ sym (sets-eq (c .enc a) old 0 (omega (arith, h)) ∙ rw zero-add) in
+    record { next = p ∙ sym (zero-add _); list = d; long = ap length d ∙ length-sets old 0 (c .enc a) }
+
 -- or the header is written first, and they behind it
 pub bulk-behind : (values : Bool) (id : ℕ) (es : List (List ℕ × List ℕ)) (old : List ℕ) {mid new : List ℕ} {n r : ℕ} → Valid vLong id → Valid (listing values) es
-    → 4 + length (vLong .enc id) + length (listing values .enc es) ≤ length old → (n, mid) ≡ putAt (framed noBody) (bulkReply values id []) 0 old
+    → 4 + length (vLong .enc id) + length (listing values .enc es) ≤ length old → (written n, mid) ≡ send (framed noBody) (bulkReply values id []) old
     → (Room (listing values) es n mid → Wrote (listing values) es mid new n r) → (written r, new) ≡ send (framed (listedBody values)) (bulkReply values id es) old
 unfolding seq
 bulk-behind values id es old v g h e f =
     let l = head-length values id in
-    let x = put-wrote (framed noBody) (bulkReply values id []) 0 old (head-ok values id v) (omega (arith, l)) _ _ e in
+    let x = sent-wrote (framed noBody) (bulkReply values id []) old (head-ok values id v) (omega (arith, l)) e in
     let w = wrote-seq (framed noBody) (λ _. listing values) x (f (omega (arith, l, x .next, x .long))) in
     send-done (framed (listedBody values)) _ old (bulk-valid values id es v g) (omega (arith, bulk-length values id es)) _ _
     (record { next = w .next ∙ rw (bulk-enc values id es); list = w .list ∙ rw (bulk-enc values id es); long = w .long })
@@ -324,7 +334,7 @@ unfolding reply send refuse
 send-unawaited a r old = go (awaited a)
   where
     go : (w : Awaited) → answersTo (r .op) w ≡ false → (kept 16, old) ≡ send (replyTo (a .flag) w) r old
-    go (known e o) h = send-other (isAwaited o) (statusesOf (e .tells && a .flag) o) (a .flag) r old h
+    go (known e o) h = send-other (isAwaited o) (statusesOf (e .oldStatuses && a .flag) o) (a .flag) r old h
     go (refused k) h = refl
 
 -- the operation whose reply has a code, which is not that of an error
@@ -337,14 +347,14 @@ code-is o p h = same-code o p (go (eqb (codeOf p + 1) (codeOf o + 1)) refl (rw (
 
 -- a reply of status 00 to an operation that has no old value, which is awaited
 pub send-awaited : (a : Asked) (p : Operation) (r : Reply) (old : List ℕ) (b : Body) → r .op ≡ codeOf p + 1
-    → ((tells : Bool) → bodyAt (r .status) (table tells p) ≡ some b) → answersTo (r .op) (awaited a) ≡ true
+    → ((withOld : Bool) → bodyAt (r .status) (table withOld p) ≡ some b) → answersTo (r .op) (awaited a) ≡ true
     → send (framed (fieldsOf (formOf (a .flag) b))) r old ≡ send (reply a) r old
 unfolding reply
 send-awaited a p r old b c h = go (awaited a)
   where
     go : (w : Awaited) → answersTo (r .op) w ≡ true → send (framed (fieldsOf (formOf (a .flag) b))) r old ≡ send (replyTo (a .flag) w) r old
     go (known e o) q =
-        let t = e .tells && a .flag in
+        let t = e .oldStatuses && a .flag in
         let i : o ≡ p = code-is o p (rw c at q) in
         let s : bodyAt (r .status) (statusesOf t o (r .op)) ≡ some b = rw (i, c, statuses-are t p) (h t) in
         sym (ap (λ (x : Option Body). send (framed (fieldsOf (formOf (a .flag) (allowed x)))) r old) s)
@@ -355,5 +365,32 @@ send-awaited a p r old b c h = go (awaited a)
 pub send-bulk : (a : Asked) (values : Bool) (id : ℕ) (es : List (List ℕ × List ℕ)) (old : List ℕ) → answersTo (codeOf (bulkOperation values) + 1) (awaited a) ≡ true
     → send (framed (listedBody values)) (bulkReply values id es) old ≡ send (reply a) (bulkReply values id es) old
 unfolding fieldsOf bodyAt
-send-bulk a true id es old = send-awaited a BulkGet (bulkReply true id es) old m.entries refl (λ tells. refl)
-send-bulk a false id es old = send-awaited a BulkGetKeys (bulkReply false id es) old m.keys refl (λ tells. refl)
+send-bulk a true id es old = send-awaited a BulkGet (bulkReply true id es) old m.entries refl (λ withOld. refl)
+send-bulk a false id es old = send-awaited a BulkGetKeys (bulkReply false id es) old m.keys refl (λ withOld. refl)
+
+pub head-awaited : (a : Asked) (id : ℕ) (old : List ℕ) {p : Sent × List ℕ} → answersTo (entriesReply a id [] .op) (awaited a) ≡ true
+    → p ≡ send (framed noBody) (entriesReply a id []) old → p ≡ sentHead a id old
+head-awaited a id old h e = rw h e
+
+-- the header of what was asked: where it was sent the reply is awaited, and where it was not, the reply with any entries is not
+module _ (a : Asked) (id : ℕ) (old : List ℕ) {x : Sent} {mid : List ℕ} (e : (x, mid) ≡ sentHead a id old) where
+  pub head-sent : (n : ℕ) → x ≡ written n
+      → (answersTo (entriesReply a id [] .op) (awaited a) ≡ true) × ((written n, mid) ≡ send (framed noBody) (entriesReply a id []) old)
+  head-sent n w = go (answersTo (entriesReply a id [] .op) (awaited a)) refl (rw w at e)
+    where
+      go : (t : Bool) → answersTo (entriesReply a id [] .op) (awaited a) ≡ t
+          → _≡_ {A = Sent × List ℕ} (written n, mid) (cond t (send (framed noBody) (entriesReply a id []) old) (kept 16, old))
+          → (answersTo (entriesReply a id [] .op) (awaited a) ≡ true) × ((written n, mid) ≡ send (framed noBody) (entriesReply a id []) old)
+      go true p q = (p, q)
+      go false p q = let z = ap (λ (y : Sent × List ℕ). y .0) q in never (cc)
+
+  pub head-unsent : (k : ℕ) → x ≡ kept k → Valid vLong id → 4 + length (vLong .enc id) ≤ length old → (es : List (List ℕ × List ℕ)) → (x, mid) ≡ send (reply a) (entriesReply a id es) old
+  head-unsent k w v l es = go (answersTo (entriesReply a id [] .op) (awaited a)) refl e
+    where
+      go : (t : Bool) → answersTo (entriesReply a id [] .op) (awaited a) ≡ t → (x, mid) ≡ cond t (send (framed noBody) (entriesReply a id []) old) (kept 16, old)
+          → (x, mid) ≡ send (reply a) (entriesReply a id es) old
+      go true p q =
+          let values = eqb (a .op) (codeOf BulkGet) in
+          let z = ap (λ (y : Sent × List ℕ). y .0) (q ∙ send-room (framed noBody) (bulkReply values id []) old (head-ok values id v) (omega (arith, head-length values id, l))) in
+          never (cc)
+      go false p q = q ∙ send-unawaited a (entriesReply a id es) old p

@@ -1,13 +1,15 @@
 -- A reply by its header and its body.
 use mathlib.Core.List.{List, []}
-use mathlib.Core.Bool.{Bool, false}
+use mathlib.Core.Bool.{Bool, false, cond}
 use Prim.Native.Nat.{ℕ}
 use lib.Dec.{eqb}
 use Rattle.wire.specs.Codec.{Codec, byte, guard, seq, as-type, all}
 use Rattle.wire.specs.Number.{vLong}
+use Rattle.wire.specs.Write.{Sent, kept, send}
 use Rattle.message.specs.ReplyTable.{errorCode}
-use Rattle.message.specs.Payload.{Payload, payload}
-use Rattle.message.specs.Reply.{Reply, toReply, fromReply, isAwaited, Awaited, known, refused}
+use Rattle.message.specs.Payload.{Payload, payload, noBody}
+use Rattle.message.specs.Reply.{Reply, toReply, fromReply, isAwaited, Awaited, known, refused, awaited, entriesReply}
+use Rattle.message.specs.declared.Asked.{Asked}
 use Rattle.message.specs.declared.ReplyHead.{ReplyHead}
 
 -- whether a reply with an operation is the one awaited
@@ -32,3 +34,7 @@ framed c =
 -- an error reply of a status and a text
 abbrev pub errorOf : ℕ → ℕ → List ℕ → Reply
 errorOf id status text = record { id = id; op = errorCode; status = status; payload = payload 0 [] text }
+
+-- The header of the reply to bulkGet or to bulkGetKeys, as a writer sends it into a buffer: nothing else that was asked has one.
+abbrev pub sentHead : Asked → ℕ → List ℕ → Sent × List ℕ
+sentHead a id old = cond (answersTo (entriesReply a id [] .op) (awaited a)) (send (framed noBody) (entriesReply a id []) old) (kept 16, old)

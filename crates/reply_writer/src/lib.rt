@@ -4,23 +4,20 @@ mod listed;
 mod write;
 
 use field::EntryVersion;
-use field::put;
 use message::Asked;
 use message::ReplyHead;
 use message::Sent;
 use rules::Awaited;
 use statistics::Statistics;
 ghost use mathlib.Core.Path.{_≡_};
-ghost use mathlib.Core.List.{[]};
 ghost use Prim.Native.Nat.{_≤_};
-ghost use Rattle.wire.specs.Write.{putAt, send};
+ghost use Rattle.wire.specs.Write.{send};
 ghost use Rattle.message.specs.Sent.{asSent};
 ghost use Rattle.statistics.specs.Statistics.{listOf};
 ghost use Rattle.listing.specs.EntryWrite.{listedIn};
-ghost use Rattle.message.specs.Payload.{noBody};
-ghost use Rattle.message.specs.Reply.{awaited, reply, replyOf, errorReply, statisticsReply, bulkReply, entriesReply};
+ghost use Rattle.message.specs.Reply.{awaited, reply, replyOf, errorReply, statisticsReply, entriesReply};
 ghost use Rattle.message.specs.Refusal.{refusal};
-ghost use Rattle.reply_writer.specs.Frame.{framed, errorOf, answersTo};
+ghost use Rattle.reply_writer.specs.Frame.{errorOf, answersTo, sentHead};
 
 // The reply to what was asked: its numbers, value and text. What is not sent is 0 or empty. A reply to stats has no written form without its
 // statistics: it is 16 here, and `write_statistics` writes it. A reply to bulkGet or bulkGetKeys has no entries here: `write_entries` writes those.
@@ -34,8 +31,8 @@ pub fn write_reply(out: &mut [u8], asked: Asked, head: ReplyHead, value: &[u8], 
     if !rules::is_awaited(o, head.op) {
         return Sent::Refused(16);
     }
-    let tells = rules::tells(asked.version, asked.flag);
-    let b = rules::body_at(tells, o, head.op, head.status);
+    let old = rules::with_old(asked.version, asked.flag);
+    let b = rules::body_at(old, o, head.op, head.status);
     if !rules::is_allowed(b) {
         return Sent::Refused(16);
     }
@@ -75,17 +72,15 @@ pub fn write_entries(out: &mut [u8], asked: Asked, id: u64, bytes: &[u8], number
     listed::write_listed(out, id, values, bytes, numbers)
 }
 
-// The header of a reply to bulkGet, or to bulkGetKeys where values are not asked for, at the front: the entries are to be written behind it.
-pub fn put_bulk_head(out: &mut [u8], id: u64, values: bool) -> usize
-    ensures { λ r. ⌜ (r, now (out .exit)) ≡ putAt (framed noBody) (bulkReply values id []) 0 (now (out .entry)) ⌝ }
+// The header of the reply to bulkGet or to bulkGetKeys, at the front: the entries are to be written behind it. Where something else was asked it is 16.
+pub fn write_bulk_head(out: &mut [u8], asked: Asked, id: u64) -> Sent
+    ensures { λ r. ⌜ (asSent r, now (out .exit)) ≡ sentHead asked id (now (out .entry)) ⌝ }
 {
-    if 0x7fff_ffff_ffff_ffff < id {
-        return 0;
+    let values = asked.op == 0x19;
+    if !is_reply(asked, listed::bulk_code(values)) {
+        return Sent::Refused(16);
     }
-    if out.len() < 4 + put::number_len(id) {
-        return 0;
-    }
-    listed::put_head(out, id, values)
+    listed::write_head(out, id, values)
 }
 
 // The error reply of a refusal, whatever was asked.

@@ -23,7 +23,7 @@ pub(crate) fn bulk_code(values: bool) -> u8
 }
 
 // The header alone.
-pub(crate) fn put_head(out: &mut [u8], id: u64, values: bool) -> usize
+fn put_head(out: &mut [u8], id: u64, values: bool) -> usize
     requires { ⌜ Valid (framed noBody) (bulkReply values id []) ⌝ }
     requires { ⌜ Room (framed noBody) (bulkReply values id []) 0 (now out) ⌝ }
     ensures { λ r. ⌜ Wrote (framed noBody) (bulkReply values id []) (now (out .entry)) (now (out .exit)) 0 r ⌝ }
@@ -34,6 +34,19 @@ pub(crate) fn put_head(out: &mut [u8], id: u64, values: bool) -> usize
     let c3 = put::put_byte(out, c2, op);
     let c4 = put::put_byte(out, c3, 0);
     put::put_byte(out, c4, 0)
+}
+
+// The header alone, judged and measured.
+pub(crate) fn write_head(out: &mut [u8], id: u64, values: bool) -> Sent
+    ensures { λ r. ⌜ (asSent r, now (out .exit)) ≡ send (framed noBody) (bulkReply values id []) (now (out .entry)) ⌝ }
+{
+    if 0x7fff_ffff_ffff_ffff < id {
+        return Sent::Refused(16);
+    }
+    if out.len() < 4 + put::number_len(id) {
+        return Sent::Refused(12);
+    }
+    Sent::Written(put_head(out, id, values))
 }
 
 // The entries come first, behind the place of the header: where they are not written, nothing is.

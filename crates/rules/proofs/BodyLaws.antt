@@ -82,21 +82,21 @@ is-listed b.NotAllowed k = absurd (miss (0 ∷ 1 ∷ 2 ∷ 3 ∷ 4 ∷ 5 ∷ 6 �
 abbrev plainTags : List ℕ
 plainTags = 1 ∷ 7 ∷ 8 ∷ 9 ∷ 10 ∷ 11 ∷ 12 ∷ 13 ∷ []
 
-pub told-same : (o : Operation) → OneOf plainTags (tagOf operation.the-type o) → table true o ≡ table false o
-told-same Put k = absurd (miss plainTags 0 tt k)
-told-same Get k = refl
-told-same PutIfAbsent k = absurd (miss plainTags 2 tt k)
-told-same Replace k = absurd (miss plainTags 3 tt k)
-told-same ReplaceIfUnmodified k = absurd (miss plainTags 4 tt k)
-told-same Remove k = absurd (miss plainTags 5 tt k)
-told-same RemoveIfUnmodified k = absurd (miss plainTags 6 tt k)
-told-same ContainsKey k = refl
-told-same GetWithVersion k = refl
-told-same Clear k = refl
-told-same Stats k = refl
-told-same Ping k = refl
-told-same BulkGet k = refl
-told-same BulkGetKeys k = refl
+pub with-old-same : (o : Operation) → OneOf plainTags (tagOf operation.the-type o) → table true o ≡ table false o
+with-old-same Put k = absurd (miss plainTags 0 tt k)
+with-old-same Get k = refl
+with-old-same PutIfAbsent k = absurd (miss plainTags 2 tt k)
+with-old-same Replace k = absurd (miss plainTags 3 tt k)
+with-old-same ReplaceIfUnmodified k = absurd (miss plainTags 4 tt k)
+with-old-same Remove k = absurd (miss plainTags 5 tt k)
+with-old-same RemoveIfUnmodified k = absurd (miss plainTags 6 tt k)
+with-old-same ContainsKey k = refl
+with-old-same GetWithVersion k = refl
+with-old-same Clear k = refl
+with-old-same Stats k = refl
+with-old-same Ping k = refl
+with-old-same BulkGet k = refl
+with-old-same BulkGetKeys k = refl
 
 pub no-old : (o : Operation) → OneOf plainTags (tagOf operation.the-type o) → hasOld o ≡ false
 no-old Put k = absurd (miss plainTags 0 tt k)

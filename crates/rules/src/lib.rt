@@ -13,7 +13,7 @@ ghost use Rattle.message.specs.Edition.{early};
 ghost use Rattle.message.specs.Arguments.{shapeOf};
 ghost use Rattle.message.specs.Request.{isVersion, editionAt};
 ghost use Rattle.message.specs.declared.Operation.the-variants.{ReplaceIfUnmodified};
-ghost use Rattle.message.specs.ReplyTable.{bodyAt, table, errors, isAllowed, allowed, hasOld, turned, toldStatus};
+ghost use Rattle.message.specs.ReplyTable.{bodyAt, table, errors, isAllowed, allowed, hasOld, statusWithOld, replyStatus};
 ghost use Rattle.message.specs.Payload.{formOf, oldForm};
 ghost use Rattle.message.specs.Reply.{statusesOf, isAwaited, awaited};
 ghost use Rattle.rules.specs.Awaited.{asAwaited};
@@ -102,9 +102,9 @@ pub fn has_transaction(version: u8) -> bool
     version != 20
 }
 
-// Does the status of a reply tell that an old value follows, where flag 0x0001 was set or not?
-pub fn tells(version: u8, flag: bool) -> bool
-    ensures { λ r. ⌜ r ≡ (editionAt version .tells && flag) ⌝ }
+// Does the status of a reply say whether an old value follows, by the version and whether flag 0x0001 was set?
+pub fn with_old(version: u8, flag: bool) -> bool
+    ensures { λ r. ⌜ r ≡ (editionAt version .oldStatuses && flag) ⌝ }
 {
     version == 20 && flag
 }
@@ -169,7 +169,7 @@ fn pick(status: u8, a: Body, b: Body, c: Body) -> Body
     }
 }
 
-// The reply table, where the status does not tell of an old value, ..
+// The reply table, where the status does not say whether an old value follows, ..
 fn in_table(o: Operation, status: u8) -> Body
     ensures { λ r. ⌜ asBody r ≡ bodyAt status (table false o) ⌝ }
 {
@@ -214,21 +214,21 @@ fn of_three(status: u8, s: u8, a: Body, t: u8, b: Body, u: u8, c: Body) -> Body
 }
 
 // .. and where it does.
-fn in_told(o: Operation, status: u8) -> Body
+fn in_table_with_old(o: Operation, status: u8) -> Body
     ensures { λ r. ⌜ asBody r ≡ bodyAt status (table true o) ⌝ }
 {
     match o {
         Operation::Put => of_two(status, 0x00, Body::Nothing, 0x03, Body::Value),
         Operation::PutIfAbsent => of_two(status, 0x00, Body::Nothing, 0x04, Body::Value),
         Operation::Replace => of_two(status, 0x03, Body::Value, 0x01, Body::Nothing),
-        Operation::ReplaceIfUnmodified => told_if(status),
+        Operation::ReplaceIfUnmodified => unmodified_with_old(status),
         Operation::Remove => of_two(status, 0x03, Body::Value, 0x02, Body::Nothing),
-        Operation::RemoveIfUnmodified => told_if(status),
+        Operation::RemoveIfUnmodified => unmodified_with_old(status),
         _ => in_table(o, status),
     }
 }
 
-fn told_if(status: u8) -> Body
+fn unmodified_with_old(status: u8) -> Body
     ensures { λ r. ⌜ asBody r ≡ bodyAt status (table true ReplaceIfUnmodified) ⌝ }
 {
     of_three(
@@ -257,8 +257,8 @@ fn has_old(op: Operation) -> bool
     }
 }
 
-fn turn(status: u8) -> u8
-    ensures { λ r. ⌜ r ≡ turned status ⌝ }
+fn status_with_old(status: u8) -> u8
+    ensures { λ r. ⌜ r ≡ statusWithOld status ⌝ }
 {
     match status {
         0x00 => 0x03,
@@ -267,16 +267,16 @@ fn turn(status: u8) -> u8
     }
 }
 
-// The status that a reply tells, of the one planned.
-pub fn told_status(tells: bool, op: Operation, held: bool, status: u8) -> u8
-    ensures { λ r. ⌜ r ≡ toldStatus tells op held status ⌝ }
+// The status of the reply, of the one planned.
+pub fn reply_status(old: bool, op: Operation, held: bool, status: u8) -> u8
+    ensures { λ r. ⌜ r ≡ replyStatus old op held status ⌝ }
 {
     if !has_old(op) {
         return status;
     }
-    if tells {
+    if old {
         if held {
-            return turn(status);
+            return status_with_old(status);
         }
     }
     status
@@ -295,14 +295,14 @@ fn in_errors(status: u8) -> Body
     Body::Text
 }
 
-pub fn body_at(tells: bool, o: Operation, op: u8, status: u8) -> Body
-    ensures { λ r. ⌜ asBody r ≡ bodyAt status (statusesOf tells o op) ⌝ }
+pub fn body_at(old: bool, o: Operation, op: u8, status: u8) -> Body
+    ensures { λ r. ⌜ asBody r ≡ bodyAt status (statusesOf old o op) ⌝ }
 {
     if op == 0x50 {
         return in_errors(status);
     }
-    if tells {
-        in_told(o, status)
+    if old {
+        in_table_with_old(o, status)
     } else {
         in_table(o, status)
     }
@@ -323,8 +323,8 @@ pub fn form_of(flag: bool, b: Body) -> Form
 {
     match b {
         Body::Nothing => Form::Nothing,
-        Body::Old => old(flag, Reply::VALUE),
-        Body::OldNone => old(flag, 0),
+        Body::Old => old_form(flag, Reply::VALUE),
+        Body::OldNone => old_form(flag, 0),
         Body::Value => Form::Value(Reply::VALUE),
         Body::Versioned => Form::Versioned,
         Body::Text => Form::Text,
@@ -335,7 +335,7 @@ pub fn form_of(flag: bool, b: Body) -> Form
     }
 }
 
-fn old(flag: bool, lim: u64) -> Form
+fn old_form(flag: bool, lim: u64) -> Form
     ensures { λ r. ⌜ r ≡ oldForm flag lim ⌝ }
 {
     if flag {

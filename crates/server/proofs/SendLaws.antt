@@ -19,14 +19,13 @@ use Rattle.wire.proofs.Laws.{never}
 use Rattle.wire.proofs.NumberLaws.{valid}
 use Rattle.wire.proofs.WriteLaws.{send-room}
 use Rattle.message.specs.declared.Operation.{Operation}
-use Rattle.message.specs.declared.Operation.the-variants.{Stats}
+use Rattle.message.specs.declared.Operation.the-variants.{Stats, BulkGet}
 use Rattle.message.specs.Operation.{codeOf}
 use Rattle.message.specs.declared.Asked.{Asked}
-use Rattle.message.specs.Edition.{Edition}
 use Rattle.message.specs.Request.{Request, editionAt}
-use Rattle.message.specs.ReplyTable.{table, bodyAt, allowed, toldStatus}
+use Rattle.message.specs.ReplyTable.{table, bodyAt, allowed, replyStatus}
 use Rattle.message.specs.Payload.{payload, formOf}
-use Rattle.message.specs.Reply.{Reply, statusesOf, awaited, Awaits, reply, errorReply, statisticsReply, bulkOperation, bulkReply}
+use Rattle.message.specs.Reply.{Reply, statusesOf, reply, errorReply, statisticsReply, bulkOperation, bulkReply}
 use Rattle.message.specs.Listing.{listing}
 use Rattle.message.specs.Refusal.{refusal}
 use Rattle.message.proofs.ErrorLaws.{refusal-good}
@@ -35,9 +34,8 @@ use Rattle.message.proofs.ReplySize.{error-most}
 use Rattle.map.specs.State.{Entry}
 use Rattle.map.specs.Plan.{plans, plan}
 use Rattle.map.specs.Shown.{noValue, value, shows, wanted, lowest, listedBy}
-use Rattle.map.specs.Step.{mostKeys, Context, wantsOld, tellsOld, isNone, versionOf, held, planned, statistics, statusOf, result}
+use Rattle.map.specs.Step.{mostKeys, Context, wantsOld, withOld, isNone, versionOf, held, planned, statistics, statusOf, result}
 use Rattle.map.specs.Reply.{Piece, flat, pieces, payloadOf, pairOf, replyTo, askedBy}
-use Rattle.reply_writer.specs.Frame.{answersTo}
 use Rattle.map.proofs.Format.{asks, pieces-reply, reply-valid, bulk-reply, result-most}
 use Rattle.map.specs.Table.{Sizes}
 use Rattle.map.proofs.ListedLaws.{each-take, listed-is}
@@ -150,8 +148,8 @@ unfolding roomOf
 room-tags o k = eqb-true room (roomOf o) (every-of shortTags (λ o. eqb room (roomOf o)) refl o k)
 
 -- what the code holds is what the map finds
-pub held-told : (t k : List ℕ) (x : Held) → Holds t k x → isNone (heldVersion x) ≡ isNone (heldAt t k)
-held-told t k x h = ap isNone (version-held t k x h) ∙ go (heldAt t k)
+pub held-same : (t k : List ℕ) (x : Held) → Holds t k x → isNone (heldVersion x) ≡ isNone (heldAt t k)
+held-same t k x h = ap isNone (version-held t k x h) ∙ go (heldAt t k)
   where
     go : (o : Option Entry) → isNone (versionOf o) ≡ isNone o
     go none = refl
@@ -159,40 +157,45 @@ held-told t k x h = ap isNone (version-held t k x h) ∙ go (heldAt t k)
 
 -- the form of the reply to a request, by the status
 abbrev pub form : Request → ℕ → Form
-form q s = formOf (wantsOld q) (allowed (bodyAt s (statusesOf (tellsOld q) (q .op) (codeOf (q .op) + 1))))
+form q s = formOf (wantsOld q) (allowed (bodyAt s (statusesOf (withOld q) (q .op) (codeOf (q .op) + 1))))
+
+-- values are asked for by bulkGet
+bulk-values : (values : Bool) → eqb (codeOf (bulkOperation values)) (codeOf BulkGet) ≡ values
+bulk-values true = refl
+bulk-values false = refl
 
 module _ (c : Context) {t : List ℕ} {q : Request} {y : Held} {s : ℕ} (g : Planned t q y s) where
   -- the reply to a request of such an operation, of its code, a version and a value
   abbrev made : ℕ → ℕ → ℕ → List ℕ → Reply
   made code u e v = record { id = q .id; op = code + 1; status = u; payload = payload e v [] }
 
-  -- the status that is told of the one planned
-  abbrev toldOf : ℕ → ℕ
-  toldOf n = toldStatus (tellsOld q) (q .op) (not (isNone (heldAt t (q .args .key)))) n
+  -- the status of the reply, of the one planned
+  abbrev statusFor : ℕ → ℕ
+  statusFor n = replyStatus (withOld q) (q .op) (not (isNone (heldAt t (q .args .key)))) n
 
-  pub held-sent : {code u e : ℕ} {v : List ℕ} {x : wire.Sent} (old : List ℕ) {new : List ℕ} → isPlain (q .op) ≡ true → code ≡ codeOf (q .op) → u ≡ toldOf s
+  pub held-sent : {code u e : ℕ} {v : List ℕ} {x : wire.Sent} (old : List ℕ) {new : List ℕ} → isPlain (q .op) ≡ true → code ≡ codeOf (q .op) → u ≡ statusFor s
       → e ≡ versionShown (form q u) (heldAt t (q .args .key)) → v ≡ valueShown (form q u) (heldAt t (q .args .key))
       → (x, new) ≡ send (reply (askedBy q)) (made code u e v) old → (x, new) ≡ sentTo c q (stateOf t) old
   unfolding result statusOf held planned
   held-sent old n o p e w z =
-      let k = toldOf (planned q (stateOf t) .status) in
-      let f = shown-same (formOf (wantsOld q) (allowed (bodyAt k (table (tellsOld q) (q .op))))) (statistics c (stateOf t)) (listedBy q (stateOf t)) (heldAt t (q .args .key)) (every-body (λ b. plain (formOf (wantsOld q) b)) k (table (tellsOld q) (q .op)) refl (plain-bodies (q .op) (tellsOld q) (wantsOld q) n)) in
-      z ∙ rw (o, e, w, p, statuses-are (tellsOld q) (q .op), ← (g .status), f)
+      let k = statusFor (planned q (stateOf t) .status) in
+      let f = shown-same (formOf (wantsOld q) (allowed (bodyAt k (table (withOld q) (q .op))))) (statistics c (stateOf t)) (listedBy q (stateOf t)) (heldAt t (q .args .key)) (every-body (λ b. plain (formOf (wantsOld q) b)) k (table (withOld q) (q .op)) refl (plain-bodies (q .op) (withOld q) (wantsOld q) n)) in
+      z ∙ rw (o, e, w, p, statuses-are (withOld q) (q .op), ← (g .status), f)
 
   -- the reply to stats
   pub stats-sent : {x : wire.Sent} {ns : List ℕ} (old : List ℕ) {new : List ℕ} → q .op ≡ Stats → ns ≡ statistics c (stateOf t)
       → (x, new) ≡ send (reply (askedBy q)) (statisticsReply (q .id) ns) old → (x, new) ≡ sentTo c q (stateOf t) old
-  unfolding result statusOf toldStatus planned plan plans bodyAt shows
+  unfolding result statusOf replyStatus planned plan plans bodyAt shows
   stats-sent old o e z = z ∙ rw (o, ← e)
 
   -- the reply to bulkGet and to bulkGetKeys: a table's entries ascend
-  pub bulk-sent : (values : Bool) {x : wire.Sent} {n : ℕ} (old : List ℕ) {new : List ℕ} → q .op ≡ bulkOperation values → n ≡ wanted q
-      → ((a : Asked) (e : Edition) → Awaits a e (bulkOperation values) → (x, new) ≡ sentListed a values (q .id) n (stateOf t) old)
-      → (x, new) ≡ sentTo c q (stateOf t) old
-  bulk-sent values old o e z =
+  pub bulk-sent : (values : Bool) {a : Asked} {x : wire.Sent} {n : ℕ} (old : List ℕ) {new : List ℕ} → q .op ≡ bulkOperation values → n ≡ wanted q → a ≡ askedBy q
+      → (x, new) ≡ sentListed a (q .id) n (stateOf t) old → (x, new) ≡ sentTo c q (stateOf t) old
+  bulk-sent values {n = n} old o e k z =
       let l = listed-is q (stateOf t) (g .sound .layout .order) ∙ ap (λ (n : ℕ). lowest n (stateOf t .entries)) (sym e) in
       let r = bulk-reply c q (stateOf t) values o ∙ ap (λ (es : List Entry). bulkReply values (q .id) (map (pairOf values) es)) l in
-      z (askedBy q) (editionAt (q .version)) (rw (← o) (asks q (g .valid))) ∙ sym (ap (λ (a : Reply). send (reply (askedBy q)) a old) r)
+      let d : eqb (codeOf (q .op)) (codeOf BulkGet) ≡ values = rw o (bulk-values values) in
+      (rw (k, d) at z) ∙ sym (ap (λ (a : Reply). send (reply (askedBy q)) a old) r)
 
   -- the map's reply to a request is sent
   pub reply-sent : {x : wire.Sent} (old : List ℕ) {new : List ℕ} {n : ℕ} {d : stream.Verdict} {r : Answer} → c .second < 0x1_0000_0000 → roomOf (q .op) ≤ length old
@@ -202,11 +205,6 @@ module _ (c : Context) {t : List ℕ} {q : Request} {y : Held} {s : ℕ} (g : Pl
       let b = result-most c q (stateOf t) (g .valid) (g .sound .table) k in
       sent (reply (askedBy q)) (replyTo q (result c q (stateOf t))) z (reply-valid c q (stateOf t) (g .valid) (g .sound .table) k)
       (omega (arith, ap length p, b, reply-room (q .op), l)) p h
-
--- the reply to a bulk request is awaited
-pub bulk-awaited : (a : Asked) (e : Edition) (values : Bool) → Awaits a e (bulkOperation values) → answersTo (codeOf (bulkOperation values) + 1) (awaited a) ≡ true
-bulk-awaited a e true w = rw (w .is)
-bulk-awaited a e false w = rw (w .is)
 
 longest-most : (values : Bool) → longest values ≤ 323
 longest-most true = omega arith

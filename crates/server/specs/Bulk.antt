@@ -4,11 +4,14 @@ use mathlib.Core.List.{List, map}
 use mathlib.Core.Bool.{Bool}
 use Prim.Native.Nat.{ℕ}
 use lib.ListN.{length}
+use lib.Dec.{eqb}
 use Rattle.wire.specs.Codec.{Valid}
 use Rattle.wire.specs.Write.{Room, Sent, send}
 use Rattle.message.specs.declared.Asked.{Asked}
 use Rattle.message.specs.Listing.{listing}
-use Rattle.message.specs.Reply.{reply, bulkReply}
+use Rattle.message.specs.declared.Operation.the-variants.{BulkGet}
+use Rattle.message.specs.Operation.{codeOf}
+use Rattle.message.specs.Reply.{reply, entriesReply}
 use Rattle.map.specs.State.{State}
 use Rattle.map.specs.Shown.{lowest}
 use Rattle.map.specs.Reply.{pairOf}
@@ -28,6 +31,6 @@ pub record Listable (values : Bool) (n m : ℕ) (t : List ℕ) (at : ℕ) (old :
   pub valid : Valid (listing values) (listedPairs values n (stateOf t))
   pub room : Room (listing values) (listedPairs values n (stateOf t)) at old
 
--- the reply to bulkGet, or to bulkGetKeys where values are not asked for, as a writer sends it into a buffer
-abbrev pub sentListed : Asked → Bool → ℕ → ℕ → State → List ℕ → Sent × List ℕ
-sentListed a values id n st old = send (reply a) (bulkReply values id (listedPairs values n st)) old
+-- the reply to bulkGet or to bulkGetKeys, whichever was asked, as a writer sends it into a buffer
+abbrev pub sentListed : Asked → ℕ → ℕ → State → List ℕ → Sent × List ℕ
+sentListed a id n st old = send (reply a) (entriesReply a id (listedPairs (eqb (a .op) (codeOf BulkGet)) n st)) old

@@ -139,13 +139,13 @@ fn write_held(out: &mut [u8], t: &[u8], h: Head, status: u8, held: Held) -> Sent
     let asked = asked_by(h);
     let flag = asked.flag;
     let awaited = message::code(op) + 1;
-    let tells = rules::tells(h.version, flag);
-    let told = rules::told_status(tells, op, is_held(held), status);
-    let f = rules::form_of(flag, rules::body_at(tells, op, awaited, told));
+    let old = rules::with_old(h.version, flag);
+    let sent = rules::reply_status(old, op, is_held(held), status);
+    let f = rules::form_of(flag, rules::body_at(old, op, awaited, sent));
     let a = ReplyHead {
         id: h.id,
         op: awaited,
-        status: told,
+        status: sent,
         entry: shown_version(f, held),
     };
     let value = table::value_at(t, shown_row(f, held));
@@ -164,8 +164,8 @@ fn write(out: &mut [u8], t: &[u8], h: Head, status: u8, held: Held, context: Con
             let x = table::statistics(t, second);
             reply_writer::write_statistics(out, asked_by(h), h.id, x)
         }
-        Operation::BulkGet => bulk::write_bulk(out, t, h.id, h.bulk, true),
-        Operation::BulkGetKeys => bulk::write_bulk(out, t, h.id, 0, false),
+        Operation::BulkGet => bulk::write_bulk(out, t, asked_by(h), h.id, h.bulk),
+        Operation::BulkGetKeys => bulk::write_bulk(out, t, asked_by(h), h.id, 0),
         _ => write_held(out, t, h, status, held),
     }
 }

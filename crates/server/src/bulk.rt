@@ -1,5 +1,6 @@
 // The reply to a bulk request. Its entries are written one after the other, from where they stand in the table.
 use field::put;
+use message::Asked;
 use message::Request;
 use message::Sent;
 ghost use mathlib.Core.Path.{_≡_};
@@ -12,9 +13,6 @@ ghost use Rattle.wire.specs.Listed.{item};
 ghost use Rattle.wire.specs.Write.{Room, Wrote};
 ghost use Rattle.message.specs.Listing.{itemOf, listing};
 ghost use Rattle.message.specs.Sent.{asSent};
-ghost use Rattle.message.specs.declared.Asked.{Asked};
-ghost use Rattle.message.specs.Edition.{Edition};
-ghost use Rattle.message.specs.Reply.{Awaits, bulkOperation};
 ghost use Rattle.map.specs.Shown.{lowest};
 ghost use Rattle.table.specs.Memory.{stateOf, Sound};
 ghost use Rattle.service.specs.Serve as stream;
@@ -59,10 +57,14 @@ fn put_entries(out: &mut [u8], at: usize, t: &[u8], m: usize, values: bool) -> u
     put::put_byte(out, here, 0)
 }
 
-// Writes the reply to bulkGet, or to bulkGetKeys where values are not asked for, with the first n entries, or with all where n is 0.
-pub(crate) fn write_bulk(out: &mut [u8], t: &[u8], id: u64, n: u64, values: bool) -> Sent
-    ensures { λ r. ⌜ (Sound (now (t .entry)) → Valid vLong id → stream.bulkRoom ≤ length (now (out .entry)) → (a : Asked) (e : Edition) → Awaits a e (bulkOperation values) → (asSent r, now (out .exit)) ≡ sentListed a values id n (stateOf (now (t .entry))) (now (out .entry))) ⌝ }
+// Writes the reply to bulkGet or to bulkGetKeys, whichever was asked, with the first n entries, or with all where n is 0.
+pub(crate) fn write_bulk(out: &mut [u8], t: &[u8], asked: Asked, id: u64, n: u64) -> Sent
+    ensures { λ r. ⌜ (Sound (now (t .entry)) → Valid vLong id → stream.bulkRoom ≤ length (now (out .entry)) → (asSent r, now (out .exit)) ≡ sentListed asked id n (stateOf (now (t .entry))) (now (out .entry))) ⌝ }
 {
-    let at = reply_writer::put_bulk_head(out, id, values);
+    let w = reply_writer::write_bulk_head(out, asked, id);
+    let Sent::Written(at) = w else {
+        return w;
+    };
+    let values = asked.op == 0x19;
     Sent::Written(put_entries(out, at, t, many(t, n), values))
 }

@@ -10,7 +10,7 @@ use Rattle.hex.specs.Number.{fromDigits}
 use Rattle.message.specs.Edition.{editionOf}
 use Rattle.message.specs.Operation.{findCode}
 use Rattle.message.specs.Refusal.{errorTable, errorIn, refusal}
-use Rattle.message.specs.ReplyTable.{bodyAt, toldStatus}
+use Rattle.message.specs.ReplyTable.{bodyAt, replyStatus}
 use Rattle.message.specs.Payload.{textBody, fieldsOf}
 use Rattle.message.specs.Reply.{fields, message, errorReply}
 use Rattle.message.specs.Arguments.{shapeOf, argsOf}
@@ -28,6 +28,6 @@ use Rattle.map.specs.State.{fresh, find, without}
 use Rattle.map.specs.Deadline.{deadline, expired}
 
 pub edges : All cases fresh
-unfolding cases limitedText empty byte raw guard seq as-type bigEndian limited numberDec numberEnc number vInt vLong textAfter isText digitOf isDigit digitValue toHex fromHex fromDigits editionOf findCode errorTable errorIn refusal bodyAt textBody fieldsOf fields message errorReply shapeOf argsOf operation transaction request-fields request start idIn flat shownPieces pieces sameList find without deadline expired plans plan shows entry stored held full planned statusOf toldStatus result act core swept noted arrive step onStep onRead asks onFrame lineStep
+unfolding cases limitedText empty byte raw guard seq as-type bigEndian limited numberDec numberEnc number vInt vLong textAfter isText digitOf isDigit digitValue toHex fromHex fromDigits editionOf findCode errorTable errorIn refusal bodyAt textBody fieldsOf fields message errorReply shapeOf argsOf operation transaction request-fields request start idIn flat shownPieces pieces sameList find without deadline expired plans plan shows entry stored held full planned statusOf replyStatus result act core swept noted arrive step onStep onRead asks onFrame lineStep
 edges =
     ((refl, refl), ((refl, refl), ((refl, refl), ((refl, refl), ((refl, refl), ((refl, refl), ((refl, tt), ((refl, tt), ((refl, tt), ((refl, refl), (refl, (refl, (refl, (refl, (refl, tt)))))))))))))))

@@ -12,7 +12,7 @@ returns : tie.Need-returns
 unfolding reply
 returns c =
     let a = c .before .before .before in
-    rw (← (a .before .before .awaited-by .ensures), a .awaited .given .1, ← (c .before .tells .ensures))
+    rw (← (a .before .before .awaited-by .ensures), a .awaited .given .1, ← (c .before .with-old .ensures))
     (c .read-message .ensures ∙ ap (mapped replyAt) (at-front _ _))
 
 returns-2 : tie.Need-returns-2

@@ -19,8 +19,8 @@ found c = sym (c .before .before .awaited-by .ensures) ∙ rw (c .awaited .given
 
 -- its statuses
 listed : (c : tie.After-is-allowed) → let f = c .before .before .before .before .before .before in let a = f .before .before .before .before .before .before .args in
-    isAllowed (bodyAt (a .head .status) (statusesOf (editionAt (a .asked .version) .tells && a .asked .flag) (f .awaited .given .0 .0) (a .head .op))) ≡ c .is-allowed .result
-listed c = let b = c .before in rw (← (b .before .tells .ensures)) (ap isAllowed (sym (b .body-at .ensures)) ∙ sym (c .is-allowed .ensures))
+    isAllowed (bodyAt (a .head .status) (statusesOf (editionAt (a .asked .version) .oldStatuses && a .asked .flag) (f .awaited .given .0 .0) (a .head .op))) ≡ c .is-allowed .result
+listed c = let b = c .before in rw (← (b .before .with-old .ensures)) (ap isAllowed (sym (b .body-at .ensures)) ∙ sym (c .is-allowed .ensures))
 
 returns : tie.Need-returns
 unfolding reply refuse send
@@ -34,7 +34,7 @@ returns-2 c =
     let a = f .before .before .before .before .before .before .args in
     let o = f .awaited .given .0 .0 in
     rw (found f)
-    (send-other (isAwaited o) (statusesOf (editionAt (a .asked .version) .tells && a .asked .flag) o) (a .asked .flag) (replyOf (a .head) (a .value .now) (a .text .now)) (a .out .now)
+    (send-other (isAwaited o) (statusesOf (editionAt (a .asked .version) .oldStatuses && a .asked .flag) o) (a .asked .flag) (replyOf (a .head) (a .value .now) (a .text .now)) (a .out .now)
     (sym (i .is-awaited .ensures) ∙ not-true _ (c .if1 .taken)))
 
 returns-3 : tie.Need-returns-3
@@ -45,7 +45,7 @@ returns-3 c =
     let a = f .before .before .before .before .before .before .args in
     let o = f .awaited .given .0 .0 in
     rw (found f)
-    (send-unlisted (isAwaited o) (statusesOf (editionAt (a .asked .version) .tells && a .asked .flag) o) (a .asked .flag) (replyOf (a .head) (a .value .now) (a .text .now)) (a .out .now)
+    (send-unlisted (isAwaited o) (statusesOf (editionAt (a .asked .version) .oldStatuses && a .asked .flag) o) (a .asked .flag) (replyOf (a .head) (a .value .now) (a .text .now)) (a .out .now)
     (listed i ∙ not-true _ (c .if2 .taken)))
 
 returns-4 : tie.Need-returns-4
@@ -59,10 +59,10 @@ returns-4 c =
     let f = e .before .before .before in
     let a = f .before .before .before .before .before .before .args in
     let o = f .awaited .given .0 .0 in
-    rw (found f, ← (b .before .tells .ensures))
+    rw (found f, ← (b .before .with-old .ensures))
     (w .write-message .ensures
-    ∙ (rw (← (b .before .tells .ensures), ← (b .body-at .ensures), ← (w .before .form-of .ensures)) at
-    (send-framed (isAwaited o) (statusesOf (editionAt (a .asked .version) .tells && a .asked .flag) o) (a .asked .flag) (replyOf (a .head) (a .value .now) (a .text .now)) (a .out .now)
+    ∙ (rw (← (b .before .with-old .ensures), ← (b .body-at .ensures), ← (w .before .form-of .ensures)) at
+    (send-framed (isAwaited o) (statusesOf (editionAt (a .asked .version) .oldStatuses && a .asked .flag) o) (a .asked .flag) (replyOf (a .head) (a .value .now) (a .text .now)) (a .out .now)
     (sym (e .before .is-awaited .ensures) ∙ not-false _ (e .if1 .left)) (listed i ∙ not-false _ (l .if2 .left)))))
 
 pub write-reply-spec : {M : Type 1} → statement M

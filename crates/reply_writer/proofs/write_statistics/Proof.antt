@@ -24,7 +24,7 @@ returns-2 c =
     let e = w .before .before in
     let a = e .before .before .before .args in
     w .write-counted .ensures
-    ∙ send-awaited (a .asked) Stats (statisticsReply (a .id) (listOf (a .x))) (a .out .now) m.statistics refl (λ tells. refl)
+    ∙ send-awaited (a .asked) Stats (statisticsReply (a .id) (listOf (a .x))) (a .out .now) m.statistics refl (λ withOld. refl)
     (sym (e .before .is-reply .ensures) ∙ not-false _ (e .if1 .left))
 
 pub write-statistics-spec : {M : Type 1} → statement M

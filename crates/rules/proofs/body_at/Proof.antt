@@ -9,7 +9,7 @@ returns : tie.Need-returns
 returns c = c .in-errors .ensures ∙ rw (eq-eqb _ _ (c .before .if1 .taken))
 
 returns-2 : tie.Need-returns-2
-returns-2 c = c .in-told .ensures ∙ rw (ne-eqb _ _ (c .before .before .if1 .left), c .before .if2 .taken)
+returns-2 c = c .in-table-with-old .ensures ∙ rw (ne-eqb _ _ (c .before .before .if1 .left), c .before .if2 .taken)
 
 returns-3 : tie.Need-returns-3
 returns-3 c = c .in-table .ensures ∙ rw (ne-eqb _ _ (c .before .before .if1 .left), c .before .if2 .left)

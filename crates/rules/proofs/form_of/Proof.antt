@@ -5,10 +5,10 @@ use Rattle.rules.proofs.form_of.Statement.{statement}
 use Rattle.rules.proofs.form_of.Tie as tie
 
 returns-2 : tie.Need-returns-2
-returns-2 c = c .old .ensures ∙ rw (c .before .enum-told2 .given .1)
+returns-2 c = c .old-form .ensures ∙ rw (c .before .enum-told2 .given .1)
 
 returns-3 : tie.Need-returns-3
-returns-3 c = c .old2 .ensures ∙ rw (c .before .enum-told3 .given .1)
+returns-3 c = c .old-form2 .ensures ∙ rw (c .before .enum-told3 .given .1)
 
 returns-4 : tie.Need-returns-4
 returns-4 c = rw (c .enum-told4 .given .1)

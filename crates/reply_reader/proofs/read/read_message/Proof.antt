@@ -16,20 +16,20 @@ use Rattle.reply_reader.proofs.read.read_message.Tie as tie
 
 -- what reading the reply finds, and what decides after each field
 abbrev Of : tie.Start → Read Answer
-Of s = mapped replyAt (readAt (message (isAwaited (s .args .o)) (statusesOf (s .args .tells) (s .args .o)) (s .args .flag)) (s .args .s .now) 0)
+Of s = mapped replyAt (readAt (message (isAwaited (s .args .o)) (statusesOf (s .args .old) (s .args .o)) (s .args .flag)) (s .args .s .now) 0)
 
 at1 : (c : tie.After-r1) → let s = c .before .before .before .before in
-    Of s ≡ rest1 (s .args .tells) (s .args .o) (s .args .flag) (s .args .s .now) (c .r1 .given .0 .1 .0 .at)
+    Of s ≡ rest1 (s .args .old) (s .args .o) (s .args .flag) (s .args .s .now) (c .r1 .given .0 .1 .0 .at)
 at1 c = let s = c .before .before .before .before in
-    at-message (s .args .tells) (s .args .o) (s .args .flag) (s .args .s .now) 0 ∙ rw (← (c .before .before .read-between .ensures), c .r1 .given .1)
+    at-message (s .args .old) (s .args .o) (s .args .flag) (s .args .s .now) 0 ∙ rw (← (c .before .before .read-between .ensures), c .r1 .given .1)
 
 at2 : (c : tie.After-r2) → let s = c .before .before .before .before .before .before .before .before in
-    Of s ≡ rest2 (s .args .tells) (s .args .o) (s .args .flag) (s .args .s .now) (c .r2 .given .0 .0) (c .r2 .given .0 .1 .0 .at)
+    Of s ≡ rest2 (s .args .old) (s .args .o) (s .args .flag) (s .args .s .now) (c .r2 .given .0 .0) (c .r2 .given .0 .1 .0 .at)
 unfolding rest1 vLong
 at2 c = at1 (c .before .before .before .before) ∙ rw (← (c .before .before .read-number .ensures), c .r2 .given .1)
 
 at3 : (c : tie.After-r3) → let r2 = c .before .before .before .before in let s = r2 .before .before .before .before .before .before .before .before in
-    Of s ≡ rest3 (s .args .tells) (s .args .o) (s .args .flag) (s .args .s .now) (r2 .r2 .given .0 .0) (c .r3 .given .0 .0) (c .r3 .given .0 .1 .0 .at)
+    Of s ≡ rest3 (s .args .old) (s .args .o) (s .args .flag) (s .args .s .now) (r2 .r2 .given .0 .0) (c .r3 .given .0 .0) (c .r3 .given .0 .1 .0 .at)
 unfolding rest2
 at3 c = at2 (c .before .before .before .before) ∙ rw (← (c .before .before .read-byte .ensures), c .r3 .given .1)
 
@@ -37,16 +37,16 @@ awaited : (c : tie.Else1) → let r3 = c .before .before .before in isAwaited (c
 awaited c = sym (c .before .is-awaited .ensures) ∙ not-false _ (c .if1 .left)
 
 at4 : (c : tie.After-r4) → let r3 = c .before .before .before .before .before .before in let r2 = r3 .before .before .before .before in let s = r2 .before .before .before .before .before .before .before .before in
-    Of s ≡ rest4 (s .args .tells) (s .args .o) (s .args .flag) (s .args .s .now) (r2 .r2 .given .0 .0) (r3 .r3 .given .0 .0) (c .r4 .given .0 .0) (c .r4 .given .0 .1 .0 .at)
+    Of s ≡ rest4 (s .args .old) (s .args .o) (s .args .flag) (s .args .s .now) (r2 .r2 .given .0 .0) (r3 .r3 .given .0 .0) (c .r4 .given .0 .0) (c .r4 .given .0 .1 .0 .at)
 unfolding rest3
 at4 c = at3 (c .before .before .before .before .before .before) ∙ rw (awaited (c .before .before .before), ← (c .before .before .read-byte2 .ensures), c .r4 .given .1)
 
 listed : (c : tie.After-is-allowed) → let r4 = c .before .before .before in let r3 = r4 .before .before .before .before .before .before in let r2 = r3 .before .before .before .before in let s = r2 .before .before .before .before .before .before .before .before in
-    isAllowed (bodyAt (r4 .r4 .given .0 .0) (statusesOf (s .args .tells) (s .args .o) (r3 .r3 .given .0 .0))) ≡ c .is-allowed .result
+    isAllowed (bodyAt (r4 .r4 .given .0 .0) (statusesOf (s .args .old) (s .args .o) (r3 .r3 .given .0 .0))) ≡ c .is-allowed .result
 listed c = ap isAllowed (sym (c .before .body-at .ensures)) ∙ sym (c .is-allowed .ensures)
 
 at5 : (c : tie.After-r5) → let r4 = c .before .before .before .before .before .before .before in let r3 = r4 .before .before .before .before .before .before in let r2 = r3 .before .before .before .before in let s = r2 .before .before .before .before .before .before .before .before in
-    Of s ≡ rest5 (s .args .tells) (s .args .o) (s .args .flag) (s .args .s .now) (r2 .r2 .given .0 .0) (r3 .r3 .given .0 .0) (r4 .r4 .given .0 .0) (c .r5 .given .0 .1 .0 .at)
+    Of s ≡ rest5 (s .args .old) (s .args .o) (s .args .flag) (s .args .s .now) (r2 .r2 .given .0 .0) (r3 .r3 .given .0 .0) (r4 .r4 .given .0 .0) (c .r5 .given .0 .1 .0 .at)
 unfolding rest4
 at5 c = let e = c .before .before .before in
     at4 (e .before .before .before .before) ∙ rw (listed (e .before) ∙ not-false _ (e .if2 .left), ← (c .before .before .read-between2 .ensures), c .r5 .given .1)
@@ -61,14 +61,14 @@ read-body-requires c κs =
     let s = r3 .before .before .before .before .before .before .before .before .before .before .before .before in (
       refl,
       rw (c .form-of .ensures, i .before .body-at .ensures)
-          (bulk-form (s .args .flag) (s .args .tells) (s .args .o) (r3 .r3 .given .0 .0) (i .before .before .before .r4 .given .0 .0) (awaited e1) (listed i ∙ not-false _ (e2 .if2 .left))),
+          (bulk-form (s .args .flag) (s .args .old) (s .args .o) (r3 .r3 .given .0 .0) (i .before .before .before .r4 .given .0 .0) (awaited e1) (listed i ∙ not-false _ (e2 .if2 .left))),
     )
 
 returns : tie.Need-returns
 returns c = let v = c .before .before in
     let s = v .before .before in
     c .stop .ensures
-    ∙ sym (at-message (s .args .tells) (s .args .o) (s .args .flag) (s .args .s .now) 0 ∙ rw (← (v .read-between .ensures)) (number-stops (v .read-between .result) (c .before .match .keys2) _))
+    ∙ sym (at-message (s .args .old) (s .args .o) (s .args .flag) (s .args .s .now) 0 ∙ rw (← (v .read-between .ensures)) (number-stops (v .read-between .result) (c .before .match .keys2) _))
 
 returns-2 : tie.Need-returns-2
 unfolding rest1 vLong

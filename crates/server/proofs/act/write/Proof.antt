@@ -19,16 +19,20 @@ returns c name key value l g =
 returns-2 : tie.Need-returns-2
 returns-2 c name key value l g =
     let w = c .before .before in
-    let e = w .before .before in
+    let q = w .before in
+    let e = q .before .before in
     let s = e .before .before .before .before in
-    bulk-sent (asContext (s .args .context)) g true {n = s .args .h .bulk} _ (e .enum-told2 .given .1) (rw (e .enum-told2 .given .1)) (w .write-bulk .ensures (g .sound) (parts _ (g .valid) .id) (bulk-room true (s .args .h .op) (e .enum-told2 .given .1) l))
+    bulk-sent (asContext (s .args .context)) g true {n = s .args .h .bulk} _ (e .enum-told2 .given .1) (rw (e .enum-told2 .given .1)) (q .asked-by2 .ensures name key value)
+    (w .write-bulk .ensures (g .sound) (parts _ (g .valid) .id) (bulk-room true (s .args .h .op) (e .enum-told2 .given .1) l))
 
 returns-3 : tie.Need-returns-3
 returns-3 c name key value l g =
     let w = c .before .before in
-    let k = w .before .before in
+    let q = w .before in
+    let k = q .before .before in
     let s = k .before .before .before .before in
-    bulk-sent (asContext (s .args .context)) g false {n = 0} _ (k .enum-told3 .given .1) (rw (k .enum-told3 .given .1)) (w .write-bulk2 .ensures (g .sound) (parts _ (g .valid) .id) (bulk-room false (s .args .h .op) (k .enum-told3 .given .1) l))
+    bulk-sent (asContext (s .args .context)) g false {n = 0} _ (k .enum-told3 .given .1) (rw (k .enum-told3 .given .1)) (q .asked-by3 .ensures name key value)
+    (w .write-bulk2 .ensures (g .sound) (parts _ (g .valid) .id) (bulk-room false (s .args .h .op) (k .enum-told3 .given .1) l))
 
 returns-4 : tie.Need-returns-4
 returns-4 c name key value l g =

@@ -4,11 +4,11 @@ use mathlib.Core.Bool.{Bool, not, _&&_}
 use native.Mathlib.Omega.{arith}
 use Rattle.message.specs.declared.Asked.{Asked}
 use Rattle.message.specs.Request.{editionAt, requestOf}
-use Rattle.message.specs.ReplyTable.{toldStatus}
+use Rattle.message.specs.ReplyTable.{replyStatus}
 use Rattle.message.proofs.Every.{code-small}
-use Rattle.map.specs.Step.{wantsOld, tellsOld, isNone}
+use Rattle.map.specs.Step.{wantsOld, withOld, isNone}
 use Rattle.plan.specs.Plan.{heldAt}
-use Rattle.server.proofs.SendLaws.{form, held-told, held-sent}
+use Rattle.server.proofs.SendLaws.{form, held-same, held-sent}
 use borrow.Author.Needs.{needs}
 use Rattle.server.proofs.act.write_held.Statement.{statement}
 use Rattle.server.proofs.act.write_held.Tie as tie
@@ -31,10 +31,10 @@ returns c x name key value n g =
     let r = requestOf (a .h) name key value in
     let z = q .asked-by .ensures name key value in
     let l : q .asked-by .result .flag ≡ wantsOld r = ap (λ (y : Asked). y .flag) z in
-    let m : t .tells .result ≡ tellsOld r = t .tells .ensures ∙ ap (λ (y : Bool). editionAt (a .h .version) .tells && y) l in
-    let p : k .told-status .result ≡ toldStatus (tellsOld r) (r .op) (not (isNone (heldAt (a .t .now) key))) (a .status) =
-    k .told-status .ensures ∙ rw (m, i .is-held .ensures, held-told (a .t .now) key (a .held) (g .holds)) in
-    let f : e .before .form-of .result ≡ form r (k .told-status .result) = e .before .form-of .ensures ∙ rw (b .body-at .ensures, d .code .ensures, m, l) in
+    let m : t .with-old .result ≡ withOld r = t .with-old .ensures ∙ ap (λ (y : Bool). editionAt (a .h .version) .oldStatuses && y) l in
+    let p : k .reply-status .result ≡ replyStatus (withOld r) (r .op) (not (isNone (heldAt (a .t .now) key))) (a .status) =
+    k .reply-status .ensures ∙ rw (m, i .is-held .ensures, held-same (a .t .now) key (a .held) (g .holds)) in
+    let f : e .before .form-of .result ≡ form r (k .reply-status .result) = e .before .form-of .ensures ∙ rw (b .body-at .ensures, d .code .ensures, m, l) in
     held-sent x g _ n (d .code .ensures) p (rw f at (e .shown-version .ensures (a .t .now) key (g .holds)))
     (v .value-at .ensures ∙ (rw f at (v .before .shown-row .ensures (a .t .now) key (g .sound) (g .holds)))) (rw z at (w .write-reply .ensures))
 

@@ -43,6 +43,7 @@ extern "C" {
 #define FQ_LONGEST_REQUEST 394  /* bytes of a request */
 #define FQ_LONGEST_REPLY 307    /* bytes of a reply: those of a stats reply; every other but a bulk reply has at most 279 */
 #define FQ_LONGEST_BULK 41486   /* bytes of a reply to bulkGet */
+#define FQ_LONGEST_KEYS 8449    /* bytes that fq_list_keys writes */
 #define FQ_REPLY_ROOM 512       /* least room for the reply of a call */
 #define FQ_BULK_ROOM 41600      /* least room for the reply to bulkGet and bulkGetKeys */
 #define FQ_LINES_ROOM 83201     /* least room for the lines that fq_serve_lines gives */
@@ -196,6 +197,12 @@ uint64_t fq_store(const uint8_t *table, size_t table_len, uint8_t *out, size_t o
 
 /* Loads a stored file into `table`, whatever that held: FQ_DONE, or 17, and then the table stays. A loaded table starts from second 0. */
 uint64_t fq_load(const uint8_t *file, size_t file_len, uint8_t *table, size_t table_len);
+
+/* Lists keys of a cache by their bytes, a shorter key before a longer one that it begins: of those that stand at the latest second served and are not
+   before `key`, which may be any bytes of any length, the first ones, `most` at the most; 0 gives none. Writes them at the front of `out` as the body of a
+   bulkGetKeys reply, which fq_next_entry walks through: 13, then 9 where the name is not empty, then 12 where `out` is shorter than that body, or FQ_DONE and its
+   length, FQ_LONGEST_KEYS at most. The table is only read, and this is no call: it has no second and counts in no statistic. */
+uint64_t fq_list_keys(const uint8_t *table, size_t table_len, const uint8_t *name, size_t name_len, const uint8_t *key, size_t key_len, uint64_t most, uint8_t *out, size_t out_len);
 
 #ifdef __cplusplus
 }

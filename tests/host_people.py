@@ -31,7 +31,7 @@ WRONG = [('nothing b1', 'there is no command'), ('get', 'is followed by KEY'), (
          ('removeifunmodified a', 'needs --version N'), ('put ' + 'k' * 65 + ' v', 'refused 16'), ('put k ' + 'v' * 257, 'refused 16'),
          ('list x', 'is followed by no words'), ('keys --count 1', 'no option --count'), ('list --count 4294967296', 'has to be a number'),
          ('keys --protocol 11', 'keys needs --protocol 12 or 20'), ('ping --protocol 13', '--protocol has to be 10, 11, 12 or 20'), ('ping --protocol 020', '--protocol has to be'), ('encode keys --protocol 10', 'keys needs --protocol'),
-         ('show', 'is followed by TABLE'), ('show /nowhere', 'there is no table /nowhere'), ('show /dev/null', 'is not a file'), ('encode get', 'is followed by KEY'), ('decode', 'is followed by REQUESTS'), ('decode /nowhere', "can't open /nowhere"),
+         ('show', 'is followed by TABLE'), ('show /nowhere', 'there is no table /nowhere'), ('show /dev/null', 'is not a file'), ('sheet', 'is followed by TABLE'), ('sheet a b', 'is followed by TABLE'), ('sheet /nowhere', 'there is no table /nowhere'), ('sheet /dev/null', 'is not a file'), ('encode get', 'is followed by KEY'), ('decode', 'is followed by REQUESTS'), ('decode /nowhere', "can't open /nowhere"),
          ('decode -', "can't both be standard input"), ('decode - -', "can't both be standard input"), ('encode', 'a command is missing'), ('encode put', 'is followed by KEY VALUE'),
          (b'\xff b1', 'there is no command'), (b'encode \xff', 'there is no command'), ('serve', 'is followed by TABLE'), ('serve table --what', 'no option --what'),
          ('serve table --connections 0', 'has to be a number from 1 to 100000')]
@@ -333,6 +333,23 @@ def copied(bench, clone):
         demand((done.stdout, done.stderr) == (b'built ping\n', b''), 'a copy', f'{done}')
 
 
+def sheet(bench):
+    """The keys of a stored table by their bytes, also while it is served; what stores no table is told and left as it is."""
+    keys = [b'b10', b'b9', b'', b'b', b'b1', b'b1\xc3\xa4', b'b1~', b'\xff', b'\x7f', b'B2', b'k' * 64, b'k' * 63]
+    tables = [(head_line(0), 'there are no entries\n'),
+              (head_line(300) + b''.join(entry_line(at + 1, key, b'v', at % 3 * 1000) for at, key in enumerate(keys)),
+               '(empty)\nB2\nb\nb1\nb10\nb1~\nb1\u00e4\nb9\n' + 'k' * 63 + '\n' + 'k' * 64 + '\n0x7f\n0xff\n')]
+    for at, (data, wanted) in enumerate(tables):
+        with Host(bench.table(f'sheet{at}', data)) as host:
+            done = run(['sheet', host.table])
+            demand((done.stdout.decode(), done.returncode, done.stderr) == (wanted, 0, b''), 'sheet', f'{done}, wanted {wanted!r}')
+    path = bench.table('sheets', tables[1][0][:-1])
+    done = run(['sheet', path])
+    demand(done.returncode == 1 and not done.stdout and b'refused 17: not a stored table' in done.stderr, 'sheet', f'{done}')
+    demand(read_file(path) == tables[1][0][:-1] and os.listdir(os.path.dirname(path)) == ['table'], 'sheet', 'something was touched')
+    return len(tables) + 1
+
+
 def outputs():
     """Standard output that takes nothing is an error and no silence; help tells the commands and the statuses."""
     for words in (['--version'], ['encode', 'ping']):
@@ -348,7 +365,7 @@ def helps(bench):
     first = run(['help']).stdout.decode()
     demand(run([]).stdout.decode() == run(['-h']).stdout.decode() == run(['--help']).stdout.decode() == first == parts.pop('help') + '\n', 'help', 'other words')
     demand(run(['--version']).stdout == run(['-V']).stdout and parts.pop('version').startswith('feyqoolad 1.0'), '--version', 'other words')
-    demand('exit status: 0' in first and {one.split()[0] for one, _, _ in TALK} | {'stats', 'show', 'serve', 'encode', 'decode'} <= set(parts), 'help', f'only {set(parts)}')
+    demand('exit status: 0' in first and {one.split()[0] for one, _, _ in TALK} | {'stats', 'show', 'sheet', 'serve', 'encode', 'decode'} <= set(parts), 'help', f'only {set(parts)}')
     for name, text in parts.items():
         done = run([name, '--help'])
         demand(done.stdout.decode().rstrip('\n') == text.rstrip('\n') == run(['help', name]).stdout.decode().rstrip('\n') and done.returncode == 0, f'{name} --help', f'{done}')
@@ -362,12 +379,12 @@ def helps(bench):
             options = re.findall(r'^  (--[a-z-]+)(?: (\S+))?', parts[name], re.M)
             for line in parts[name].split('examples:\n')[1].rstrip('\n').split('\n'):
                 words = line.split()[1:]
-                if name not in ('serve', 'show', 'decode') and line.startswith('  feyqoolad'):
+                if name not in ('serve', 'show', 'sheet', 'decode') and line.startswith('  feyqoolad'):
                     to = [] if name == 'encode' or '--to' in words else ['--to', f'127.0.0.1:{host.port}']
                     words = [f'127.0.0.1:{host.port}' if one == '127.0.0.1:11222' else one for one in words]
                     done = run(words[:1] + to + words[1:])
                     demand(done.returncode in (0, 2) and not done.stderr, f'an example of {name}', f'{line}: {done}')
-            if name not in ('decode', 'show'):
+            if name not in ('decode', 'show', 'sheet'):
                 # An option that is listed is taken, and needs a value where one is listed; all others are unknown.
                 for option, value in options:
                     done = run([name, option])
@@ -380,7 +397,7 @@ def helps(bench):
 
 def part():
     with Bench() as bench:
-        return f'{talk(bench) + protocols(bench) + statistics(bench)} commands, {strange_servers()} strange servers, {lines(bench)} lines, {show(bench)} tables shown, {address(bench)} without an address, {outputs()} outputs, {helps(bench)} of the help, {at_once(bench)} on a fresh clone, {script(bench)} of the script'
+        return f'{talk(bench) + protocols(bench) + statistics(bench)} commands, {strange_servers()} strange servers, {lines(bench)} lines, {show(bench)} tables shown, {sheet(bench)} sheets, {address(bench)} without an address, {outputs()} outputs, {helps(bench)} of the help, {at_once(bench)} on a fresh clone, {script(bench)} of the script'
 
 
 if __name__ == '__main__':

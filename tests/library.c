@@ -478,6 +478,50 @@ static void longest_file(void) {
     SAME(answer[18], FQ_TABLE_KEYS);
 }
 
+/* Keys in their order: what a listing writes, from a key on and at most so many, its refusals, and what it leaves alone. */
+static void lists(int line, const char *from, uint64_t most, const char *wanted, size_t wanted_len) {
+    static uint8_t before[FQ_TABLE_SIZE], room[FQ_LONGEST_KEYS];
+    memcpy(before, other, sizeof other);
+    memset(room, 0xee, sizeof room);
+    same(line, fq_list_keys(other, sizeof other, reply, 0, (const uint8_t *)from, strlen(from), most, room, wanted_len - 1), FQ_NO_ROOM);
+    for (size_t at = 0; at < sizeof room; at++) same(line, room[at], 0xee);
+    same(line, fq_list_keys(other, sizeof other, reply, 0, (const uint8_t *)from, strlen(from), most, room, wanted_len), FQ_DONE + wanted_len);
+    same_bytes(line, room, wanted_len, wanted, wanted_len);
+    for (size_t at = wanted_len; at < sizeof room; at++) same(line, room[at], 0xee);
+    same_bytes(line, other, sizeof other, before, sizeof before);
+}
+
+#define LISTS(from, most, wanted) lists(__LINE__, from, most, wanted, sizeof wanted - 1)
+
+static void listing(void) {
+    static const char *const held[] = {"b", "a\xff", "", "ab", "a", "b\x7f", "a\x80"};
+    static uint8_t frame[FQ_LONGEST_REQUEST], long_key[FQ_KEY_LIMIT + 1];
+    const uint64_t put[FQ_REQUEST_GIVEN] = {1, 12, 1, 0, 1, 0, 0, 0, 0, 0}, brief[FQ_REQUEST_GIVEN] = {1, 12, 1, 0, 1, 0, 1, 0, 0, 0};
+    SAME(fq_make(other, sizeof other), FQ_DONE);
+    LISTS("", 128, "\0");
+    for (size_t at = 0; at < sizeof held / sizeof *held; at++) {
+        uint64_t n = fq_write_request(frame, sizeof frame, put, FQ_REQUEST_GIVEN, frame, 0, (const uint8_t *)held[at], strlen(held[at]), frame, 0);
+        SAME(fq_serve(frame, n - FQ_DONE, other, sizeof other, 5, reply, FQ_REPLY_ROOM, answer, FQ_SERVE_TOLD), FQ_DONE);
+    }
+    uint64_t n = fq_write_request(frame, sizeof frame, brief, FQ_REQUEST_GIVEN, frame, 0, (const uint8_t *)"aa", 2, frame, 0);
+    SAME(fq_serve(frame, n - FQ_DONE, other, sizeof other, 5, reply, FQ_REPLY_ROOM, answer, FQ_SERVE_TOLD), FQ_DONE);
+    LISTS("", UINT64_MAX, "\1\0\1\1a\1\2aa\1\2ab\1\2a\x80\1\2a\xff\1\1b\1\2b\x7f\0");
+    SAME(fq_serve(frame, n - FQ_DONE, other, sizeof other, 5, reply, FQ_REPLY_ROOM, answer, FQ_SERVE_TOLD), FQ_DONE);
+    const uint8_t ping[] = {0xa0, 0x01, 0x0a, 0x17, 0, 0, 1, 0, 0};
+    SAME(fq_serve(ping, sizeof ping, other, sizeof other, 6, reply, FQ_REPLY_ROOM, answer, FQ_SERVE_TOLD), FQ_DONE);
+    LISTS("", 0, "\0");
+    LISTS("", 1, "\1\0\0");
+    LISTS("a", 2, "\1\1a\1\2ab\0");
+    LISTS("aa", 2, "\1\2ab\1\2a\x80\0");
+    LISTS("a\xff", 128, "\1\2a\xff\1\1b\1\2b\x7f\0");
+    LISTS("b\x7f\x01", 128, "\0");
+    memset(long_key, 'a', sizeof long_key);
+    SAME(fq_list_keys(other, sizeof other, reply, 0, long_key, sizeof long_key, 1, frame, 5), FQ_DONE + 5);
+    same_bytes(__LINE__, frame, 5, "\1\2ab\0", 5);
+    SAME(fq_list_keys(other, sizeof other, (const uint8_t *)"c", 1, long_key, 0, 1, frame, 0), FQ_NO_SUCH_CACHE);
+    SAME(fq_list_keys(other, sizeof other - 1, (const uint8_t *)"c", 1, long_key, 0, 1, frame, 0), FQ_NO_TABLE);
+}
+
 int main(int count, char **words) {
     if (count != 4) return 2;
     read_file(words[1], &requests);
@@ -497,7 +541,8 @@ int main(int count, char **words) {
     expiry();
     short_lists();
     longest_file();
-    printf("library: the paper's five requests from C, by calls, by lines and by a file; messages, version 20, keys, entries, streams, many connections, an entry that "
+    listing();
+    printf("library: the paper's five requests from C, by calls, by lines and by a file; messages, version 20, keys, entries, streams, many connections, a listing of keys, an entry that "
            "expires, lists that are too short, the longest file and the longest reply\n");
     return 0;
 }

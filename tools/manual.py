@@ -57,7 +57,7 @@ _feyqoolad() {{
     esac
     case $word in
     -*) ;;
-    *) case $command in serve | show | decode) mapfile -t COMPREPLY < <(compgen -f -- "$word") ;; esac
+    *) case $command in serve | show | sheet | decode) mapfile -t COMPREPLY < <(compgen -f -- "$word") ;; esac
        return ;;
     esac
     case $command in

@@ -21,6 +21,8 @@ pub const TABLE_KEYS: usize = 128;
 pub const LONGEST_LINE: usize = 1024;
 /// Bytes of a stored table at most.
 pub const LONGEST_FILE: usize = 86931;
+/// Bytes of a listing of keys at most.
+pub const LONGEST_KEYS: usize = 8449;
 
 /// Numbers that reading a request tells.
 pub const REQUEST_TOLD: usize = 17;
@@ -71,6 +73,7 @@ mod tests {
             ("FQ_TABLE_KEYS", TABLE_KEYS as u64),
             ("FQ_LONGEST_LINE", LONGEST_LINE as u64),
             ("FQ_LONGEST_FILE", LONGEST_FILE as u64),
+            ("FQ_LONGEST_KEYS", LONGEST_KEYS as u64),
             ("FQ_REQUEST_TOLD", REQUEST_TOLD as u64),
             ("FQ_REPLY_TOLD", REPLY_TOLD as u64),
             ("FQ_ENTRY_TOLD", ENTRY_TOLD as u64),

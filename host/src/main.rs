@@ -20,7 +20,7 @@ use feyqoolad::options::Words;
 use feyqoolad::page::{begin, pair};
 use feyqoolad::saver::{Saver, Sync};
 use feyqoolad::server::{listen, Limits, Server};
-use feyqoolad::show::show;
+use feyqoolad::show::{sheet, show};
 use feyqoolad::usage;
 use feyqoolad::words::{shown, Went};
 
@@ -50,7 +50,8 @@ fn run(given: &[OsString]) -> Result<ExitCode, Failure> {
         Some("serve") => serve(&given[1..]),
         Some("encode") => run_encode(&given[1..]),
         Some("decode") => run_decode(&given[1..]),
-        Some("show") => run_show(&given[1..]),
+        Some("show") => of_table("show", &given[1..], show),
+        Some("sheet") => of_table("sheet", &given[1..], sheet),
         _ => run_call(given),
     }
 }
@@ -106,10 +107,15 @@ fn run_decode(given: &[OsString]) -> Result<ExitCode, Failure> {
     Ok(ExitCode::SUCCESS)
 }
 
-fn run_show(given: &[OsString]) -> Result<ExitCode, Failure> {
+/// A command on a stored table that is only read.
+fn of_table(
+    word: &str,
+    given: &[OsString],
+    told: fn(&Path) -> Result<String, Failure>,
+) -> Result<ExitCode, Failure> {
     match given {
-        [table] => print(&show(Path::new(table))?),
-        _ => Err(not_understood("show is followed by TABLE")),
+        [table] => print(&told(Path::new(table))?),
+        _ => Err(not_understood(format!("{word} is followed by TABLE"))),
     }
 }
 

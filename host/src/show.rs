@@ -1,27 +1,25 @@
-//! `show TABLE`: a stored table in words. The file is read and nothing else is
-//! touched: the library loads it into memory, and is asked there for the
-//! entries.
+//! `show TABLE` and `sheet TABLE`: a stored table and its keys in words. The file
+//! is read and nothing else is touched: the library loads it into memory, and is
+//! asked there for the entries.
 
 use std::fs::{self, File};
 use std::io::ErrorKind;
 use std::path::Path;
 
-use crate::border::library::{entries, read_reply, Found, Reply, Table};
+use crate::border::library::{entries, entries_at, read_reply, Found, Reply, Table};
 use crate::command::Command;
 use crate::date::date;
 use crate::failure::{because, Failure};
 use crate::keeper::{broken, read_table};
 use crate::limits::BULK_ROOM;
 use crate::server::second;
-use crate::words::{of_entry, NO_ENTRIES};
+use crate::words::{of_entry, of_keys, NO_ENTRIES};
 
 /// The words for the table that a file stores: a line for each entry, with its
 /// version, and with its deadline where it has one.
 pub fn show(path: &Path) -> Result<String, Failure> {
     let bytes = read(path)?;
-    let table = Table::load(&bytes)
-        .ok_or_else(|| format!("{}\nThe file was left as it is.", broken(path, &bytes)))?;
-    let (reply, listed) = list(table)?;
+    let (reply, listed) = list(load(path, &bytes)?)?;
     let stored = bytes.split(|byte| *byte == b'\n').skip(1);
     let mut lines = String::new();
     for (entry, line) in entries(&listed, &reply, true).into_iter().zip(stored) {
@@ -33,6 +31,19 @@ pub fn show(path: &Path) -> Result<String, Failure> {
         lines = format!("{NO_ENTRIES}\n");
     }
     Ok(lines)
+}
+
+/// The keys of the table that a file stores, in their order, a line for each.
+pub fn sheet(path: &Path) -> Result<String, Failure> {
+    let bytes = read(path)?;
+    let listed = load(path, &bytes)?.list_keys();
+    Ok(format!("{}\n", of_keys(entries_at(&listed, 0, false))))
+}
+
+/// The table that these bytes of a file store.
+fn load(path: &Path, bytes: &[u8]) -> Result<Table, Failure> {
+    Table::load(bytes)
+        .ok_or_else(|| format!("{}\nThe file was left as it is.", broken(path, bytes)))
 }
 
 /// The words for a deadline; 0 is none.

@@ -40,7 +40,9 @@ mod tests {
 
     #[test]
     fn each_command_has_a_part() {
-        let others = ["help", "version", "serve", "show", "encode", "decode"];
+        let others = [
+            "help", "version", "serve", "show", "sheet", "encode", "decode",
+        ];
         let commands = OPERATIONS.iter().map(|one| one.word);
         for name in commands.chain(others) {
             assert!(part(name).is_some(), "{name}");

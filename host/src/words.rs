@@ -46,7 +46,7 @@ pub fn of_reply(asked: Asked, reply: &Reply, bytes: &[u8]) -> (Went, String) {
         (GET, 0) => shown(value),
         (STATS, _) => of_statistics(&reply.statistics),
         (BULK_GET, _) => lines(entries(bytes, reply, true), of_entry),
-        (BULK_GET_KEYS, _) => lines(entries(bytes, reply, false), |(key, _)| shown(key)),
+        (BULK_GET_KEYS, _) => of_keys(entries(bytes, reply, false)),
         (GET_WITH_VERSION, 0) => format!("version {}: {}", reply.entry_version, shown(value)),
         (operation, status) => outcome(operation, status).to_string(),
     };
@@ -70,6 +70,11 @@ fn has_previous(asked: Asked, status: u8, value: &[u8]) -> bool {
         0 => asked.previous && !value.is_empty(),
         _ => asked.previous && asked.operation == PUT_IF_ABSENT && !value.is_empty(),
     }
+}
+
+/// The keys of entries, one a line.
+pub fn of_keys(entries: Vec<Entry>) -> String {
+    lines(entries, |(key, _)| shown(key))
 }
 
 /// The entries, one a line.

@@ -68,6 +68,29 @@ fn build(fd: i32, name: &[u8], t: &mut [u8]) -> Turned
     Turned::Failed
 }
 
+// Loads the table of a file that is open, and closes it. It answers whether there is a table.
+fn load_open(fd: i32, path: &[u8], t: &mut [u8]) -> bool
+    requires { ⌜ length (now t) ≡ size ⌝ }
+    ensures { λ r. ⌜ (r ≡ true → Sound (now (t .exit))) ⌝ }
+{
+    let r = build(fd, path, t);
+    libc::close(fd);
+    is_loaded(r, path)
+}
+
+// Loads the table of a file that is to be there. It answers whether there is a table.
+pub(crate) fn load_stored(path: &[u8], t: &mut [u8]) -> bool
+    requires { ⌜ length (now t) ≡ size ⌝ }
+    ensures { λ r. ⌜ (r ≡ true → Sound (now (t .exit))) ⌝ }
+{
+    let fd = os::open_read(path);
+    if fd < 0 {
+        say::no_stored(path);
+        return false;
+    }
+    load_open(fd, path, t)
+}
+
 // Loads the table of a file, a fresh one only where the system says that there is no such file. It answers whether there is a table to serve from.
 pub(crate) fn load_file(path: &[u8], t: &mut [u8]) -> bool
     requires { ⌜ length (now t) ≡ size ⌝ }
@@ -75,9 +98,7 @@ pub(crate) fn load_file(path: &[u8], t: &mut [u8]) -> bool
 {
     let fd = os::open_read(path);
     if fd >= 0 {
-        let r = build(fd, path, t);
-        libc::close(fd);
-        return is_loaded(r, path);
+        return load_open(fd, path, t);
     }
     if os::errno() == libc::ENOENT {
         table::make(t);

@@ -20,6 +20,9 @@ use Rattle.message.proofs.ListingLaws.{itemOf-laws}
 use Rattle.listing.specs.EntryRead.{itemAt}
 use Rattle.table.specs.Memory.{stateOf}
 use Rattle.table.proofs.Lists.{lt-or-ge}
+use Rattle.map.specs.KeyListing.{listingBody, listKeys}
+use Rattle.message.specs.Arguments.{isEmpty}
+use Rattle.order.specs.Lists.{Lists}
 use Rattle.stored.specs.File.{form1, file}
 use Rattle.stored.specs.StoreLoad.{Storing}
 use Rattle.exports.specs.Codes.{sentCode, tell, inRoom, IfRoom}
@@ -69,6 +72,16 @@ storing-fits t old new x h s = ⊎-elim (λ l. l) (λ g. absurd (n g)) (lt-or-ge
           ap (λ (p : Sent × List ℕ). sentCode (p .0))
               (s .unsound (λ d. omega (arith, ap (λ (p : Sent × List ℕ). sentCode (p .0)) (s .sound d), sent-fits-in (file form1 (stateOf t)) old h))),
         )
+
+-- keys that are listed too: they are sent, or 13 or 9
+pub listing-fits : (t name k : List ℕ) (n : ℕ) (old new : List ℕ) (x : Sent) → length old < 2 ^ 63 → Lists t name k n old (x, new) → sentCode x < 2 ^ 64
+unfolding listKeys
+listing-fits t name k n old new x h l = rw (ap (λ (p : Sent × List ℕ). p .0) (l .same)) (go (l .ok) (isEmpty name))
+  where
+    go : (u v : Bool) → sentCode (cond {A = Sent × List ℕ} u (cond {A = Sent × List ℕ} v (sent (listingBody k n (stateOf t)) old) (kept 9, old)) (kept 13, old) .0) < 2 ^ 64
+    go true true = sent-fits-in (listingBody k n (stateOf t)) old h
+    go true false = omega arith
+    go false v = omega arith
 
 -- a message that was read whole is in the input, and so its length is at most the input's
 pub whole-fits : {A B : Type 0} (c : Codec A) → Laws c → (s : List ℕ) → length s < 2 ^ 63 → (f : A → ℕ → B) (b : B) (n : ℕ) → whole b n ≡ mapped f (c .dec s) → 256 + n < 2 ^ 64

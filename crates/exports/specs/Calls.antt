@@ -19,6 +19,7 @@ use Rattle.server.specs.declared.Served.the-variants as s
 use Rattle.server.specs.Lines.{ServesLines}
 use Rattle.stored.specs.File.{form1}
 use Rattle.stored.specs.StoreLoad.{Storing, Loaded}
+use Rattle.order.specs.Lists.{Lists}
 use Rattle.exports.specs.Codes.{sentCode, tell}
 
 -- nothing is done, and each list lent is as it was: 12, since the list for the answer is too short
@@ -95,3 +96,9 @@ pub record TellsLoaded (file t t' : List ℕ) (n : ℕ) : Type 0 where
   pub outcome : Outcome
   pub loaded : Loaded form1 file t outcome t'
   pub code : n ≡ outcomeCode outcome
+
+-- the keys listed in a list lent, and the code
+pub record TellsListed (t name k : List ℕ) (most : ℕ) (old new : List ℕ) (n : ℕ) : Type 0 where
+  pub sent : Sent
+  pub lists : Lists t name k most old (sent, new)
+  pub code : n ≡ sentCode sent

@@ -6,7 +6,8 @@
 // fq_serve: 256 for served, 0 for more needed, or the refusal; fq_serve_stream: the same of the last call, or 257 where the reply buffer has no room
 // for another one;
 // fq_serve_many: 256 for done, or 12, 258 for ends that are none, 12, 13;
-// fq_serve_lines: 256 for done, or 12, 13; fq_store: 256 and the count of the file's bytes, or 13, 12; fq_load: 256 for done, or 17.
+// fq_serve_lines: 256 for done, or 12, 13; fq_store: 256 and the count of the file's bytes, or 13, 12; fq_load: 256 for done, or 17;
+// fq_list_keys: 256 and the count of the bytes written, or 13, 9, 12.
 // Numbers are told at the front of the list `answer`. A list that has no room for them refuses the call before anything is done: 12.
 mod calls;
 mod given;
@@ -26,7 +27,7 @@ ghost use Rattle.table.specs.Found.{Tells as Says};
 ghost use Rattle.table.specs.Change.{Left, outcomeOf, made};
 ghost use Rattle.map.specs.Step.{contextOf};
 ghost use Rattle.service.specs.Many as many;
-ghost use Rattle.exports.specs.Calls.{TellsDone, TellsTotal, TellsMany, TellsServed, TellsStored, TellsLoaded, outcomeCode, keysCompared, Untold};
+ghost use Rattle.exports.specs.Calls.{TellsDone, TellsTotal, TellsMany, TellsServed, TellsStored, TellsLoaded, TellsListed, outcomeCode, keysCompared, Untold};
 ghost use Rattle.exports.specs.Codes.{coded, tell, told, inRoom, IfRoom};
 ghost use Rattle.exports.specs.Messages.{wholeRequest, wholeReply, wholeEntry, entryFrom, sendRequest, sendReply, sendStatistics, sendEntries};
 
@@ -295,4 +296,18 @@ pub extern "C" fn fq_load(file: &[u8], table: &mut [u8]) -> u64
     ensures { λ r. ⌜ TellsLoaded (now (file .entry)) (now (table .entry)) (now (table .exit)) r ⌝ }
 {
     tell::outcome(stored::load(file, table))
+}
+
+// Lists the keys that stand at the latest second served and are not before a key, in their order and `most` at the most, as the body of a bulkGetKeys reply.
+#[no_mangle]
+pub extern "C" fn fq_list_keys(
+    table: &[u8],
+    name: &[u8],
+    key: &[u8],
+    most: u64,
+    out: &mut [u8],
+) -> u64
+    ensures { λ r. ⌜ TellsListed (now (table .entry)) (now (name .entry)) (now (key .entry)) most (now (out .entry)) (now (out .exit)) r ⌝ }
+{
+    tell::sent(order::list_keys(table, name, key, most, out))
 }

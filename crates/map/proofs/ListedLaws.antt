@@ -24,7 +24,8 @@ use Rattle.map.specs.Revalue.{entriesWith, stateWith}
 use Rattle.map.proofs.Each.{pairs-map, same-each, same-length}
 use Rattle.map.proofs.Finding.{cond-of}
 use Rattle.map.proofs.Answered.{did}
-use Rattle.map.proofs.SortedLaws.{Apart, sorted-is, sorted-same, same-sorted, sorted-order, sorted-with}
+use Rattle.wire.proofs.SortedLaws.{Apart, sorted-order}
+use Rattle.map.proofs.SortedLaws.{sorted-is, sorted-same, same-sorted, sorted-with}
 
 -- versions tell entries of different versions apart, and are an order
 apart : (e f : Entry) → OtherVersion e f → Apart older e f

@@ -4,20 +4,15 @@ use mathlib.Core.List.{List, [], _∷_, List·Permᴰ as Perm, List·Permᴰ·ni
 use mathlib.Core.Bool.{Bool, true, false, cond, not}
 use Prim.Native.Nat.{ℕ}
 use Rattle.wire.proofs.Laws.{never}
+use Rattle.wire.proofs.SortedLaws.{Apart, apart-turned}
 use Rattle.map.specs.State.{Entry}
 use Rattle.map.specs.Table.{Each, Pairs}
 use Rattle.map.specs.Revalue.{entryWith, entriesWith}
-use Rattle.map.specs.Sorted.{insert, sorted}
-use Rattle.map.proofs.Each.{each-map, same-each, same-pairs}
+use Rattle.wire.specs.Sorted.{insert, sorted}
+use Rattle.map.proofs.Each.{same-pairs}
 use Rattle.map.proofs.Finding.{cond-of}
 
 module _ (less : Entry → Entry → Bool) where
-  abbrev pub Apart : Entry → Entry → Type 0
-  Apart e f = less f e ≡ not (less e f)
-
-  abbrev Before : Entry → Entry → Type 0
-  Before e f = less e f ≡ true
-
   -- a list that is in the order already
   pub sorted-is : (es : List Entry) → Pairs (λ e f. less f e ≡ false) es → sorted less es ≡ es
   unfolding sorted insert
@@ -40,15 +35,6 @@ module _ (less : Entry → Entry → Bool) where
   sorted-same [] = nil
   sorted-same (e ∷ es) = trans (cons refl (sorted-same es)) (insert-same e (sorted less es))
 
-  turn : (e f : Entry) → Apart e f → Apart f e
-  turn e f h = go (less e f) (less f e) h
-    where
-      go : (a b : Bool) → b ≡ not a → a ≡ not b
-      go true true h = never (cc)
-      go true false h = refl
-      go false true h = refl
-      go false false h = never (cc)
-
   module _ (onward : (e f g : Entry) → less e f ≡ true → less f g ≡ true → less e g ≡ true) where
     swapped : (e f : Entry) → less e f ≡ true → less f e ≡ false → (xs : List Entry) → insert less e (insert less f xs) ≡ insert less f (insert less e xs)
     unfolding insert
@@ -62,7 +48,7 @@ module _ (less : Entry → Entry → Bool) where
         go false true i j ih = let z = onward x e f j p in never (cc)
         go false false i j ih = rw (p, q, i)
 
-    either : (e f : Entry) → Apart e f → (xs : List Entry) → insert less e (insert less f xs) ≡ insert less f (insert less e xs)
+    either : (e f : Entry) → Apart less e f → (xs : List Entry) → insert less e (insert less f xs) ≡ insert less f (insert less e xs)
     either e f h xs = go (less e f) (less f e) refl refl h
       where
         go : (a b : Bool) → less e f ≡ a → less f e ≡ b → b ≡ not a → insert less e (insert less f xs) ≡ insert less f (insert less e xs)
@@ -72,29 +58,12 @@ module _ (less : Entry → Entry → Bool) where
         go false false p q h = never (cc)
 
     -- lists of the same entries
-    pub same-sorted : {es fs : List Entry} → Perm es fs → Pairs Apart es → sorted less es ≡ sorted less fs
+    pub same-sorted : {es fs : List Entry} → Perm es fs → Pairs (Apart less) es → sorted less es ≡ sorted less fs
     unfolding sorted
     same-sorted nil h = refl
     same-sorted (cons {b = e} p s) h = rw p (ap (insert less e) (same-sorted s (h .1)))
-    same-sorted (swap {a′ = f} {b′ = e} {l = es} p q) h = rw (p, q) (either e f (subst₂ Apart p q (h .0 .0)) (sorted less es))
-    same-sorted (trans s t) h = same-sorted s h ∙ same-sorted t (same-pairs Apart turn s h)
-
-    -- each stands before all behind it
-    insert-order : (e : Entry) (es : List Entry) → Each (Apart e) es → Pairs Before es → Pairs Before (insert less e es)
-    unfolding insert
-    insert-order e [] a h = (tt, tt)
-    insert-order e (f ∷ es) a h = go (less f e) refl (insert-order e es (a .1) (h .1))
-      where
-        go : (b : Bool) → less f e ≡ b → Pairs Before (insert less e es) → Pairs Before (cond b (f ∷ insert less e es) (e ∷ (f ∷ es)))
-        go true p ih = (same-each (Before f) (insert-same e es) (p, h .0), ih)
-        go false p ih =
-            let z : less e f ≡ true = turn e f (a .0) ∙ ap not p in
-            ((z, each-map (Before f) (Before e) (λ g q. onward e f g z q) es (h .0)), h)
-
-    pub sorted-order : (es : List Entry) → Pairs Apart es → Pairs Before (sorted less es)
-    unfolding sorted
-    sorted-order [] h = tt
-    sorted-order (e ∷ es) h = insert-order e (sorted less es) (same-each (Apart e) (sorted-same es) (h .0)) (sorted-order es (h .1))
+    same-sorted (swap {a′ = f} {b′ = e} {l = es} p q) h = rw (p, q) (either e f (subst₂ (Apart less) p q (h .0 .0)) (sorted less es))
+    same-sorted (trans s t) h = same-sorted s h ∙ same-sorted t (same-pairs (Apart less) (apart-turned less) s h)
 
   -- an order that looks at no value
   module _ (v : ℕ) (w : List ℕ) (blind : (e f : Entry) → less (entryWith v w e) (entryWith v w f) ≡ less e f) where

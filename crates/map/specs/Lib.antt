@@ -1,7 +1,6 @@
 pub mod History
 pub mod State
 pub mod Deadline
-pub mod Sorted
 pub mod Plan
 pub mod Shown
 pub mod Step
@@ -15,3 +14,4 @@ pub mod Order
 pub mod Update
 pub mod Combine
 pub mod OldValue
+pub mod KeyListing

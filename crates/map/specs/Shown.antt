@@ -11,7 +11,7 @@ use Rattle.message.specs.declared.Operation.the-variants.{BulkGet}
 use Rattle.message.specs.Request.{Request}
 use Rattle.map.specs.History.{is}
 use Rattle.map.specs.State.{Entry, State}
-use Rattle.map.specs.Sorted.{sorted}
+use Rattle.wire.specs.Sorted.{sorted}
 
 -- nothing, length 0, the value of an entry, its version and value, the statistics, or entries: with their values, or their keys alone
 pub data Shown : Type 0 where

@@ -5,20 +5,11 @@ use mathlib.Core.Bool.{true}
 use Prim.Native.Nat.{ℕ, _≤_, _<_}
 use lib.ListN.{length, getD}
 use Rattle.wire.specs.Codec.{isBytes}
+pub use Rattle.wire.specs.Each.{Each, Pairs}
 use Rattle.message.specs.Arguments.{keyLimit, valueLimit}
 use Rattle.map.specs.History.{History, countsHeld, mostCount, startOf}
 use Rattle.map.specs.State.{Entry, State}
 use Rattle.map.specs.Step.{mostKeys, lastVersion}
-
--- each entry has the property
-abbrev pub Each : (Entry → Type 0) → List Entry → Type 0
-Each p [] = Unit {0}
-Each p (e ∷ es) = p e × Each p es
-
--- each entry has the property with each one behind it
-abbrev pub Pairs : (Entry → Entry → Type 0) → List Entry → Type 0
-Pairs p [] = Unit {0}
-Pairs p (e ∷ es) = Each (p e) es × Pairs p es
 
 -- "every deadline at most 8,589,934,590"
 abbrev pub lastDeadline : ℕ

@@ -1,3 +1,2 @@
-pub mod SheetLaws
-pub mod Walk
 pub mod ListKeys
+pub mod AfreshLaws

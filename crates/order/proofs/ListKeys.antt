@@ -27,46 +27,26 @@ use Rattle.map.proofs.ListedLaws.{each-take}
 use Rattle.map.proofs.ListedFormat.{listing-good}
 use Rattle.listing.specs.EntryWrite.{entryNamed, listedIn}
 use Rattle.table.specs.Memory.{size, countOf, stateOf, Sound}
-use Rattle.table.proofs.Lists.{lt-or-ge, upto-ext}
-use Rattle.table.specs.Before.{before}
-use Rattle.table.specs.Sorted.{insert, sorted}
-use Rattle.table.specs.Order.{OrderedRows}
-use Rattle.order.specs.Sheet.{entryBefore, made, sheet, body, sentSheet, Collected, Lists}
-
--- sorting keeps what is said of each entry, and their number
-each-insert : (p : Entry → Type 0) (e : Entry) (es : List Entry) → p e → Each p es → Each p (insert entryBefore e es)
-unfolding insert
-each-insert p e [] h g = (h, tt)
-each-insert p e (f ∷ es) h g = let k = each-insert p e es h (g .1) in pick (Each p) (entryBefore f e) (λ q. (g .0, k)) (h, g)
-
-each-made : (p : Entry → Type 0) (es : List Entry) → Each p es → Each p (made es)
-unfolding sorted
-each-made p [] h = tt
-each-made p (e ∷ es) h = each-insert p e (made es) (h .0) (each-made p es (h .1))
-
-long-insert : (e : Entry) (es : List Entry) → length (insert entryBefore e es) ≡ suc (length es)
-unfolding insert
-long-insert e [] = refl
-long-insert e (f ∷ es) =
-    let k = long-insert e es in
-    pick (λ (l : List Entry). length l ≡ suc (suc (length es))) (entryBefore f e) (λ q. ap suc k) refl
-
-long-made : (es : List Entry) → length (made es) ≡ length es
-unfolding sorted
-long-made [] = refl
-long-made (e ∷ es) = long-insert e (made es) ∙ ap suc (long-made es)
+use Rattle.table.proofs.Lists.{upto-ext, says-yes, says-no}
+use Rattle.wire.specs.Before.{before}
+use Rattle.wire.proofs.SortedLaws.{length-sorted, each-sorted}
+use Rattle.map.specs.KeyListing.{entryBefore, sortedByKey, keyListing, listingBody, listKeys}
+use Rattle.table.specs.KeysFrom.{KeysNamed}
+use Rattle.table.proofs.IsKept.{afresh-order}
+use Rattle.table.proofs.KeyWalk.{keys-listed}
+use Rattle.order.specs.Lists.{Lists}
 
 -- a listing of a table has a written form
-pub sheet-valid : (t k : List ℕ) (n : ℕ) → Sound t → Valid (listing false) (map (pairOf false) (sheet k n (stateOf t)))
-unfolding sheet
-sheet-valid t k n s =
+pub listing-valid : (t k : List ℕ) (n : ℕ) → Sound t → Valid (listing false) (map (pairOf false) (keyListing k n (stateOf t)))
+unfolding keyListing
+listing-valid t k n s =
     let es = stateOf t .entries in
     let test : Entry → Bool = λ e. before (e .key) k in
-    let fs = without test (made es) in
+    let fs = without test (sortedByKey es) in
     let gs = standing (stateOf t .history .latest) fs in
     listing-good false (take n gs)
-    (omega (arith, length-take n gs, fewer (expired (stateOf t .history .latest)) fs, fewer test (made es), long-made es, s .table .few))
-    (each-take Sizes n gs (each-without (expired (stateOf t .history .latest)) Sizes fs (each-without test Sizes (made es) (each-made Sizes es (s .table .sizes)))))
+    (omega (arith, length-take n gs, fewer (expired (stateOf t .history .latest)) fs, fewer test (sortedByKey es), length-sorted entryBefore es, s .table .few))
+    (each-take Sizes n gs (each-without (expired (stateOf t .history .latest)) Sizes fs (each-without test Sizes (sortedByKey es) (each-sorted entryBefore Sizes es (s .table .sizes)))))
 
 module _ {A B : Type 0} (f : A → B) where
   map-take : (n : ℕ) (xs : List A) → map f (take n xs) ≡ take n (map f xs)
@@ -95,17 +75,18 @@ named-first t ns m h =
     (λ i q.
     rw (getD-take (m * 4) ns (i * 4) 0 (omega arith), getD-take (m * 4) ns (i * 4 + 1) 0 (omega arith), getD-take (m * 4) ns (i * 4 + 2) 0 (omega arith), getD-take (m * 4) ns (i * 4 + 2 + 1) 0 (omega arith)))
 
-module _ (t k : List ℕ) (n : ℕ) (ns : List ℕ) (many now : ℕ) (c : Collected t k now ns many) (s : Sound t) (o : OrderedRows t) (e : now ≡ stateOf t .history .latest) where
-  pub listed-sheet : listedIn t (take (min n many * 4) ns) ≡ map (pairOf false) (sheet k n (stateOf t))
-  unfolding sheet
-  listed-sheet =
-      let f = c .few in
-      let gs = standing (stateOf t .history .latest) (without (λ e. before (e .key) k) (made (stateOf t .entries))) in
-      named-first t ns (min n many) (omega (arith, c .long))
-      ∙ upto-take (λ i. entryNamed t ns i) n many
-      ∙ ap (take n) (c .pairs (s .layout .long) (s .layout .places) o)
-      ∙ ap (λ (x : ℕ). take n (map (pairOf false) (standing x (without (λ e. before (e .key) k) (made (stateOf t .entries)))))) e
-      ∙ sym (map-take (pairOf false) n gs)
+-- the entries that the first of the numbers name are the listing
+pub listed : (t k : List ℕ) (n : ℕ) (ns : List ℕ) (many now : ℕ) → KeysNamed t k now ns many → Sound t → now ≡ stateOf t .history .latest
+    → listedIn t (take (min n many * 4) ns) ≡ map (pairOf false) (keyListing k n (stateOf t))
+unfolding keyListing
+listed t k n ns many now c s e =
+    let f = c .few in
+    let gs = standing (stateOf t .history .latest) (without (λ e. before (e .key) k) (sortedByKey (stateOf t .entries))) in
+    named-first t ns (min n many) (omega (arith, c .long))
+    ∙ upto-take (λ i. entryNamed t ns i) n many
+    ∙ ap (take n) (c .pairs ∙ keys-listed t now (s .layout .long) (s .layout .places) (afresh-order t s (s .layout .byKey)) k)
+    ∙ ap (λ (x : ℕ). take n (map (pairOf false) (standing x (without (λ e. before (e .key) k) (sortedByKey (stateOf t .entries)))))) e
+    ∙ sym (map-take (pairOf false) n gs)
 
 -- what the writer of a field makes of bytes at the front
 module _ (xs : List (List ℕ × List ℕ)) (old new : List ℕ) (r : ℕ) (v : Valid (listing false) xs) (e : _≡_ {A = ℕ × List ℕ} (r, new) (putAt (listing false) xs 0 old)) where
@@ -133,11 +114,14 @@ module _ (xs : List (List ℕ × List ℕ)) (old new : List ℕ) (r : ℕ) (v : 
 
 -- what is answered in each case
 module _ (t name k : List ℕ) (n : ℕ) (old : List ℕ) where
-  pub lists-other : (Sound t → ⊥) → Lists t name k n old (kept 13, old)
-  lists-other f = record { table = λ s. absurd (f s); other = λ g. refl }
+  pub lists-no-table : (Sound t → ⊥) → Lists t name k n old (kept 13, old)
+  unfolding listKeys
+  lists-no-table f = record { ok = false; sound = says-no f; same = refl }
 
-  pub lists-unnamed : Sound t → (length name ≡ 0 → ⊥) → Lists t name k n old (kept 9, old)
-  lists-unnamed s d = record { table = λ g. rw (ne-eqb (length name) 0 d); other = λ f. absurd (f s) }
+  pub lists-no-cache : Sound t → (length name ≡ 0 → ⊥) → Lists t name k n old (kept 9, old)
+  unfolding listKeys
+  lists-no-cache s d = record { ok = true; sound = says-yes s; same = rw (ne-eqb (length name) 0 d) }
 
-  pub lists-sheet : (z : Sent × List ℕ) → Sound t → length name ≡ 0 → z ≡ sentSheet k n (stateOf t) old → Lists t name k n old z
-  lists-sheet z s d e = record { table = λ g. e ∙ rw d; other = λ f. absurd (f s) }
+  pub lists-keys : (z : Sent × List ℕ) → Sound t → length name ≡ 0 → z ≡ sent (listingBody k n (stateOf t)) old → Lists t name k n old z
+  unfolding listKeys
+  lists-keys z s d e = record { ok = true; sound = says-yes s; same = e ∙ rw d }

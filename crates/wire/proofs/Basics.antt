@@ -2,6 +2,10 @@
 use mathlib.Core.Path.{_≡_, refl}
 use mathlib.Core.Option.{Option, none, some}
 use mathlib.Core.Bool.{Bool, true, false, cond}
+use mathlib.Core.Logic.{_⊎_, inl, inr}
+use Prim.Native.Nat.{ℕ, _≤_, _<_}
+use native.Mathlib.Omega.{arith}
+use native.Mathlib.Decide.{decLt}
 use Rattle.wire.proofs.Laws.{never}
 
 -- what holds of both answers of a test holds of the one given
@@ -18,3 +22,7 @@ if-none false = refl
 pub passed : {A : Type 0} (t : Bool) (o : Option A) (x : A) → cond t o none ≡ some x → (t ≡ true) × (o ≡ some x)
 passed true o x e = (refl, e)
 passed false o x e = never (cc)
+
+-- a number is below another, or not
+pub lt-or-ge : (k n : ℕ) → (k < n) ⊎ (n ≤ k)
+lt-or-ge k n = elim (decLt k n) [ yes h ↦ inl h | no h ↦ inr (omega arith) ]

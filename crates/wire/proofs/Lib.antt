@@ -12,3 +12,9 @@ pub mod ListedLaws
 pub mod UptoLaws
 pub mod ListedEnc
 pub mod ListedWrite
+pub mod BeforeLaws
+pub mod SortedLaws
+pub mod OrderedLaws
+pub mod Moves
+pub mod Words
+pub mod OntoLaws

@@ -1,6 +1,6 @@
 -- The length and the elements of a list that is given by its elements. Assumes nothing.
 use mathlib.Core.Path.{_≡_, refl, sym, ap, _∙_}
-use mathlib.Core.List.{[], _∷_, _++_}
+use mathlib.Core.List.{List, [], _∷_, _++_, map}
 use Prim.Native.Nat.{ℕ, zero, suc, _<_}
 use native.Mathlib.Decide.{decLt}
 use native.Mathlib.Omega.{arith}
@@ -27,3 +27,14 @@ module _ {A : Type 0} (f : ℕ → A) where
   unfolding upto
   getD-upto zero k d h = absurd (omega arith)
   getD-upto (suc n) k d h = getD-last n k d h (λ l. getD-upto n k d l)
+
+-- what is made of each element
+module _ {A B : Type 0} (f : A → B) where
+  map-snoc : (xs : List A) (x : A) → map f (xs ++ (x ∷ [])) ≡ map f xs ++ (f x ∷ [])
+  map-snoc [] x = refl
+  map-snoc (y ∷ xs) x = ap (λ (l : List B). f y ∷ l) (map-snoc xs x)
+
+  pub map-upto : (g : ℕ → A) (n : ℕ) → map f (upto g n) ≡ upto (λ i. f (g i)) n
+  unfolding upto
+  map-upto g zero = refl
+  map-upto g (suc n) = map-snoc (upto g n) (g n) ∙ ap (λ (l : List B). l ++ (f (g n) ∷ [])) (map-upto g n)

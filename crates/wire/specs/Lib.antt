@@ -5,3 +5,6 @@ pub mod Write
 pub mod Same
 pub mod Listed
 pub mod Upto
+pub mod Each
+pub mod Before
+pub mod Sorted

@@ -5,8 +5,8 @@
 use std::ops::Range;
 
 use crate::limits::{
-    DONE, ENTRY_TOLD, LONGEST_FILE, REPLY_FULL, REPLY_GIVEN, REPLY_TOLD, REQUEST_GIVEN,
-    REQUEST_TOLD, SHARE_TOLD, STATISTICS, TABLE_SIZE,
+    DONE, ENTRY_TOLD, LONGEST_FILE, LONGEST_KEYS, REPLY_FULL, REPLY_GIVEN, REPLY_TOLD,
+    REQUEST_GIVEN, REQUEST_TOLD, SHARE_TOLD, STATISTICS, TABLE_SIZE,
 };
 
 extern "C" {
@@ -69,6 +69,17 @@ extern "C" {
     ) -> u64;
     fn fq_store(table: *const u8, len: usize, out: *mut u8, out_len: usize) -> u64;
     fn fq_load(file: *const u8, file_len: usize, table: *mut u8, len: usize) -> u64;
+    fn fq_list_keys(
+        table: *const u8,
+        len: usize,
+        name: *const u8,
+        name_len: usize,
+        key: *const u8,
+        key_len: usize,
+        most: u64,
+        out: *mut u8,
+        out_len: usize,
+    ) -> u64;
 }
 
 /// What a reader finds at the front of bytes.
@@ -183,8 +194,13 @@ pub type Entry<'a> = (&'a [u8], &'a [u8]);
 /// The entries of a bulk reply that was read from these bytes: with their
 /// values, as in the reply to bulkGet, or with empty ones.
 pub fn entries<'a>(bytes: &'a [u8], reply: &Reply, values: bool) -> Vec<Entry<'a>> {
+    entries_at(bytes, reply.entries, values)
+}
+
+/// The entries that begin at a place of these bytes.
+pub fn entries_at(bytes: &[u8], start: usize, values: bool) -> Vec<Entry<'_>> {
     let mut entries = Vec::new();
-    let mut at = reply.entries;
+    let mut at = start;
     while let Some(told) = next_entry(bytes, at, values) {
         entries.push((&bytes[range(&told[2..4])], &bytes[range(&told[4..6])]));
         at += told[0] as usize;
@@ -339,6 +355,30 @@ impl Table {
             )
         };
         let length = counted(code).expect("fq_store refuses a table");
+        out.truncate(length);
+        out
+    }
+
+    /// The keys of the default cache that stand at the latest second served, in
+    /// their order, as the body of a bulkGetKeys reply.
+    pub fn list_keys(&self) -> Vec<u8> {
+        let mut out = vec![0; LONGEST_KEYS];
+        let none: &[u8] = &[];
+        // SAFETY: all slices are lent for the call, with their lengths.
+        let code = unsafe {
+            fq_list_keys(
+                self.memory.as_ptr(),
+                self.memory.len(),
+                none.as_ptr(),
+                none.len(),
+                none.as_ptr(),
+                none.len(),
+                u64::MAX,
+                out.as_mut_ptr(),
+                out.len(),
+            )
+        };
+        let length = counted(code).expect("fq_list_keys refuses a table");
         out.truncate(length);
         out
     }

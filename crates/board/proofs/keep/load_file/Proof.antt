@@ -6,9 +6,7 @@ use Rattle.board.proofs.keep.load_file.Statement.{statement}
 use Rattle.board.proofs.keep.load_file.Tie as tie
 
 returns : tie.Need-returns
-returns c e =
-    let b = c .before .before .before .before in
-    (rw (c .is-loaded .ensures e) at (b .build .ensures)) .sound
+returns c e = c .before .before .load-open .ensures e
 
 returns-2 : tie.Need-returns-2
 returns-2 c e =
@@ -23,8 +21,6 @@ pub load-file-spec : {M : Type 1} → statement M
 load-file-spec =
     tie.close
     (tie.spec
-    (λ c κs. search needs)
-    (λ c κs. search needs)
     (λ c κs. search needs)
     (λ c κs. search needs)
     (λ c. search needs)

@@ -82,7 +82,7 @@ pub fn many_part<S: ServesMany>() -> Part<S> {
 
 /// Part p, the order of the keys.
 pub fn order_part<S: ListsKeys + Stores>() -> Part<S> {
-    part(15, "order", 300, order::round)
+    part(15, "order", 200, order::round)
 }
 
 /// Part m, entries that expire.

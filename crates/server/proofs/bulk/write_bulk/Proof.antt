@@ -14,7 +14,7 @@ use Rattle.server.proofs.bulk.write_bulk.Tie as tie
 
 returns : tie.Need-returns
 returns c s v h =
-    let b = c .before .before in
+    let b = c .before .before .before .before in
     let a = b .before .before .before .before .args in
     head-unsent (a .asked) (a .id) (a .out .now) (b .write-bulk-head .ensures) _ (ap asSent (c .enum-told .given .1)) v (omega (arith, h, vLong-most .most (a .id) v)) _
 
@@ -22,8 +22,8 @@ returns-2 : tie.Need-returns-2
 returns-2 c s v h =
     let p = c .before .before in
     let m = p .before in
-    let w = m .before .before .before in
-    let b = w .before .before in
+    let w = m .before .before .before .before in
+    let b = w .before .before .before .before in
     let a = b .before .before .before .before .args in
     let values = eqb (a .asked .op) 0x19 in
     let es = listedPairs values (a .n) (stateOf (a .t .now)) in
@@ -38,6 +38,8 @@ write-bulk-spec =
     tie.close
     (tie.spec
     (λ c κs. search needs)
+    (λ c. search needs)
+    (λ c. search needs)
     (λ c. search needs)
     returns
     (λ c κs. search needs)

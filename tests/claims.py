@@ -1,6 +1,6 @@
 #!/usr/bin/env python3
 """Holds docs/CLAIMS.md to the files: each wrong program, file and function that it names is there, its table of public functions lists the
-wrong programs that there are, each public function has two wrong programs or more, none of them stands twice, and each public law that no other file
+wrong programs that there are, each public function has two wrong programs or more, none of them stands twice, their places are there, and each public law that no other file
 cites is a claim. With --write, that table is written again."""
 import glob
 import os
@@ -93,6 +93,19 @@ def copied_edits():
         places[program] = place
 
 
+def lost_places():
+    """The places of wrong programs that no proof has: neither a need or law of that name, nor, where the prover searches for the proof, the function."""
+    for path in sorted(glob.glob('crates/*/must-fail/*.edit')):
+        crate = path.split('/')[1]
+        for program in programs(path):
+            for place in program.places:
+                where, _, name = place.partition(' ')
+                files = [file for file in (f'crates/{crate}/proofs/{where}/Proof.antt', f'crates/{crate}/proofs/{where}.antt') if os.path.exists(file)]
+                told = re.search(rf'^ *(?:pub )?{re.escape(name)} :', text_of(files[0]), re.M) if files else re.search(rf'\bfn {where.split("/")[-1]}\b', source(f'crates/{crate}/src'))
+                if not told:
+                    yield f'{path}, {program.name}: no place {place}'
+
+
 def names_in(text):
     """The names in a text of definitions, without its comments."""
     return set(re.findall(r'[^\s(){};,.`]+', re.sub(r'--.*', '', text)))
@@ -133,6 +146,7 @@ def main():
     faults = [] if text[at:] == ''.join(rows()) else ['the table of public functions is not that of the files (tests/claims.py --write)']
     faults += stale_edits()
     faults += copied_edits()
+    faults += lost_places()
     faults += unclaimed_laws(names_in(text))
     names = set(crates())
     for crate in crates():

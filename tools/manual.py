@@ -40,7 +40,7 @@ def feyqoolad():
 def board():
     text = sys.stdin.read()
     first, rest = text.split('\n', 1)
-    return page('board', first.split(': ', 1)[1], [('SYNOPSIS', 'board serve REQUESTS [TABLE]'), ('DESCRIPTION', rest.split('\nMore is in ')[0]), ('SEE ALSO', 'feyqoolad(1)')])
+    return page('board', first.split(': ', 1)[1], [('SYNOPSIS', 'board COMMAND WORD ..'), ('DESCRIPTION', rest.split('\nMore is in ')[0]), ('SEE ALSO', 'feyqoolad(1)')])
 
 
 COMPLETION = '''# Completes the words of feyqoolad and board in bash.
@@ -67,7 +67,7 @@ _feyqoolad() {{
 _feyqoolad_board() {{
     local word=${{COMP_WORDS[COMP_CWORD]}}
     if [ "$COMP_CWORD" -eq 1 ]; then
-        mapfile -t COMPREPLY < <(compgen -W 'serve help --help --version' -- "$word")
+        mapfile -t COMPREPLY < <(compgen -W 'serve sheet help --help --version' -- "$word")
     else
         mapfile -t COMPREPLY < <(compgen -f -- "$word")
     fi

@@ -158,57 +158,57 @@ module _ (now : ℕ) (t : List ℕ) (h : length t ≡ size) where
 
 module _ (now : ℕ) (t : List ℕ) (s : Shape t) where
   module _ (o : OrderedRows t) (full : countOf (lessAll now (countOf t) (withStanding now t)) ≡ length (standing now (entriesOf t))) where
-    abbrev n : ℕ
-    n = countOf t
+    abbrev m₀ : ℕ
+    m₀ = countOf t
 
-    abbrev rs : List ℕ
-    rs = standingRows now t (orderHeld t)
+    abbrev left : List ℕ
+    left = standingRows now t (orderHeld t)
 
     kept : Kept orderAt rowsAt t (withStanding now t)
     kept = standing-kept now t (s .long)
 
-    count : countOf (withStanding now t) ≡ n
+    count : countOf (withStanding now t) ≡ m₀
     count = standing-count now t (s .long)
 
-    order-long : length (orderHeld t) ≡ n
-    order-long = length-upto (orderOf t) n
+    order-long : length (orderHeld t) ≡ m₀
+    order-long = length-upto (orderOf t) m₀
 
-    few-left : length rs ≤ n
+    few-left : length left ≤ m₀
     few-left = omega (arith, fewer-rows now t (orderHeld t), order-long)
 
     abbrev t₁ : List ℕ
     t₁ = withStanding now t
 
     abbrev v : List ℕ
-    v = lessAll now n t₁
+    v = lessAll now m₀ t₁
 
-    rows : LessRows now n t₁ v
-    rows = less-rows now n t₁ (order-write t t₁ s kept .shape) (omega (arith, count))
+    rows : LessRows now m₀ t₁ v
+    rows = less-rows now m₀ t₁ (order-write t t₁ s kept .shape) (omega (arith, count))
 
     -- as many rows are left of the order
-    many : countOf v ≡ length rs
+    many : countOf v ≡ length left
     unfolding entriesByKey
     many =
         full
         ∙ ap (λ (es : List Entry). length (standing now es)) (sym (entries-are t (s .long)))
         ∙ sym (sorted-passes (expired now) entryBefore (stateOf t .entries))
-        ∙ ap (λ (es : List Entry). length (standing now es)) (sym (entries-sorted t now (s .long) (s .places) o) ∙ sym (map-upto (λ r. rowEntry t (r % mostKeys)) (orderOf t) n))
+        ∙ ap (λ (es : List Entry). length (standing now es)) (sym (entries-sorted t now (s .long) (s .places) o) ∙ sym (map-upto (λ r. rowEntry t (r % mostKeys)) (orderOf t) m₀))
         ∙ sym (rows-entries now t (orderHeld t))
 
-    at : (i : ℕ) → i < countOf v → orderOf v i ≡ getD rs i 0
+    at : (i : ℕ) → i < countOf v → orderOf v i ≡ getD left i 0
     unfolding withStanding orderOf
     at i l =
         order-kept (rows .same) i (inr (omega arith))
-        ∙ sets-in t orderAt rs (omega (arith, few-left, count-most t, s .long)) i (omega (arith, many))
+        ∙ sets-in t orderAt left (omega (arith, few-left, count-most t, s .long)) i (omega (arith, many))
 
-    of : (a : ℕ) → a < n → getD (orderHeld t) a 0 ≡ orderOf t a
-    of a l = getD-upto (orderOf t) n a 0 l
+    of : (a : ℕ) → a < m₀ → getD (orderHeld t) a 0 ≡ orderOf t a
+    of a l = getD-upto (orderOf t) m₀ a 0 l
 
     name : (r : ℕ) → r < mostKeys → nameOf v r ≡ nameOf t r
     name r l =
         name-kept (rows .same) (kept .long ∙ s .long) r l (inr (omega arith)) ∙ name-kept kept (s .long) r l (inr (omega arith))
 
-    entry-of : (i : ℕ) → i < n → held t₁ i ≡ held t i
+    entry-of : (i : ℕ) → i < m₀ → held t₁ i ≡ held t i
     entry-of i l = row-from (kept-wide (omega arith) (omega arith) kept) (s .long) i i (place-kept kept i (inl (omega (arith, count-most t)))) .entry
 
     pub standing-order : OrderedRows v
@@ -217,8 +217,8 @@ module _ (now : ℕ) (t : List ℕ) (s : Shape t) where
         ascends : (i j : ℕ) → i < j → j < countOf v → before (nameOf v (orderOf v i)) (nameOf v (orderOf v j)) ≡ true
         ascends i j l m =
             let w = rows-two now t (orderHeld t) i j l (omega (arith, many)) in
-            let b : w .1 < n = omega (arith, w .3, order-long) in
-            let a : w .0 < n = omega (arith, w .2) in
+            let b : w .1 < m₀ = omega (arith, w .3, order-long) in
+            let a : w .0 < m₀ = omega (arith, w .2) in
             let x : orderOf v i ≡ orderOf t (w .0) = at i (omega arith) ∙ w .4 ∙ of (w .0) a in
             let y : orderOf v j ≡ orderOf t (w .1) = at j m ∙ w .5 ∙ of (w .1) b in
             ap₂ (λ (p q : ℕ). before (nameOf v p) (nameOf v q)) x y
@@ -228,7 +228,7 @@ module _ (now : ℕ) (t : List ℕ) (s : Shape t) where
         named : (i : ℕ) → i < countOf v → (j : ℕ) × (j < countOf v) × (placeOf v j ≡ orderOf v i)
         named i l =
             let w = rows-from now t (orderHeld t) i (omega (arith, many)) in
-            let a : w .0 < n = omega (arith, w .1, order-long) in
+            let a : w .0 < m₀ = omega (arith, w .1, order-long) in
             let x = of (w .0) a in
             let k = o .named (w .0) a in
             let g : expired now (held t₁ (k .0)) ≡ false =
@@ -239,7 +239,7 @@ module _ (now : ℕ) (t : List ℕ) (s : Shape t) where
         names : (j : ℕ) → j < countOf v → (i : ℕ) × (i < countOf v) × (orderOf v i ≡ placeOf v j)
         names j m =
             let w = rows .to j m in
-            let b : w .0 < n = omega (arith, w .1, count) in
+            let b : w .0 < m₀ = omega (arith, w .1, count) in
             let k = o .names (w .0) b in
             let x = of (k .0) (k .1) in
             let g : expired now (rowEntry t (getD (orderHeld t) (k .0) 0 % mostKeys)) ≡ false =

@@ -23,7 +23,7 @@ loop-holds : tie.Need-loop-holds Inv-loop μ-loop
 loop-holds c = sifted-none _ _ (c .before .before .before .pre)
 
 cast-row-stands : tie.Need-cast-row-stands Inv-loop μ-loop
-cast-row-stands c = omega (arith, c .slice-known2 .given (224 + c .before .before .loop .p))
+cast-row-stands c = omega (arith, c .before .slice-known2 .given (224 + c .before .before .before .loop .p))
 
 loop-again : tie.Need-loop-again Inv-loop μ-loop
 loop-again c =

@@ -99,7 +99,8 @@ def screens_of(tab, case):
 
 
 def seen(tab):
-    return [row for row in tab.run(ROWS) if row['seen']]
+    """The rows in sight, as they are read: down each column."""
+    return sorted((row for row in tab.run(ROWS) if row['seen']), key=lambda row: (round(row['x']), row['y']))
 
 
 def demand_good(rows, case):
@@ -173,7 +174,8 @@ def long_texts(board):
         plain = {}
         for name, size in WALLS.items():
             tab.resize(*size)
-            plain[name] = len(screens_of(tab, name))
+            screens = screens_of(tab, name)
+            plain[name] = len(screens), letters(screens[0])
         board.caller.call(REMOVE, key=b'berth/4')
         board.put([(b'berth/9', YACHT), (LONG_KEY, b'Santa Maria')])
         tab.until(f'document.body.textContent.includes({json.dumps(YACHT.decode())})', 'a long value')
@@ -181,13 +183,27 @@ def long_texts(board):
         for name, size in WALLS.items():
             tab.resize(*size)
             screens = screens_of(tab, f'the yacht, {name}')
-            demand(len(screens) == plain[name] == 1 and len(screens[0]) == 25, f'the yacht, {name}', f'{len(screens)} screens of {[len(rows) for rows in screens]}, {plain[name]} before')
+            demand(len(screens) == plain[name][0] == 1 and len(screens[0]) == 25, f'the yacht, {name}', f'{len(screens)} screens of {[len(rows) for rows in screens]}, {plain[name]} before')
+            others = letters(row for row in screens[0] if len(row['value']['text']) < 100)
+            demand(others >= 0.95 * plain[name][1], f'the yacht, {name}', f'the letters of others are {others}, and {plain[name]} before')
             demand_good(screens[0], f'the yacht, {name}')
             yacht = next(row for row in screens[0] if row['key']['text'] == '9')
             demand(yacht['value']['lines'] == 2 and yacht['value']['cut'] and yacht['value']['letters'] >= 1.4 * unit(size), f'the yacht, {name}', f'{yacht}')
             board.picture(tab, f'yacht-{name}')
         tab.resize(*WALLS['wall'])
         marks(board, tab)
+        board.clear()
+        board.put((key, value + b', from Rotterdam to Oslo') for key, value in ships)
+        tab.until('document.body.textContent.split("Rotterdam").length === 26', 'texts of two lines')
+        for name, size in WALLS.items():
+            tab.resize(*size)
+            screens = screens_of(tab, f'texts of two lines, {name}')
+            demand_good(screens[0], f'texts of two lines, {name}')
+            demand(len(screens) == 1 and not any(row['value']['cut'] for row in screens[0]), f'texts of two lines, {name}', f'{len(screens)} screens, or a text is cut')
+            demand(letters(screens[0]) >= 1.5 * unit(size), f'texts of two lines, {name}', f'letters of {letters(screens[0])}')
+        tab.resize(*WALLS['wall'])
+        board.picture(tab, 'two-lines')
+        board.put([(b'berth/9', YACHT)])
     for name, size in PHONES.items():
         with board.tab(size, media=CALM) as tab:
             rows = wait_for(tab, 25, 'a phone')
@@ -219,7 +235,8 @@ def heading(board):
         for entries, wanted, keys in (([b'berth/10', b'berth/2', b'berth/1'], 'Arrivals by berth', ['1', '2', '10']), ([b'berth/n/1'], 'Arrivals by berth', ['1', '2', '10', 'n/1']),
                                       ([b'pier/3'], 'Arrivals', ['berth/1', 'berth/2', 'berth/10', 'berth/n/1', 'pier/3'])):
             board.put((key, b'Ida') for key in entries)
-            found = [row['key']['text'] for row in wait_for(tab, len(keys), wanted)]
+            wait_for(tab, len(keys), wanted)
+            found = [row['key']['text'] for row in seen(tab)]
             demand(found == keys, wanted, f'the keys are {found}')
             said = ' '.join(tab.run('document.querySelector("h1").innerText').split())
             demand(said == wanted, wanted, f'the heading is {said}')

@@ -19,7 +19,8 @@ const LOWEST = 1.85; // row
 const HIGHEST = 2.9; // row
 const LINE = 1.2; // height of a line
 const BESIDE = 0.7; // between key and value
-const SMALLER = 0.73; // letters of what is too long
+const SMALLER = 0.73; // letters of what is too long, at the least
+const TWO_LINES = 1.7; // of text that is not broken
 // How much larger letters have to be that are worth one more column.
 const WORTH = 1.12;
 
@@ -150,14 +151,17 @@ function measure() {
   ruler.replaceChildren();
 }
 
-// The width that all but a few keep to, which are much longer.
+// The width that all but a few keep to. Those that are much wider than half of all do not count, however many they are.
 function usual(widths, much) {
-  const most = much * [...widths].sort((one, other) => one - other)[Math.floor(0.9 * (widths.length - 1))];
-  return Math.max(...widths.filter((width) => width <= most));
+  const sorted = [...widths].sort((one, other) => one - other);
+  const ordinary = sorted.filter((width) => width <= 1 + 2 * sorted[Math.floor((sorted.length - 1) / 2)]);
+  const most = much * ordinary[Math.floor(0.9 * (ordinary.length - 1))];
+  return Math.max(...ordinary.filter((width) => width <= most));
 }
 
-// The fewest screens for so many rows, and the columns that give the largest letters there. A text that is much longer than others makes no difference.
-function choose(number, width, board, unit) {
+// The fewest screens for so many rows, and the columns with which keys and values of these widths have the largest letters there, on one line or, if these
+// were too small, on two.
+function choose(number, key, value, board, unit) {
   const most = Math.max(1, Math.floor(board.width / (NARROWEST * unit)));
   for (let screens = 1; ; screens++) {
     let best = null;
@@ -166,8 +170,10 @@ function choose(number, width, board, unit) {
       const fitting = board.height / high / LOWEST;
       if (fitting < SMALLEST * unit && screens < number) continue;
       const column = (board.width - GAP * unit * (columns - 1)) / columns;
-      const size = Math.min(LARGEST * unit, fitting, Math.max(column / width, WRAPPING * unit));
-      if (!best || size > WORTH * best.size) best = { screens, columns, column, size, row: Math.min(board.height / high, HIGHEST * size) };
+      const [one, two] = [column / (key + value), (TWO_LINES * column) / (TWO_LINES * key + SMALLER * value)];
+      const size = Math.min(LARGEST * unit, fitting, one < WRAPPING * unit ? Math.max(two, WRAPPING * unit) : one);
+      const read = size > one ? SMALLER * size : size;
+      if (!best || read > WORTH * best.read) best = { screens, columns, column, size, read, row: Math.min(board.height / high, HIGHEST * size) };
     }
     if (best) return best;
   }
@@ -180,7 +186,7 @@ function spread(number, parts) {
 
 // Gives each row its place, down the columns and screen by screen.
 function place({ screens, columns }) {
-  const all = rows.values();
+  const all = [...board.children].values();
   spread(rows.size, screens).forEach((share, screen) => {
     spread(share, columns).forEach((high, column) => {
       for (let at = 1; at <= high; at++) {
@@ -202,10 +208,12 @@ function fit() {
   turnTo(Math.min(current, screens - 1), true);
 }
 
-// Has a cell stand on two lines where one is too short for its width, and in smaller letters where two are.
-function wrap(cell, width, room, { size, small }) {
-  cell.classList.toggle("long", width * size > room + 1);
-  cell.classList.toggle("longer", width * small > 1.8 * room);
+// Has the cells that are too long for one line stand on two, and gives the letters with which all fit there but those that are too long for any. Cells have a
+// width and room for it.
+function wrap(cells, size, small) {
+  const long = cells.filter(({ cell, width, room }) => cell.classList.toggle("long", width * size > room + 1));
+  const fitting = long.map(({ width, room }) => (TWO_LINES * room) / width).sort((one, other) => one - other);
+  return Math.min(small, fitting.find((letters) => letters >= SMALLER * size) || SMALLER * size);
 }
 
 function fitWall(unit) {
@@ -213,19 +221,17 @@ function fitWall(unit) {
   const all = [...rows.values()];
   // Values stand below each other; only a key that is much longer than others has its value further on.
   const aligned = usual(all.map((row) => row.widths[0]), 2);
-  const whole = all.map((row) => Math.max(aligned, row.widths[0]) + BESIDE + row.widths[1]);
-  const chosen = choose(all.length, usual(whole, 1.2), { width: board.clientWidth, height: board.clientHeight }, unit);
+  const key = aligned + BESIDE;
+  const value = usual(all.map((row) => Math.max(aligned, row.widths[0]) + row.widths[1]), 1.2) - aligned;
+  const chosen = choose(all.length, key, value, { width: board.clientWidth, height: board.clientHeight }, unit);
   const { column, size, row: high } = chosen;
   const third = column * 0.33;
+  const lengths = { size, row: high, column, gap: GAP * unit, keys: Math.min(third, aligned * size) };
   const small = size * Math.min(1, (high / size - 0.1) / (2 * LINE)); // two lines of these fit into a row
-  const smaller = Math.min(small, SMALLER * size);
-  const lengths = { size, row: high, column, gap: GAP * unit, keys: Math.min(third, aligned * size), small, smaller };
+  const roomBeside = (key) => column - BESIDE * size - Math.min(third, Math.max(lengths.keys, key * size));
+  lengths["small-keys"] = wrap(all.map((row) => ({ cell: row.firstChild, width: row.widths[0], room: third })), size, small);
+  lengths["small-values"] = wrap(all.map((row) => ({ cell: row.lastChild, width: row.widths[1], room: roomBeside(row.widths[0]) })), size, small);
   for (const [name, length] of Object.entries(lengths)) board.style.setProperty(`--${name}`, `${length}px`);
-  for (const row of all) {
-    const key = Math.min(third, Math.max(lengths.keys, row.widths[0] * size));
-    wrap(row.firstChild, row.widths[0], third, lengths);
-    wrap(row.lastChild, row.widths[1], column - key - BESIDE * size, lengths);
-  }
   place(chosen);
   screens = chosen.screens;
 }

@@ -3,8 +3,9 @@
 
 The commands of README.md and of docs/USING.md, which are the blocks `sh`, are run in their order, each document in a fresh copy of the clone with a home and a
 network of its own, without the toolchain: they print the blocks `output`, a server says the lines of the block `text` behind its command, and no file is left in the clone. Each block of
-`requests` gives the block of `replies` behind it, by the second program and by BOARD. docs/TESTING.md says the comparison's size as tests/compare printed it last.
-Documents for users have short sentences and plain words, and links lead to files. `documents.py commands` does the first alone, `documents.py words` the last."""
+`requests` gives the block of `replies` behind it, by the second program and by BOARD; one that is headed `requests behind N puts` is served behind puts of N keys. What docs/LAWS.md says to be equal
+is equal. docs/TESTING.md says the comparison's size as tests/compare printed it last.
+Documents for users have short sentences and plain words, and links lead to files. `documents.py commands` does the first alone, `documents.py examples` the second, `documents.py words` the last."""
 import ctypes
 import fcntl
 import glob
@@ -19,18 +20,24 @@ import sys
 import tempfile
 import time
 
-BLOCK = re.compile(r'^```(requests|replies)\n(.*?)^```$', re.M | re.S)
+BLOCK = re.compile(r'^```(requests|replies)(?: behind (\d+) puts)?\n(.*?)^```$', re.M | re.S)
 SAID = re.compile(r'in each gate the same ([\d,]+) messages, ([\d,]+) served\s+requests and ([\d,]+) pairs of keys')
 PRINTED = re.compile(r'^keys +\d+ rounds +(\d+) inputs .*^compared (\d+) messages, (\d+) served requests, 0 differences$', re.M | re.S)
 
 
-def examples(path):
-    """The pairs of blocks of a document; blocks that do not come in pairs are an error."""
-    blocks = BLOCK.findall(text_of(path))
-    kinds = [kind for kind, _ in blocks]
+def examples(text, path):
+    """The pairs of blocks of a text, each with the number of puts before it; blocks that do not come in pairs are an error."""
+    blocks = BLOCK.findall(text)
+    kinds = [kind for kind, _, _ in blocks]
     if kinds != ['requests', 'replies'] * (len(kinds) // 2):
         sys.exit(f'{path}: requests and replies do not come in pairs')
-    return [(blocks[i][1], blocks[i + 1][1]) for i in range(0, len(blocks), 2)]
+    return [(int(blocks[i][1] or 0), blocks[i][2], blocks[i + 1][2]) for i in range(0, len(blocks), 2)]
+
+
+def first_puts(count):
+    """Puts of so many keys, k001 and so on, with no value, and the replies to them."""
+    keys = [(f'{n:02x}', f'k{n:03}'.encode().hex()) for n in range(1, count + 1)]
+    return ''.join(f'00000000 a0{n}0a01000001000004{key}000000\n' for n, key in keys), ''.join(f'a1{n}020000\n' for n, _ in keys)
 
 
 def served(program, requests):
@@ -62,14 +69,27 @@ def check_examples():
     """Worked requests and replies."""
     count = 0
     for path in sorted(glob.glob('*.md') + glob.glob('docs/*.md')):
-        for requests, replies in examples(path):
+        for puts, requests, replies in examples(text_of(path), path):
+            asked, told = first_puts(puts)
             for program in ('reference/target/release/reference', os.environ.get('BOARD', './board')):
-                if served(program, requests) != replies:
+                if served(program, asked + requests) != told + replies:
                     sys.exit(f'{path}: the replies of {program} are not those of the document')
             count += 1
     if count == 0:
         sys.exit('documents: no example was found')
     print(f'documents: {count} examples are what both programs give')
+
+
+def check_laws():
+    """Each law of docs/LAWS.md has two examples: the requests from message id 8 on, which look at what stands, get the same replies. Two more differ."""
+    laws = re.split(r'^## (?=Law )', text_of('docs/LAWS.md'), flags=re.M)[1:]
+    for law in laws:
+        looks = [[line for line in replies.splitlines() if int(line[2:4], 16) >= 8] for _, _, replies in examples(law, 'docs/LAWS.md')]
+        if len(looks) not in (2, 4) or looks[0] != looks[1] or not looks[0] or (len(looks) == 4 and looks[2] == looks[3]):
+            sys.exit(f'docs/LAWS.md: {law.splitlines()[0]}: the examples do not show it')
+    if len(laws) != 5:
+        sys.exit(f'docs/LAWS.md: it has {len(laws)} laws')
+    print('documents: each law of docs/LAWS.md is what its examples show')
 
 
 RUN = re.compile(r'^```(sh|output|text)\n(.*?)^```$', re.M | re.S)
@@ -211,13 +231,15 @@ def check_links():
 
 def main():
     only = sys.argv[1:2]
-    if only not in (['commands'], ['words']):
+    if not only:
         check_size()
+    if only in ([], ['examples']):
         check_examples()
-    if only != ['commands']:
+        check_laws()
+    if only in ([], ['words']):
         check_words()
         check_links()
-    if only != ['words']:
+    if only in ([], ['commands']):
         check_commands()
 
 

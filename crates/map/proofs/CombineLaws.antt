@@ -3,12 +3,11 @@ use mathlib.Core.Path.{_≡_, refl, sym, ap, ap₂, _∙_}
 use mathlib.Core.List.{List, [], _∷_, _++_, append-nil}
 use mathlib.Core.Bool.{Bool, true, false, cond, _&&_}
 use mathlib.Core.Option.{Option, none, some}
-use mathlib.Core.Logic.{_⊎_, inl, inr}
 use Prim.Native.Nat.{ℕ, suc, _≤_, _<_, max}
 use native.Mathlib.Nat.{le-max-left, max-eq-right}
 use native.Mathlib.Omega.{arith}
-use lib.ListN.{length, length-append}
-use lib.Dec.{eqb, ltb, leb}
+use lib.ListN.{length}
+use lib.Dec.{ltb, leb}
 use borrow.Author.Tests.{leb-false, lt-leb}
 use Rattle.wire.specs.Same.{sameList}
 use Rattle.wire.proofs.Laws.{never, and-false}
@@ -19,18 +18,19 @@ use Rattle.message.specs.declared.Operation.the-variants.{Put, Remove, Clear}
 use Rattle.message.specs.Request.{Request}
 use Rattle.map.specs.State.{Entry, State, find, without, hasKey}
 use Rattle.map.specs.Deadline.{deadline, expired, standing, still}
-use Rattle.map.specs.Plan.{Change, keep, store, drop, empty, Plan, plans, plan}
-use Rattle.map.specs.Step.{mostKeys, lastVersion, Context, Result, Outcome, refused, answered, entry, stored, dropped, emptied, isNone, names, held, versionOf, full, planned, result, act, core, present, swept, noted, arrive, step, stateAfter, Taken, run}
-use Rattle.map.specs.Table.{Each, Pairs, OtherKey, IsTable}
-use Rattle.map.specs.Counted.{ends}
-use Rattle.map.specs.Update.{sameKey, behind}
-use Rattle.map.specs.Combine.{Content, contentOf, content, Only10, AllOnly10, Served, AllServed, at, Equal, Combines}
-use Rattle.map.proofs.Each.{fewer, each-left}
+use Rattle.map.specs.Plan.{Change, keep, store, drop, empty, plans, plan}
+use Rattle.map.specs.Step.{mostKeys, lastVersion, Context, Result, Outcome, refused, answered, entry, stored, dropped, emptied, isNone, names, held, versionOf, full, planned, result, act, core, present, swept, noted, arrive, step, stateAfter, run}
+use Rattle.map.specs.Table.{In, Pairs, OtherKey, IsTable}
+use Rattle.map.specs.Counted.{isAnswered, ends}
+use Rattle.map.specs.Update.{sameKey, finalState}
+use Rattle.map.specs.Combine.{Content, contentOf, content, Only10, AllOnly10, AllAnswered, inContext, SameStanding, Equal, Combines}
+use Rattle.map.proofs.Each.{fewer, each-left, pairs-without}
 use Rattle.map.proofs.Answered.{changed, did}
 use Rattle.map.proofs.Laws.{orElse, find-none, find-append, find-without, find-stored}
 use Rattle.map.proofs.CountLaws.{latest-step}
 use Rattle.map.proofs.Standing.{standing-stand, standing-all, find-still}
 use Rattle.map.proofs.Keeps.{less}
+use Rattle.map.proofs.Members.{find-in, in-find}
 use Rattle.map.proofs.UpdateLaws.{Differs, table-differs, differs-arrive, differs-changed, differs-step}
 
 -- what is found behind a removal
@@ -293,15 +293,14 @@ module _ (c : Context) (st : State) (h : IsTable st) where
           ∙ rw (same-true (r .args .key) (s .args .key) q) (twice (sameList (s .args .key) k) _ _ _)
           ∙ sym (put-after c s st s₀ (present c st) refl k ps (sym (full-same c r s st q) ∙ f .0) (hs .0))
 
-  -- a remove behind a step that changes its key alone
-  removes : (r : Request) → r .op ≡ Remove → Equal c st (r ∷ r ∷ []) (r ∷ [])
+  removes : (r s : Request) → r .op ≡ Remove → s .op ≡ Remove → sameKey r s ≡ true → Equal c st (r ∷ s ∷ []) (s ∷ [])
   unfolding run ends
-  removes r q hr hs k =
+  removes r s pr ps q hr hs k =
       let t = stateAfter st (step c r st) in
-      remove-after c r t (differs-step c r st s₀ (step c r st) refl) (present c st) (present-after c r st (step c r st) refl) k q (hr .1 .0)
-      ∙ ap (cond (sameList (r .args .key) k) none) (remove-after c r st s₀ (present c st) refl k q (hr .0))
-      ∙ twice (sameList (r .args .key) k) _ _ _
-      ∙ sym (remove-after c r st s₀ (present c st) refl k q (hs .0))
+      remove-after c s t (differs-step c r st s₀ (step c r st) refl) (present c st) (present-after c r st (step c r st) refl) k ps (hr .1 .0)
+      ∙ ap (cond (sameList (s .args .key) k) none) (remove-after c r st s₀ (present c st) refl k pr (hr .0))
+      ∙ rw (same-true (r .args .key) (s .args .key) q) (twice (sameList (s .args .key) k) _ _ _)
+      ∙ sym (remove-after c s st s₀ (present c st) refl k ps (hs .0))
 
   put-remove : (r s : Request) → r .op ≡ Put → s .op ≡ Remove → sameKey r s ≡ true → Equal c st (r ∷ s ∷ []) (s ∷ [])
   unfolding run ends
@@ -317,45 +316,69 @@ module _ (c : Context) (st : State) (h : IsTable st) where
           ∙ sym (remove-after c s st s₀ (present c st) refl k ps (hs .0))
 
   -- what stands under a key behind two puts that are answered
-  both-puts : (r s : Request) → r .op ≡ Put → s .op ≡ Put → AllServed (run (at c (r ∷ s ∷ [])) st) → (k : List ℕ)
-      → content (present c st) k (behind (at c (r ∷ s ∷ [])) st)
+  both-puts : (r s : Request) → r .op ≡ Put → s .op ≡ Put → AllAnswered (run (inContext c (r ∷ s ∷ [])) st) → (k : List ℕ)
+      → content (present c st) k (finalState (inContext c (r ∷ s ∷ [])) st)
       ≡ cond (sameList (s .args .key) k) (written (present c st) s) (cond (sameList (r .args .key) k) (written (present c st) r) (content (present c st) k st))
   unfolding run ends
   both-puts r s pr ps h k = one (step c r st) refl (h .0) (h .1 .0)
     where
-      two : (t : State) → Differs t → present c t ≡ present c st → (o : Outcome) → step c s t ≡ o → Served o
+      two : (t : State) → Differs t → present c t ≡ present c st → (o : Outcome) → step c s t ≡ o → isAnswered o ≡ true
           → content (present c st) k (stateAfter t o) ≡ cond (sameList (s .args .key) k) (written (present c st) s) (content (present c st) k t)
-      two t d p (refused j) e i = absurd i
+      two t d p (refused j) e i = never (cc)
       two t d p (answered a u) e i = rw p at (put-served c s t a u k d ps e)
 
-      one : (o : Outcome) → step c r st ≡ o → Served o → Served (step c s (stateAfter st o))
+      one : (o : Outcome) → step c r st ≡ o → isAnswered o ≡ true → isAnswered (step c s (stateAfter st o)) ≡ true
           → content (present c st) k (stateAfter (stateAfter st o) (step c s (stateAfter st o)))
           ≡ cond (sameList (s .args .key) k) (written (present c st) s) (cond (sameList (r .args .key) k) (written (present c st) r) (content (present c st) k st))
-      one (refused j) e i l = absurd i
+      one (refused j) e i l = never (cc)
       one (answered a t) e i l =
           two t (differs-step c r st s₀ (answered a t) e) (present-after c r st (answered a t) e) (step c s t) refl l
           ∙ ap (cond (sameList (s .args .key) k) (written (present c st) s)) (put-served c r st a t k s₀ pr e)
 
-  exchange : (r s : Request) → r .op ≡ Put → s .op ≡ Put → sameKey r s ≡ false → AllServed (run (at c (r ∷ s ∷ [])) st) → AllServed (run (at c (s ∷ r ∷ [])) st)
-      → Equal c st (r ∷ s ∷ []) (s ∷ r ∷ [])
+  exchange : (r s : Request) → r .op ≡ Put → s .op ≡ Put → sameKey r s ≡ false → AllAnswered (run (inContext c (r ∷ s ∷ [])) st) → AllAnswered (run (inContext c (s ∷ r ∷ [])) st)
+      → SameStanding c st (r ∷ s ∷ []) (s ∷ r ∷ [])
   unfolding run ends
-  exchange r s pr ps q hr hs _ _ k =
+  exchange r s pr ps q hr hs k =
       both-puts r s pr ps hr k
       ∙ exchanged (sameList (s .args .key) k) (sameList (r .args .key) k) (differ-keys r s k q) _ _ _
       ∙ sym (both-puts s r ps pr hs k)
 
 -- whatever was before it, behind a clear nothing stands
-clear-last : (c : Context) (now : ℕ) (k : List ℕ) (s : Request) → s .op ≡ Clear → (rs : List Request) (st : State) → AllOnly10 (run (at c (rs ++ (s ∷ []))) st)
-    → content now k (behind (at c (rs ++ (s ∷ []))) st) ≡ none
+clear-last : (c : Context) (now : ℕ) (k : List ℕ) (s : Request) → s .op ≡ Clear → (rs : List Request) (st : State) → AllOnly10 (run (inContext c (rs ++ (s ∷ []))) st)
+    → content now k (finalState (inContext c (rs ++ (s ∷ []))) st) ≡ none
 unfolding run ends
 clear-last c now k s q [] st h = clear-after c s st now k q (h .0)
 clear-last c now k s q (r ∷ rs) st h = clear-last c now k s q rs (stateAfter st (step c r st)) (h .1)
+
+-- what `content` says of an entry that is found
+found-content : (o : Option Entry) (x : Content) → contentOf o ≡ some x → (f : Entry) × (o ≡ some f) × (f .value ≡ x .value) × (f .deadline ≡ x .deadline)
+found-content none x e = never (cc)
+found-content (some f) x e = (f, refl, ap (λ (o : Option Content). valueIn o) e, ap (λ (o : Option Content). deadlineIn o) e)
+  where
+    valueIn : Option Content → List ℕ
+    valueIn none = []
+    valueIn (some y) = y .value
+
+    deadlineIn : Option Content → ℕ
+    deadlineIn none = 0
+    deadlineIn (some y) = y .deadline
+
+-- Where the same stands under each key, each entry that stands in the one state has one of the same key, value and deadline that stands in the other.
+pub same-entries : (now : ℕ) (st t : State) → Pairs OtherKey (st .entries) → ((k : List ℕ) → content now k st ≡ content now k t) → (e : Entry)
+    → In e (standing now (st .entries)) → (f : Entry) × In f (standing now (t .entries)) × (f .key ≡ e .key) × (f .value ≡ e .value) × (f .deadline ≡ e .deadline)
+unfolding content
+same-entries now st t d h e i =
+    let k = e .key in
+    let a = in-find k e (standing now (st .entries)) (pairs-without (expired now) OtherKey (st .entries) d) i (same-refl k) in
+    let b = found-content (find (hasKey k) (standing now (t .entries))) (record { value = e .value; deadline = e .deadline }) (sym (h k) ∙ ap contentOf a) in
+    let j = find-in (hasKey k) (b .0) (standing now (t .entries)) (b .1) in
+    (b .0, j .0, same-true (b .0 .key) k (j .1), b .2, b .3)
 
 pub combines : Combines
 combines =
     record {
       puts = λ c st r s h. puts c st h r s;
-      removes = λ c st r h. removes c st h r;
+      removes = λ c st r s h. removes c st h r s;
       put-remove = λ c st r s h. put-remove c st h r s;
       clears = λ c st rs s h q hr hs k. clear-last c (present c st) k s q rs st hr ∙ sym (clear-last c (present c st) k s q [] st hs);
       exchange = λ c st r s h. exchange c st h r s;

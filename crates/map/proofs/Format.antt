@@ -200,7 +200,7 @@ message-enc : (comes : ℕ → Bool) (rows : ℕ → List (ℕ × Body)) (flag :
 unfolding message fields seq guard byte as-type
 message-enc comes rows flag x = refl
 
-pieces-enc : (r : Request) (a : Result) → flat (pieces r a) ≡ 0xa1 ∷ (vLong .enc (r .id) ++ ((codeOf (r .op) + 1) ∷ a .status ∷ 0 ∷ flat (shownPieces (a .shown))))
+pub pieces-enc : (r : Request) (a : Result) → flat (pieces r a) ≡ 0xa1 ∷ (vLong .enc (r .id) ++ ((codeOf (r .op) + 1) ∷ a .status ∷ 0 ∷ flat (shownPieces (a .shown))))
 unfolding flat pieces
 pieces-enc r a = ap (λ (s : List ℕ). 0xa1 ∷ s) (append-assoc (vLong .enc (r .id)) ((codeOf (r .op) + 1) ∷ a .status ∷ 0 ∷ []) (flat (shownPieces (a .shown))))
 

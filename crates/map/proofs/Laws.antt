@@ -1,5 +1,5 @@
 -- What is found in a list of entries behind a write, that a refused step changes nothing, and that no version is issued twice. Assumes nothing.
-use mathlib.Core.Path.{_≡_, refl, _∙_}
+use mathlib.Core.Path.{_≡_, refl, sym, ap, subst, _∙_}
 use mathlib.Core.List.{List, [], _∷_, _++_, map}
 use mathlib.Core.Bool.{Bool, true, false, cond}
 use mathlib.Core.Option.{Option, none, some}
@@ -10,10 +10,14 @@ use borrow.Author.Tests.{lt-ltb, le-ltb}
 use Rattle.wire.proofs.SameLaws.{same-true}
 use Rattle.message.specs.Request.{Request}
 use Rattle.map.specs.State.{Entry, State, find, without, hasKey}
-use Rattle.map.specs.Step.{Context, Outcome, refused, answered, step, stateAfter, Taken, run}
-use Rattle.map.specs.Table.{Each}
-use Rattle.map.specs.Issued.{issued, Above, IssuedOnce}
+use Rattle.map.specs.Deadline.{expired}
+use Rattle.map.specs.Plan.{Change, keep, store, drop, empty}
+use Rattle.map.specs.Step.{Context, Outcome, refused, answered, entry, stored, dropped, emptied, names, planned, present, swept, noted, arrive, step, stateAfter, Taken, run}
+use Rattle.map.specs.Table.{Each, In}
+use Rattle.map.specs.Issued.{issued, Above, WritesIssued, lastsOf, IssuedOnce}
 use Rattle.map.proofs.Each.{each-left}
+use Rattle.map.proofs.Members.{in-without, in-add}
+use Rattle.map.proofs.Answered.{changed, did}
 use Rattle.map.proofs.Commute.{issues}
 
 -- what is found behind a removal, and behind a write
@@ -80,24 +84,60 @@ pub issues-after : (c : Context) (r : Request) (st : State) (o : Outcome) → st
 issues-after c r st (refused k) e = inl refl
 issues-after c r st (answered a t) e = issues c r st a t e
 
-pub once-none : (n : ℕ) → IssuedOnce n []
-unfolding issued
-once-none n = record { above = tt; ascends = tt }
+-- what a change writes has the version that it issues
+changed-writes : (r : Request) (st : State) (d : Change) → WritesIssued st (changed r st d)
+unfolding changed stored dropped emptied entry
+changed-writes r st keep e i = inl i
+changed-writes r st drop e i = inl (in-without (names r) e (st .entries) i .0)
+changed-writes r st empty e i = absurd i
+changed-writes r st store e i = go (in-add e (entry (st .history .latest) r (suc (st .last))) (without (names r) (st .entries)) i)
+  where
+    go : In e (without (names r) (st .entries)) ⊎ (entry (st .history .latest) r (suc (st .last)) ≡ e)
+        → In e (st .entries) ⊎ ((st .last < suc (st .last)) × (e .version ≡ suc (st .last)))
+    go (inl j) = inl (in-without (names r) e (st .entries) j .0)
+    go (inr s) = inr (omega arith, sym (ap (λ (y : Entry). y .version) s))
 
-pub once-next : (n m : ℕ) (ms : List ℕ) → Next n m → IssuedOnce m ms → IssuedOnce n (m ∷ ms)
+-- an entry that is there when a call has come was there before, and stands
+pub arrive-had : (c : Context) (r : Request) (st : State) (e : Entry) → In e (arrive c r st .entries) → In e (st .entries) × (expired (present c st) e ≡ false)
+unfolding arrive noted swept
+arrive-had c r st e i = in-without (expired (present c st)) e (st .entries) i
+
+pub arrive-last : (c : Context) (r : Request) (st : State) → arrive c r st .last ≡ st .last
+unfolding arrive noted swept
+arrive-last c r st = refl
+
+pub writes-after : (c : Context) (r : Request) (st : State) (o : Outcome) → step c r st ≡ o → WritesIssued st (stateAfter st o)
+unfolding arrive noted swept
+writes-after c r st (refused k) p e i = inl i
+writes-after c r st (answered a t) p e i =
+    let q = did c r st a t p .state in
+    go (rw (sym q) at (changed-writes r (arrive c r st) (planned r (arrive c r st) .change)) e i)
+  where
+    go : In e (arrive c r st .entries) ⊎ ((st .last < t .last) × (e .version ≡ t .last)) → In e (st .entries) ⊎ ((st .last < t .last) × (e .version ≡ t .last))
+    go (inl j) = inl (arrive-had c r st e j .0)
+    go (inr h) = inr h
+
+pub once-none : (st : State) → IssuedOnce st []
 unfolding issued
-once-next n m ms (inl e) h =
-    let g : IssuedOnce n ms = rw e at h in
-    let z : issued n (n ∷ ms) ≡ issued n ms = rw (le-ltb n n (omega arith)) in
-    rw e (record { above = rw z (g .above); ascends = rw z (g .ascends) })
-once-next n m ms (inr e) h =
-    let z : issued n (m ∷ ms) ≡ m ∷ issued m ms = rw (lt-ltb n m (omega arith)) in
-    record { above = rw z (omega arith, above-less n m (omega arith) (issued m ms) (h .above)); ascends = rw z (h .above, h .ascends) }
+once-none st = record { above = tt; ascends = tt; writes = tt }
+
+pub once-next : (st t : State) (ts : List State) → Next (st .last) (t .last) → WritesIssued st t → IssuedOnce t ts → IssuedOnce st (t ∷ ts)
+unfolding issued
+once-next st t ts (inl e) w h =
+    let z : issued (st .last) (t .last ∷ lastsOf ts) ≡ issued (t .last) (lastsOf ts) = rw (e, le-ltb (st .last) (st .last) (omega arith)) in
+    record { above = rw z (subst (λ (n : ℕ). Above n (issued (t .last) (lastsOf ts))) e (h .above)); ascends = rw z (h .ascends); writes = (w, h .writes) }
+once-next st t ts (inr e) w h =
+    let z : issued (st .last) (t .last ∷ lastsOf ts) ≡ t .last ∷ issued (t .last) (lastsOf ts) = rw (lt-ltb (st .last) (t .last) (omega arith)) in
+    record {
+      above = rw z (omega arith, above-less (st .last) (t .last) (omega arith) (issued (t .last) (lastsOf ts)) (h .above));
+      ascends = rw z (h .above, h .ascends);
+      writes = (w, h .writes);
+    }
 
 -- of the steps of a run
-pub never-twice : (xs : List (Context × Request)) (st : State) → IssuedOnce (st .last) (map (λ (x : Taken). x .state .last) (run xs st))
+pub never-twice : (xs : List (Context × Request)) (st : State) → IssuedOnce st (map (λ (x : Taken). x .state) (run xs st))
 unfolding run
-never-twice [] st = once-none (st .last)
+never-twice [] st = once-none st
 never-twice (x ∷ xs) st =
     let o = step (x .0) (x .1) st in
-    once-next (st .last) (stateAfter st o .last) _ (issues-after (x .0) (x .1) st o refl) (never-twice xs (stateAfter st o))
+    once-next st (stateAfter st o) _ (issues-after (x .0) (x .1) st o refl) (writes-after (x .0) (x .1) st o refl) (never-twice xs (stateAfter st o))

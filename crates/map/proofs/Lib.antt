@@ -21,3 +21,5 @@ pub mod Format
 pub mod CombineLaws
 pub mod OldLaws
 pub mod StatusLaws
+pub mod VersionLaws
+pub mod LawCases

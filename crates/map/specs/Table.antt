@@ -2,6 +2,7 @@
 use mathlib.Core.Path.{_≡_}
 use mathlib.Core.List.{List, [], _∷_}
 use mathlib.Core.Bool.{true}
+use mathlib.Core.Logic.{_⊎_}
 use Prim.Native.Nat.{ℕ, _≤_, _<_}
 use lib.ListN.{length, getD}
 use Rattle.wire.specs.Codec.{isBytes}
@@ -10,6 +11,11 @@ use Rattle.message.specs.Arguments.{keyLimit, valueLimit}
 use Rattle.map.specs.History.{History, countsHeld, mostCount, startOf}
 use Rattle.map.specs.State.{Entry, State}
 use Rattle.map.specs.Step.{mostKeys, lastVersion}
+
+-- the entry is one of them
+abbrev pub In : Entry → List Entry → Type 0
+In e [] = ⊥
+In e (f ∷ fs) = (f ≡ e) ⊎ In e fs
 
 -- "every deadline at most 8,589,934,590"
 abbrev pub lastDeadline : ℕ

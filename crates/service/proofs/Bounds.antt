@@ -150,7 +150,7 @@ module _ (input : List ℕ) (c : Context) (st : State) where
   roomy-serve space h =
       rw (le-ltb space room (omega arith), roomy-within space (request .dec input) (onRead input c st (request .dec input)) h)
 
-  step-roomy : (r : Request) (n : ℕ) (o : Outcome) → Late o → isShort (onStep r n o .answer .verdict) ≡ false
+  pub step-roomy : (r : Request) (n : ℕ) (o : Outcome) → Late o → isShort (onStep r n o .answer .verdict) ≡ false
   unfolding onStep
   step-roomy r n (map-step.refused k) g = ne-eqb k 12 (λ q. omega (arith, g .1))
   step-roomy r n (answered a t) g = refl

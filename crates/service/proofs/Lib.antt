@@ -11,6 +11,7 @@ pub mod Determined
 pub mod Exist
 pub mod Bounds
 pub mod Many
+pub mod Traces
 pub mod Once
 pub mod Expiry
 pub mod Update

@@ -1,23 +1,22 @@
 -- The calls that a stream makes, and what holds of them. Assumes nothing.
 use mathlib.Core.Path.{_≡_, refl, sym, ap, subst, _∙_}
-use mathlib.Core.List.{List, [], _∷_, _++_, map}
+use mathlib.Core.List.{List, [], _∷_, map}
 use mathlib.Core.Bool.{Bool}
 use Prim.Native.Nat.{ℕ}
 use native.Mathlib.Nat.{add-zero}
 use lib.ListN.{length, take, drop, take-append-drop}
 use Rattle.map.specs.Step.{Context}
-use Rattle.map.specs.Issued.{IssuedOnce}
-use Rattle.map.proofs.Laws.{once-none, once-next}
 use Rattle.table.specs.Memory.{stateOf}
 use Rattle.service.specs.Serve.{Verdict}
 use Rattle.service.specs.Stream.{Call, Done, Serves, Run, run-end, run-call}
 use Rattle.service.specs.Many.{Total, at, behind, nothing, only, Streams, waits, last, then}
 use Rattle.service.specs.Expiry.{Rises}
 use Rattle.service.specs.Shares.{Shares, no-more, share}
-use Rattle.service.specs.Linear.{joined}
-use Rattle.service.specs.Made.{totalBy, Made, AllMade, none-made, one-made, Holds, Series, series-end, series-call}
+use Rattle.service.specs.Made.{totalBy, Made, AllMade, none-made, one-made, Holds}
+use Rattle.service.specs.Trace.{Event, Trace, tableLeft, eventsOf, allEvents}
 use Rattle.service.proofs.Served.{served-calls}
-use Rattle.service.proofs.Once.{call-next, never-twice}
+use Rattle.service.proofs.Once.{never-twice}
+use Rattle.service.proofs.Traces.{joins, run-trace}
 use Rattle.service.proofs.Expiry.{call-later, all-in-time, rises}
 
 -- the calls of a stream
@@ -77,26 +76,22 @@ run-holds {input} {table} {cs} {ds} x =
       rises = rises input table cs ds x;
     }
 
--- the table behind calls
-total-table : (v : Verdict) (lent table : List ℕ) (ds es : List Done) → Series (totalBy v lent table ds .table) es → {input : List ℕ} {cs : List Call} → Run input table cs ds
-    → Series table (ds ++ es)
+-- the table behind the calls of a stream
+total-left : (v : Verdict) (lent input table : List ℕ) (cs : List Call) (ds : List Done) → Run input table cs ds → totalBy v lent table ds .table ≡ tableLeft table (eventsOf input cs ds)
 unfolding totalBy
-total-table v lent table [] es s run-end = s
-total-table v lent table (d ∷ ds) es s (run-call x xs) = series-call x (total-table v (drop (d .size) (d .buffer)) (d .table) ds es s xs)
+total-left v lent input table [] [] run-end = refl
+total-left v lent input table (c ∷ cs) (d ∷ ds) (run-call x xs) =
+    total-left v (drop (d .size) (d .buffer)) (drop (d .answer .taken) input) (d .table) cs ds xs
 
 -- the calls of all connections, one behind the other
-pub all-series : {c : Context} {inputs : List (List ℕ)} {table lent : List ℕ} {ts : List Total} {css : List (List Call)} {dss : List (List Done)}
-    → AllMade c inputs table lent ts css dss → Series table (joined dss)
-unfolding joined
-all-series none-made = series-end
-all-series {table = table} {lent = lent} (one-made {t = t} {ds = ds} {dss = dss} m ms) =
-    total-table (t .verdict) lent table ds (joined dss) (subst (λ (x : Total). Series (x .table) (joined dss)) (m .total) (all-series ms)) (m .run)
+pub all-trace : {c : Context} {inputs : List (List ℕ)} {table lent : List ℕ} {ts : List Total} {css : List (List Call)} {dss : List (List Done)}
+    → AllMade c inputs table lent ts css dss → Trace table (allEvents inputs css dss)
+all-trace none-made = tt
+all-trace {table = table} {lent = lent} (one-made {input = input} {inputs = inputs} {t = t} {cs = cs} {css = css} {ds = ds} {dss = dss} m ms) =
+    let e : t .table ≡ tableLeft table (eventsOf input cs ds) = ap (λ (x : Total). x .table) (m .total) ∙ total-left (t .verdict) lent input table cs ds (m .run) in
+    joins table (eventsOf input cs ds) (allEvents inputs css dss) (run-trace input table cs ds (m .run))
+    (subst (λ (u : List ℕ). Trace u (allEvents inputs css dss)) e (all-trace ms))
 
--- no version is issued twice to whatever connections
-pub series-once : {table : List ℕ} {ds : List Done} → Series table ds → IssuedOnce (stateOf table .last) (map (λ (d : Done). stateOf (d .table) .last) ds)
-series-once {table} series-end = once-none (stateOf table .last)
-series-once {table} (series-call {d = d} x xs) = once-next (stateOf table .last) (stateOf (d .table) .last) _ (call-next x) (series-once xs)
-
-pub series-rises : {table : List ℕ} {ds : List Done} → Series table ds → Rises (stateOf table .history .latest) ds
-series-rises series-end = tt
-series-rises (series-call x xs) = (call-later x, series-rises xs)
+pub trace-rises : (table : List ℕ) (xs : List Event) → Trace table xs → Rises (stateOf table .history .latest) (map (λ (x : Event). x .done) xs)
+trace-rises table [] h = tt
+trace-rises table (x ∷ xs) h = (call-later (h .0), trace-rises (x .done .table) xs (h .1))

@@ -35,7 +35,7 @@ sound-is t s = it-is-yes (decSound t) s
 pub tells-sound : (t : List ℕ) → Tells (isSound t) (Sound t)
 tells-sound t = (is-sound t, sound-is t)
 
-told-same : (a b : Bool) {P : Type 0} → Tells a P → Tells b P → a ≡ b
+pub told-same : (a b : Bool) {P : Type 0} → Tells a P → Tells b P → a ≡ b
 told-same true b p q = sym (q .1 (p .0 refl))
 told-same false true p q = p .1 (q .0 refl)
 told-same false false p q = refl

@@ -2,6 +2,7 @@ pub mod Serve
 pub mod Stream
 pub mod Demand3
 pub mod Expiry
+pub mod Trace
 pub mod Update
 pub mod Many
 pub mod Line

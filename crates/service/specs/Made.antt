@@ -9,7 +9,7 @@ use Rattle.map.specs.Step.{Context}
 use Rattle.map.specs.Issued.{IssuedOnce}
 use Rattle.table.specs.Memory.{stateOf, Sound}
 use Rattle.service.specs.Serve.{Verdict}
-use Rattle.service.specs.Stream.{Call, Done, Serves, Run}
+use Rattle.service.specs.Stream.{Call, Done, Run}
 use Rattle.service.specs.Many.{Total, at, behind}
 use Rattle.service.specs.Demand3.{seen, play, Roomy}
 use Rattle.service.specs.Expiry.{AllInTime, Rises}
@@ -43,11 +43,6 @@ pub data AllMade (c : Context) : List (List ℕ) → List ℕ → List ℕ → L
 pub record Holds (input table : List ℕ) (calls : List Call) (dones : List Done) : Type 0 where
   pub served : (rs : List Request) (tail : List ℕ) → input ≡ written rs ++ tail → WellFormed rs → Sound table → Roomy rs calls
       → take (length rs) (map seen dones) ≡ play rs calls (stateOf table)
-  pub once : IssuedOnce (stateOf table .last) (map (λ (d : Done). stateOf (d .table) .last) dones)
+  pub once : IssuedOnce (stateOf table) (map (λ (d : Done). stateOf (d .table)) dones)
   pub in-time : AllInTime input table calls dones
   pub rises : Rises (stateOf table .history .latest) dones
-
--- calls one after the other on one table, whatever the input of each: of several connections
-pub data Series : List ℕ → List Done → Type 0 where
-  series-end : {table : List ℕ} → Series table []
-  series-call : {input table : List ℕ} {c : Call} {d : Done} {ds : List Done} → Serves input table c d → Series (d .table) ds → Series table (d ∷ ds)

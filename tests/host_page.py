@@ -255,9 +255,10 @@ def crowd(bench):
         host.entries()
         files, before = host.files(), host.memory()
         silent = [socket.create_connection(('127.0.0.1', host.page), timeout=SECONDS) for _ in range(64)]
-        many = [socket.create_connection(('127.0.0.1', host.page), timeout=SECONDS) for _ in range(120)]
-        for visitor in many:
-            visitor.sendall(b'GET /data HTTP/1.1\r\n\r\n')
+        many = []
+        for _ in range(120):  # each asks at once: one that does not may lose its place to another
+            many.append(socket.create_connection(('127.0.0.1', host.page), timeout=SECONDS))
+            many[-1].sendall(b'GET /data HTTP/1.1\r\n\r\n')
         for _ in range(200):
             demand(caller.call(GET, key=key_name(1)).status == 0 and caller.call(PING).status == 0, 'beside the page', 'no answer')
         demand(host.files() <= files + 66, 'a crowd', f'{host.files() - files} files more')

@@ -232,8 +232,9 @@ def marks(board, tab):
 def heading(board):
     """Point 3: keys stand as people count; what all of them share stands in the heading."""
     with board.tab(WALLS['wall'], media=CALM) as tab:
-        for entries, wanted, keys in (([b'berth/10', b'berth/2', b'berth/1'], 'Arrivals by berth', ['1', '2', '10']), ([b'berth/n/1'], 'Arrivals by berth', ['1', '2', '10', 'n/1']),
-                                      ([b'pier/3'], 'Arrivals', ['berth/1', 'berth/2', 'berth/10', 'berth/n/1', 'pier/3'])):
+        for entries, wanted, keys in (([b'berth/10', b'berth/2', b'berth/1'], 'Arrivals by berth', ['1', '2', '10']), ([b'berth/3'], 'Arrivals by berth', ['1', '2', '3', '10']),
+                                      ([b'berth/n/1'], 'Arrivals by berth', ['1', '2', '3', '10', 'n/1']),
+                                      ([b'pier/3'], 'Arrivals', ['berth/1', 'berth/2', 'berth/3', 'berth/10', 'berth/n/1', 'pier/3'])):
             board.put((key, b'Ida') for key in entries)
             wait_for(tab, len(keys), wanted)
             found = [row['key']['text'] for row in seen(tab)]
@@ -246,7 +247,7 @@ def heading(board):
         board.put([(b'a/b/', b'x')])
         demand([row['key']['text'] for row in wait_for(tab, 3, 'a key that ends with a slash')] == ['b/', 'b/1', 'b/2'], 'a key that ends with a slash', 'other keys')
     board.clear()
-    return 5
+    return 6
 
 
 # Takes down, at each frame, how many rows are in sight and what the page says of its screens.

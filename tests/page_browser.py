@@ -192,17 +192,7 @@ def long_texts(board):
             board.picture(tab, f'yacht-{name}')
         tab.resize(*WALLS['wall'])
         marks(board, tab)
-        board.clear()
-        board.put((key, value + b', from Rotterdam to Oslo') for key, value in ships)
-        tab.until('document.body.textContent.split("Rotterdam").length === 26', 'texts of two lines')
-        for name, size in WALLS.items():
-            tab.resize(*size)
-            screens = screens_of(tab, f'texts of two lines, {name}')
-            demand_good(screens[0], f'texts of two lines, {name}')
-            demand(len(screens) == 1 and not any(row['value']['cut'] for row in screens[0]), f'texts of two lines, {name}', f'{len(screens)} screens, or a text is cut')
-            demand(letters(screens[0]) >= 1.5 * unit(size), f'texts of two lines, {name}', f'letters of {letters(screens[0])}')
-        tab.resize(*WALLS['wall'])
-        board.picture(tab, 'two-lines')
+        two_lines(board, tab)
         board.put([(b'berth/9', YACHT)])
     for name, size in PHONES.items():
         with board.tab(size, media=CALM) as tab:
@@ -213,6 +203,21 @@ def long_texts(board):
             board.picture(tab, f'yacht-{name}')
     board.clear()
     return 2 * len(WALLS) + 3
+
+
+def two_lines(board, tab):
+    """25 texts that need two lines are whole, on one screen."""
+    board.clear()
+    board.put((key, value + b', from Rotterdam to Oslo') for key, value in map(ship, range(1, 26)))
+    tab.until('document.body.textContent.split("Rotterdam").length === 26', 'texts of two lines')
+    for name, size in WALLS.items():
+        tab.resize(*size)
+        screens = screens_of(tab, f'texts of two lines, {name}')
+        demand_good(screens[0], f'texts of two lines, {name}')
+        demand(len(screens) == 1 and not any(row['value']['cut'] for row in screens[0]), f'texts of two lines, {name}', f'{len(screens)} screens, or a text is cut')
+        demand(letters(screens[0]) >= 1.5 * unit(size), f'texts of two lines, {name}', f'letters of {letters(screens[0])}')
+    tab.resize(*WALLS['wall'])
+    board.picture(tab, 'two-lines')
 
 
 def marks(board, tab):
@@ -345,6 +350,12 @@ def lost(bench, browser, pictures):
             demand(host.stop() == 0, 'the end', host.words())
     for one in (tab, phone):
         one.__exit__()
+    never_heard(bench, browser, pictures)
+    return 11
+
+
+def never_heard(bench, browser, pictures):
+    """A screen that is switched on while the server does not answer says so, and shows the entries when it does."""
     with Stuck(bench, 'stuck') as host:
         board = Board(browser, host, pictures)
         with board.tab(WALLS['wall'], media=CALM) as tab:
@@ -353,7 +364,6 @@ def lost(bench, browser, pictures):
             board.picture(tab, 'never-heard')
             host.lift()
             wait_for(tab, 1, 'a server that answers at last')
-    return 11
 
 
 def luminance(tab):
@@ -392,6 +402,17 @@ def everyone(bench, board):
     board.clear()
     board.put(ship(at) for at in range(1, 129))
     schemes(board)
+    sheet(board)
+    board.clear()
+    with Shown(bench.table('titled'), '--title', '<i>Fähren</i> & "mehr"') as host:
+        with board.browser.tab(WALLS['wall'], f'http://127.0.0.1:{host.page}/', media=CALM) as tab:
+            tab.until('document.querySelector("h1").innerText.trim() === \'<i>Fähren</i> & "mehr"\' && document.title === \'<i>Fähren</i> & "mehr"\'', 'a title')
+            demand(not tab.wrong, 'the browser', f'it says {tab.wrong}')
+    return 9
+
+
+def sheet(board):
+    """Printed, all entries are on a light sheet with the date, whichever screen is shown."""
     with board.tab(WALLS['wall'], media=CALM) as tab:
         wait_for(tab, 128, 'a sheet')
         tab.press('ArrowRight')
@@ -405,12 +426,6 @@ def everyone(bench, board):
         demand(luminance(tab) == 255 or tab.run('getComputedStyle(document.body).backgroundColor') == 'rgba(0, 0, 0, 0)', 'a sheet', 'it is dark')
         tab.resize(680, 1000)
         board.picture(tab, 'sheet')
-    board.clear()
-    with Shown(bench.table('titled'), '--title', '<i>Fähren</i> & "mehr"') as host:
-        with board.browser.tab(WALLS['wall'], f'http://127.0.0.1:{host.page}/', media=CALM) as tab:
-            tab.until('document.querySelector("h1").innerText.trim() === \'<i>Fähren</i> & "mehr"\' && document.title === \'<i>Fähren</i> & "mehr"\'', 'a title')
-            demand(not tab.wrong, 'the browser', f'it says {tab.wrong}')
-    return 9
 
 
 def schemes(board):

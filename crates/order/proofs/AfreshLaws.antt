@@ -3,14 +3,16 @@ use mathlib.Core.Path.{_≡_, sym, subst}
 use mathlib.Core.List.{List, [], _∷_}
 use mathlib.Core.Bool.{Bool}
 use mathlib.Core.Option.{Option, none, some}
+use Prim.Native.Nat.{ℕ}
 use Rattle.wire.specs.Each.{Each}
 use Rattle.map.specs.State.{State}
 use Rattle.map.specs.Step.{Context}
-use Rattle.table.specs.Memory.{Sound}
+use Rattle.table.specs.Memory.{stateOf, Sound}
 use Rattle.table.specs.declared.Outcome.{Outcome}
 use Rattle.table.specs.declared.Outcome.the-variants.{Done as Loads, Refused}
 use Rattle.table.proofs.ByKey.{order-entries}
-use Rattle.service.specs.Stream.{Call, Done, Becomes, Run, run-end, run-call}
+use Rattle.service.specs.Stream.{Call, Done, effectOf, Becomes, Run, run-end, run-call}
+use Rattle.service.specs.Line.{lineStep}
 use Rattle.service.specs.Many.{Total, Streams, waits, last, then}
 use Rattle.stored.specs.File.{form1}
 use Rattle.stored.specs.StoreLoad.{Loaded}
@@ -24,14 +26,14 @@ becomes-sound : {t u : List ℕ} (o : Option State) → Becomes t o u → Sound 
 becomes-sound none b s = subst Sound (sym b) s
 becomes-sound (some st) b s = b .1
 
-loaded-sound : {file t u : List ℕ} (o : Outcome) → Loaded form1 file t o u → Sound t → Sound u
-loaded-sound Loads l s = l .1
-loaded-sound (Refused k) l s = subst Sound (sym (l .1)) s
+loaded-sound : (file : List ℕ) {t u : List ℕ} (o : Outcome) → Loaded form1 file t o u → Sound t → Sound u
+loaded-sound file Loads l s = l .1
+loaded-sound file (Refused k) l s = subst Sound (sym (l .1)) s
 
 transition-sound : {t u : List ℕ} → Transition t u → Sound t → Sound u
-transition-sound (call x) s = becomes-sound _ (x .does .table) s
-transition-sound (line l b) s = becomes-sound _ b s
-transition-sound (load o l) s = loaded-sound o l s
+transition-sound (call {input = input} {t = t} {c = c} x) s = becomes-sound (effectOf (x .ok) input t c .next) (x .does .table) s
+transition-sound (line {t = t} l b) s = becomes-sound (lineStep l (stateOf t) .next) b s
+transition-sound (load file o l) s = loaded-sound file o l s
 
 transitions-sound : {t u : List ℕ} → Transitions t u → Sound t → Sound u
 transitions-sound start s = s

@@ -1,6 +1,7 @@
 -- "After every operation, expiry and load it equals the order made afresh" (document 02, C-24), over every way in which the memory of a table goes on.
 use mathlib.Core.Path.{_≡_}
 use mathlib.Core.List.{List, map}
+use Prim.Native.Nat.{ℕ}
 use Rattle.map.specs.KeyListing.{sortedByKey}
 use Rattle.table.specs.Memory.{stateOf, rowEntry, orderHeld, OrderKept}
 use Rattle.table.specs.declared.Outcome.{Outcome}
@@ -18,7 +19,7 @@ pub record OrderAfresh (t : List ℕ) : Type 0 where
 pub data Transition : List ℕ → List ℕ → Type 0 where
   call : {input t : List ℕ} {c : Call} {d : Done} → Serves input t c d → Transition t (d .table)
   line : {t u : List ℕ} (s : List ℕ) → Becomes t (lineStep s (stateOf t) .next) u → Transition t u
-  load : {file t u : List ℕ} (o : Outcome) → Loaded form1 file t o u → Transition t u
+  load : {t u : List ℕ} (file : List ℕ) (o : Outcome) → Loaded form1 file t o u → Transition t u
 
 -- any number of them, one after the other
 pub data Transitions : List ℕ → List ℕ → Type 0 where

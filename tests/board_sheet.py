@@ -32,7 +32,7 @@ def words(chance):
     """What may stand behind TABLE. A word can't have a byte 0."""
     yield []
     yield [b'']
-    for key in (b'', b'a', b'a\x80', b'aaa', b'\xff\xff', b'k' * 65, b'k' * 4000, key_name(5), chance.randbytes(2).replace(b'\0', b'\1')):
+    for key in (b'', b'a', b'a\x80', b'aaa', b'\xff\xff', b'k' * 65, b'k' * 4000, key_name(5).replace(b'\0', b'\1'), chance.randbytes(2).replace(b'\0', b'\1')):
         yield [b'', key]
         for count in (b'0', b'1', b'2', b'127', b'128', b'129', b'9223372036854775807'):
             yield [b'', key, count]

@@ -138,7 +138,8 @@ def copy_of_board(top):
     folder = os.path.join(top, 'clone')
     os.makedirs(os.path.join(folder, 'target/bin'))
     os.makedirs(os.path.join(folder, 'tools'))
-    for path, name in ((BOARD, 'board'), (os.path.join(TOP, 'tools/building'), 'tools/building'), (PROGRAM, 'target/bin/board')):
+    for path, name in ((BOARD, 'board'), (os.path.join(TOP, 'tools/building'), 'tools/building'), (os.path.join(TOP, 'crates.txt'), 'crates.txt'),
+                       (PROGRAM, 'target/bin/board')):
         os.chmod(shutil.copy(path, os.path.join(folder, name)), 0o755)
     return os.path.join(folder, 'board')
 

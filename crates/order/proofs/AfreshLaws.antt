@@ -7,16 +7,15 @@ use Prim.Native.Nat.{ℕ}
 use Rattle.wire.specs.Each.{Each}
 use Rattle.map.specs.State.{State}
 use Rattle.map.specs.Step.{Context}
-use Rattle.table.specs.Memory.{stateOf, Sound}
+use Rattle.table.specs.Memory.{Sound}
 use Rattle.table.specs.declared.Outcome.{Outcome}
 use Rattle.table.specs.declared.Outcome.the-variants.{Done as Loads, Refused}
 use Rattle.table.proofs.ByKey.{order-entries}
 use Rattle.service.specs.Stream.{Call, Done, effectOf, Becomes, Run, run-end, run-call}
-use Rattle.service.specs.Line.{lineStep}
 use Rattle.service.specs.Many.{Total, Streams, waits, last, then}
 use Rattle.stored.specs.File.{form1}
 use Rattle.stored.specs.StoreLoad.{Loaded}
-use Rattle.order.specs.Afresh.{OrderAfresh, Transition, call, line, load, Transitions, start, onward}
+use Rattle.order.specs.Afresh.{OrderAfresh, Transition, call, lines, load, Transitions, start, onward}
 
 -- in every sound table
 pub sound-afresh : (t : List ℕ) → Sound t → OrderAfresh t
@@ -32,7 +31,7 @@ loaded-sound file (Refused k) l s = subst Sound (sym (l .1)) s
 
 transition-sound : {t u : List ℕ} → Transition t u → Sound t → Sound u
 transition-sound (call {input = input} {t = t} {c = c} x) s = becomes-sound (effectOf (x .ok) input t c .next) (x .does .table) s
-transition-sound (line {t = t} l b) s = becomes-sound (lineStep l (stateOf t) .next) b s
+transition-sound (lines {x = x} y b) s = becomes-sound (x .next) b s
 transition-sound (load file o l) s = loaded-sound file o l s
 
 transitions-sound : {t u : List ℕ} → Transitions t u → Sound t → Sound u

@@ -1,3 +1,4 @@
+#![tactic(auto)]
 // Numbers as their shortest decimal, in ASCII digits: a length, and the digits.
 ghost use Rattle.std.specs.Prelude.{◌≡◌, true, ◌+◌, ◌≤◌, length};
 ghost use Rattle.wire.specs.Codec.{read_at};

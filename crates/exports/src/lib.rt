@@ -1,3 +1,4 @@
+#![tactic(auto)]
 // The library for other languages: each function takes numbers and slices, for any bytes and any lengths. What the number answered means:
 // fq_read_request, fq_read_reply, fq_next_entry: 256 and the count of the message's or the entry's bytes, 0 for more needed, or the refusal 1 to 8;
 // fq_write_request, fq_write_reply, fq_write_statistics, fq_write_entries: 256 and the count of the bytes written, or 16, 12;

@@ -1,3 +1,4 @@
+#![tactic(auto)]
 // The readers of a field, for any bytes and any place, and the module of its writers.
 pub mod put;
 

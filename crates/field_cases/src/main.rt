@@ -1,3 +1,4 @@
+#![tactic(auto)]
 // Runs the field readers on the cases of standard input, one a line: a letter for the field, and the bytes in hexadecimal digits.
 ghost use Rattle.std.specs.Prelude.{◌≤◌};
 ghost use Rattle.io.specs.Counts.{IsPrefixLen};

@@ -1,3 +1,4 @@
+#![tactic(auto)]
 // A file through a buffer, as a machine by value: it says what to write, when to read on and where to, and when all is done.
 mod buffer;
 

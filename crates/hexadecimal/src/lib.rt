@@ -1,3 +1,4 @@
+#![tactic(auto)]
 // Bytes as lowercase hexadecimal digits.
 ghost use Rattle.std.specs.Prelude.{◌≡◌, true, ◌+◌, ◌*◌, ◌/◌, ◌≤◌, ◌<◌, length, get_or};
 ghost use Rattle.std.proofs.lemmas.List.Edits.{sets};

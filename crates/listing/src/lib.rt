@@ -1,3 +1,4 @@
+#![tactic(auto)]
 // The entries of a bulk reply: each with its key, and with its value where values are asked for. Their readers, and the module of their writers.
 pub mod put;
 

@@ -1,3 +1,4 @@
+#![tactic(auto)]
 // The messages of the protocol: their types, and the limits that belong to them. Their formats are in specs/, the formats' laws in proofs/.
 ghost use Rattle.std.specs.Prelude.{◌≡◌};
 ghost use Rattle.field.specs.FieldRead.{part_of};

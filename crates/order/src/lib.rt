@@ -1,3 +1,4 @@
+#![tactic(auto)]
 // The listing of keys by the order that a table keeps.
 ghost use Rattle.std.specs.Prelude.{◌≡◌, min};
 ghost use Rattle.wire.specs.Write.{sent};

@@ -1,3 +1,4 @@
+#![tactic(auto)]
 // What a request is going to do: the status of its reply, and what becomes of the entries.
 ghost use Rattle.std.specs.Prelude.{◌≡◌};
 ghost use Rattle.map.specs.Plan as map;

@@ -1,3 +1,4 @@
+#![tactic(auto)]
 // The reader of a reply, for any bytes and whatever was asked.
 mod read;
 

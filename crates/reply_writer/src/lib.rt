@@ -1,3 +1,4 @@
+#![tactic(auto)]
 // The writers of a reply, whatever was asked.
 mod counted;
 mod listed;

@@ -1,3 +1,4 @@
+#![tactic(auto)]
 // The reader of a request.
 ghost use Rattle.std.specs.Prelude.{◌≡◌};
 ghost use Rattle.wire.specs.Codec.{read_at, mapped};

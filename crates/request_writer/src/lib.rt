@@ -1,3 +1,4 @@
+#![tactic(auto)]
 // The writer of a request.
 mod write;
 

@@ -1,3 +1,4 @@
+#![tactic(auto)]
 // The tables of the protocol: the served versions with their flags and operations, the arguments of each operation, and the reply table with the fields
 // of each body.
 ghost use Rattle.std.specs.Prelude.{◌≡◌, true, false, cond, ◌&&◌, eqb};

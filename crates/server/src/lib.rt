@@ -1,3 +1,4 @@
+#![tactic(auto)]
 // The server: one call, a stream of calls, and the lines of a file.
 mod act;
 mod bulk;

@@ -1,3 +1,4 @@
+#![tactic(auto)]
 // The statistics of a stats reply: how many there are, and for each its name and its value in decimal digits.
 pub mod put;
 

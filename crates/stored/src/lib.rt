@@ -1,3 +1,4 @@
+#![tactic(auto)]
 // The stored form of a table: a line at a time, and the whole file.
 mod lines;
 

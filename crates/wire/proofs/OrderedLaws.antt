@@ -16,6 +16,7 @@ use Rattle.wire.proofs.SortedLaws.{In, Before, Apart, in_sorted, sorted_in, sort
 module _ {A : Type 0} where
   in_snoc : (x a : A) (xs : List A) → In x (xs ++ (a ∷ [])) → In x xs ⊎ (x ≡ a)
   in_snoc x a [] (inl e) = inr e
+  in_snoc x a [] (inr i) = elim i [ ]
   in_snoc x a (b ∷ xs) (inl e) = inl (inl e)
   in_snoc x a (b ∷ xs) (inr i) = ⊎_elim (λ j. inl (inr j)) (λ e. inr e) (in_snoc x a xs i)
 

@@ -134,7 +134,7 @@ fn encode_part(out: &mut [u8], from: usize, m: usize, to: usize)
     ensures { out.new ≡ sets out.old to (to_hex (part out.old from m)) }
 {
     let mut some = [0u8; 64];
-    bytes::copy(&out[from..from + m], &mut some);
+    some[..m].copy_from_slice(&out[from..from + m]);
     encode(&some[..m], out, to);
 }
 

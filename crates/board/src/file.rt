@@ -7,14 +7,14 @@ use field::Span;
 use files::Window;
 
 // What reading on gives: the window after it, or that it failed.
-#[derive(Drop)]
+#[derive(Clone, Copy)]
 pub(crate) enum Got {
     More(Window),
     Failed,
 }
 
 // How a turn ends: there is a next one; all is done; the file is not good; or a system call failed, and that was said.
-#[derive(Drop)]
+#[derive(Clone, Copy)]
 pub(crate) enum Turned {
     On(Window),
     Done,

@@ -6,7 +6,7 @@ use libc::STDOUT_FILENO;
 use message::Sent;
 
 // How many keys are asked for at most, or that the word is no number.
-#[derive(Drop)]
+#[derive(Clone, Copy)]
 enum Count {
     Most(u64),
     Bad,

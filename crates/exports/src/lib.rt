@@ -34,7 +34,7 @@ use message::{Asked, Found};
 
 // How many numbers are told: of a request and of a reply that was read, of an entry of a bulk reply, of two keys, of a call, of calls one after the
 // other, and of lines.
-#[derive(Drop)]
+#[derive(Clone, Copy)]
 pub struct Told {}
 
 impl Told {

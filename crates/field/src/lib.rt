@@ -8,60 +8,60 @@ ghost use Rattle.wire.specs.Field.{entry_version, second, limited};
 ghost use Rattle.field.specs.FieldRead.{as_byte, as_number, as_version, as_second, as_span, number_of, most_of, top_of, refusal_of, limited_text, between, part_of, span_to, stopped};
 
 // A place in the bytes that are read.
-#[derive(Drop)]
+#[derive(Clone, Copy)]
 pub struct Cursor {
     pub at: usize,
 }
 
 // A part of the bytes that are read: `len` bytes from `start` on.
-#[derive(Drop)]
+#[derive(Clone, Copy)]
 pub struct Span {
     pub start: usize,
     pub len: usize,
 }
 
 // The version of an entry: a serial number.
-#[derive(Drop)]
+#[derive(Clone, Copy)]
 pub struct EntryVersion(pub u64);
 
 // A second: a time.
-#[derive(Drop)]
+#[derive(Clone, Copy)]
 pub struct Second(pub u64);
 
 // The two kinds of number on the wire.
-#[derive(Drop)]
+#[derive(Clone, Copy)]
 pub enum Kind {
     VInt,
     VLong,
 }
 
 // What each reader finds: the value with the place behind it, more needed, or a refusal by its number.
-#[derive(Drop)]
+#[derive(Clone, Copy)]
 pub enum ByteRead {
     Whole(u8, Cursor),
     More,
 }
 
-#[derive(Drop)]
+#[derive(Clone, Copy)]
 pub enum NumberRead {
     Whole(u64, Cursor),
     More,
     Refused(u8),
 }
 
-#[derive(Drop)]
+#[derive(Clone, Copy)]
 pub enum VersionRead {
     Whole(EntryVersion, Cursor),
     More,
 }
 
-#[derive(Drop)]
+#[derive(Clone, Copy)]
 pub enum SecondRead {
     Whole(Second, Cursor),
     More,
 }
 
-#[derive(Drop)]
+#[derive(Clone, Copy)]
 pub enum SpanRead {
     Whole(Span, Cursor),
     More,

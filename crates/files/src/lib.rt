@@ -15,7 +15,7 @@ use server::{Fed, Served};
 // Where reading a file through a buffer stands: the bytes of the buffer from `from` up to `held` are read and not yet taken. carried: what the bytes
 // before hand to those behind; in serving, that the rest of a line is to be passed over; in loading, that the first line is loaded. ended: a read
 // brought nothing.
-#[derive(Drop)]
+#[derive(Clone, Copy)]
 pub struct Window {
     pub from: usize,
     pub held: usize,
@@ -26,7 +26,7 @@ pub struct Window {
 // What is to be done next. Write: write so many bytes of the output, and call again. Read: read into the buffer behind the bytes held, and call
 // again with what `after_read` answers. Refused: 12 where a buffer is too short, 13 where the table is not sound. Astray: the window is none of
 // this buffer.
-#[derive(Drop)]
+#[derive(Clone, Copy)]
 pub enum NextServe {
     Write(usize, Window),
     Read(Window),
@@ -37,7 +37,7 @@ pub enum NextServe {
 
 // The same for loading, which writes nothing. Broken: 17, the file stores no table, with the number of the first line that is not good. Refused: 12
 // where the buffer is too short.
-#[derive(Drop)]
+#[derive(Clone, Copy)]
 pub enum NextLoad {
     Read(Window),
     Done,
@@ -53,7 +53,7 @@ impl NextLoad {
 
 // The same for storing. Write: write so many bytes of the output, and call again for the line that is named. Refused: 12 where there is no room for a
 // line, 13 where the table is not sound.
-#[derive(Drop)]
+#[derive(Clone, Copy)]
 pub enum NextStore {
     Write(usize, usize),
     Done,

@@ -10,7 +10,7 @@ ghost use Rattle.wire.specs.Field.{big_endian};
 ghost use Rattle.hexadecimal.specs.Number.{value_of, are_digits, from_digits, as_number};
 
 // What decoding finds: so many bytes, digits that are none or odd in number, or too little room.
-#[derive(Drop)]
+#[derive(Clone, Copy)]
 pub enum Decoded {
     Bytes(usize),
     Bad,
@@ -18,7 +18,7 @@ pub enum Decoded {
 }
 
 // What reading a second finds: its number, or something else than eight digits.
-#[derive(Drop)]
+#[derive(Clone, Copy)]
 pub enum NumberRead {
     Value(u32),
     Bad,

@@ -15,7 +15,7 @@ use message::Request;
 
 // What reading one finds: where its key and its value stand, with the place behind it; the end of the list, with the place behind it; more
 // needed; or a refusal by its number.
-#[derive(Drop)]
+#[derive(Clone, Copy)]
 pub enum EntryRead {
     Whole(Span, Span, Cursor),
     End(Cursor),
@@ -24,7 +24,7 @@ pub enum EntryRead {
 }
 
 // How many bytes entries take, or that they have no written form.
-#[derive(Drop)]
+#[derive(Clone, Copy)]
 pub enum Size {
     Bytes(usize),
     Broken,

@@ -8,7 +8,7 @@ ghost use Rattle.message.specs.Payload.{text_limit};
 
 use field::{EntryVersion, Span};
 
-#[derive(Drop)]
+#[derive(Clone, Copy)]
 pub enum Operation {
     Put,
     Get,
@@ -28,7 +28,7 @@ pub enum Operation {
 
 // The numbers of a request. A number that the operation does not send is 0. `bulk` is the number of entries that bulkGet asks for, and the scope of
 // bulkGetKeys.
-#[derive(Drop)]
+#[derive(Clone, Copy)]
 pub struct Head {
     pub id: u64,
     pub version: u8,
@@ -43,7 +43,7 @@ pub struct Head {
 }
 
 // A request that was read: its numbers, and where in the bytes its name, key and value stand.
-#[derive(Drop)]
+#[derive(Clone, Copy)]
 pub struct Request {
     pub head: Head,
     pub name: Span,
@@ -52,7 +52,7 @@ pub struct Request {
 }
 
 // What was asked: the version, the operation's code, and whether flag 0x0001 was set.
-#[derive(Drop)]
+#[derive(Clone, Copy)]
 pub struct Asked {
     pub version: u8,
     pub op: u8,
@@ -60,7 +60,7 @@ pub struct Asked {
 }
 
 // The numbers of a reply. A number that the operation and status do not send is 0.
-#[derive(Drop)]
+#[derive(Clone, Copy)]
 pub struct ReplyHead {
     pub id: u64,
     pub op: u8,
@@ -69,7 +69,7 @@ pub struct ReplyHead {
 }
 
 // A reply that was read: its numbers, and where in the bytes its value and its text stand.
-#[derive(Drop)]
+#[derive(Clone, Copy)]
 pub struct Reply {
     pub head: ReplyHead,
     pub value: Span,
@@ -78,7 +78,7 @@ pub struct Reply {
 
 // The fields of a reply's body: none; bytes of at most a length; an entry version and a value; a text; the
 // nine statistics; entries, with their values or their keys alone.
-#[derive(Drop)]
+#[derive(Clone, Copy)]
 pub enum Form {
     Nothing,
     Value(u64),
@@ -89,7 +89,7 @@ pub enum Form {
 }
 
 // The largest sizes of a request's name, key and value.
-#[derive(Drop)]
+#[derive(Clone, Copy)]
 pub struct Limits {
     pub name: u64,
     pub key: u64,
@@ -97,7 +97,7 @@ pub struct Limits {
 }
 
 // What the writer of a message answers: how many bytes it wrote, or the refusal for which it wrote none.
-#[derive(Drop)]
+#[derive(Clone, Copy)]
 pub enum Sent {
     Written(usize),
     Refused(u8),
@@ -194,7 +194,7 @@ pub fn code(op: Operation) -> u8
 }
 
 // What a code stands for. "Every other code is refused, known to the protocol or not."
-#[derive(Drop)]
+#[derive(Clone, Copy)]
 pub enum Found {
     Known(Operation),
     Unknown,

@@ -9,14 +9,14 @@ use message::Operation;
 use table::{Found, Table};
 
 // The row that has the key, with the version of its entry, or that none has it.
-#[derive(Drop)]
+#[derive(Clone, Copy)]
 pub enum Held {
     Row(usize, EntryVersion),
     Absent,
 }
 
 // What becomes of the entries.
-#[derive(Drop)]
+#[derive(Clone, Copy)]
 pub enum Change {
     Keep,
     Store,
@@ -24,14 +24,14 @@ pub enum Change {
     Empty,
 }
 
-#[derive(Drop)]
+#[derive(Clone, Copy)]
 pub struct Plan {
     pub status: u8,
     pub change: Change,
 }
 
 // Whether a change may be made, or the refusal for which it may not.
-#[derive(Drop)]
+#[derive(Clone, Copy)]
 pub enum Judged {
     Free,
     Refused(u8),

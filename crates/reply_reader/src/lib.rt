@@ -13,7 +13,7 @@ use rules::Awaited;
 use statistics::Statistics;
 
 // The entries of a bulk reply: how many they are, and the part of the bytes where they stand, from the first more byte through the byte 0 at the end.
-#[derive(Drop)]
+#[derive(Clone, Copy)]
 pub struct Entries {
     pub count: u64,
     pub part: Span,
@@ -21,7 +21,7 @@ pub struct Entries {
 
 // What reading a reply finds: the reply with the count of its bytes, a stats reply with the nine and the count, a bulk reply with its entries and the
 // count, more needed, or a refusal by its number.
-#[derive(Drop)]
+#[derive(Clone, Copy)]
 pub enum ReplyRead {
     Whole(Reply, usize),
     Statistics(ReplyHead, Statistics, usize),

@@ -14,7 +14,7 @@ use message::{Found, Head, Operation, Request};
 use rules::Shape;
 
 // What reading a request finds: the request with the number of bytes it took, more needed, or a refusal by its number.
-#[derive(Drop)]
+#[derive(Clone, Copy)]
 pub enum RequestRead {
     Whole(Request, usize),
     More,
@@ -23,14 +23,14 @@ pub enum RequestRead {
 
 // The fields up to the operation, those from the name on, and the arguments. A number that the operation does not send is 0, and so is a part's start and
 // length.
-#[derive(Drop)]
+#[derive(Clone, Copy)]
 struct Front {
     id: u64,
     version: u8,
     op: Operation,
 }
 
-#[derive(Drop)]
+#[derive(Clone, Copy)]
 struct Options {
     name: Span,
     flags: u64,
@@ -38,7 +38,7 @@ struct Options {
     topology: u64,
 }
 
-#[derive(Drop)]
+#[derive(Clone, Copy)]
 struct Args {
     key: Span,
     lifespan: u64,
@@ -49,21 +49,21 @@ struct Args {
 }
 
 // What reading each of them finds.
-#[derive(Drop)]
+#[derive(Clone, Copy)]
 enum FrontRead {
     Whole(Front, Cursor),
     More,
     Refused(u8),
 }
 
-#[derive(Drop)]
+#[derive(Clone, Copy)]
 enum OptionsRead {
     Whole(Options, Cursor),
     More,
     Refused(u8),
 }
 
-#[derive(Drop)]
+#[derive(Clone, Copy)]
 enum ArgsRead {
     Whole(Args, Cursor),
     More,
@@ -199,7 +199,7 @@ fn read_options(s: &[u8], c: Cursor, version: u8) -> OptionsRead
 }
 
 // Which arguments an operation is sent: a key; the times and the value of a write; an entry version; a number, and the greatest one.
-#[derive(Drop)]
+#[derive(Clone, Copy)]
 struct Sends {
     key: bool,
     write: bool,

@@ -11,7 +11,7 @@ use message::{Head, Operation, Request};
 use rules::Shape;
 
 // The greatest length or number of each argument: 0 where it is not sent.
-#[derive(Drop)]
+#[derive(Clone, Copy)]
 pub(crate) struct Limits {
     key: u64,
     time: u64,

@@ -17,7 +17,7 @@ ghost use Rattle.rules.specs.Shape.{as_shape};
 use message::{Asked, Form, Found, Operation, Reply};
 
 // Which arguments an operation is sent.
-#[derive(Drop)]
+#[derive(Clone, Copy)]
 pub enum Shape {
     Keyed,
     Writes,
@@ -107,7 +107,7 @@ pub fn with_old(version: u8, flag: bool) -> bool
 }
 
 // What reply is awaited: that to an operation, or none, by the refusal's number.
-#[derive(Drop)]
+#[derive(Clone, Copy)]
 pub enum Awaited {
     Known(Operation),
     Refused(u8),
@@ -132,7 +132,7 @@ pub fn awaited_by(a: Asked) -> Awaited
 }
 
 // What a reply carries behind its marker.
-#[derive(Drop)]
+#[derive(Clone, Copy)]
 pub enum Body {
     Nothing,
     Old,

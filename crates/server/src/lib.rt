@@ -17,13 +17,13 @@ ghost use Rattle.server.specs.Gives.{Begun, ServesMany};
 use field::Second;
 
 // What a call is given beside its request.
-#[derive(Drop)]
+#[derive(Clone, Copy)]
 struct Context {
     second: Second,
 }
 
 // How a call ended, or a stream: full is a stream that needs an emptied reply buffer.
-#[derive(Drop)]
+#[derive(Clone, Copy)]
 pub enum Verdict {
     Served,
     More,
@@ -44,7 +44,7 @@ pub fn verdict_code(v: Verdict) -> u64
 }
 
 // The answer of a call: the bytes of the input that it took, the bytes of the reply, and how it ended.
-#[derive(Drop)]
+#[derive(Clone, Copy)]
 pub struct Answer {
     pub taken: usize,
     pub size: usize,
@@ -72,7 +72,7 @@ pub fn serve(input: &[u8], table: &mut [u8], second: u32, reply: &mut [u8]) -> A
 }
 
 // What a stream of calls gives: the bytes taken and sent by all of them, how many there were, and how the last one ended, or that the buffer is full.
-#[derive(Drop)]
+#[derive(Clone, Copy)]
 pub struct Streamed {
     pub taken: usize,
     pub size: usize,
@@ -182,7 +182,7 @@ pub fn serve_stream(input: &[u8], table: &mut [u8], second: u32, reply: &mut [u8
 }
 
 // What serving several connections answers: the bytes sent to all of them, or the refusal for which nothing was done: 12, 13, or 258 where the ends are none.
-#[derive(Drop)]
+#[derive(Clone, Copy)]
 pub enum Shared {
     Done(usize),
     Refused(u16),
@@ -217,7 +217,7 @@ pub fn serve_many(
 }
 
 // What serving the lines of a chunk of a file gives: the bytes taken, the bytes of the output, and whether the rest of a line is still to be passed over.
-#[derive(Drop)]
+#[derive(Clone, Copy)]
 pub struct Fed {
     pub taken: usize,
     pub size: usize,
@@ -232,7 +232,7 @@ impl Fed {
 }
 
 // What serving the lines of a chunk of a file answers: what it gave, or the refusal for which nothing was done.
-#[derive(Drop)]
+#[derive(Clone, Copy)]
 pub enum Served {
     Fed(Fed),
     Refused(u8),

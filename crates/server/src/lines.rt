@@ -20,14 +20,14 @@ use message::Request;
 use request_reader::RequestRead;
 
 // What reading the form of a line finds: its second and so many bytes, or another form.
-#[derive(Drop)]
+#[derive(Clone, Copy)]
 enum LineRead {
     Frame(Second, usize),
     Bad,
 }
 
 // A turn: the bytes taken, the place behind its output, and whether the rest of the line is still to be passed over.
-#[derive(Drop)]
+#[derive(Clone, Copy)]
 struct Turned {
     taken: usize,
     size: usize,

@@ -11,7 +11,7 @@ ghost use Rattle.statistics.specs.Statistics.{titles, statistic, statistics, lis
 use field::{Cursor, Kind, NumberRead, SpanRead};
 
 // The statistics, in the order of their fields.
-#[derive(Drop)]
+#[derive(Clone, Copy)]
 pub struct Statistics {
     pub time: u64,
     pub current: u64,
@@ -32,7 +32,7 @@ impl Statistics {
 }
 
 // What reading them finds: all nine with the place behind them, more needed, or a refusal by its number.
-#[derive(Drop)]
+#[derive(Clone, Copy)]
 pub enum StatisticsRead {
     Whole(Statistics, Cursor),
     More,
@@ -82,7 +82,7 @@ fn read_named(s: &[u8], c: Cursor, name: &[u8]) -> NumberRead
 }
 
 // A name: its bytes at the front of an array, and how many they are.
-#[derive(Drop)]
+#[derive(Clone, Copy)]
 pub(crate) struct Title {
     bytes: [u8; 22],
     len: usize,

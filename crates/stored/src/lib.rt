@@ -18,7 +18,7 @@ use message::Sent;
 use table::{Outcome, Table};
 
 // What a line is made of.
-#[derive(Drop)]
+#[derive(Clone, Copy)]
 pub struct Line {}
 
 impl Line {
@@ -32,7 +32,7 @@ impl Line {
 
 // What loading the lines of a chunk of a stored file answers: the bytes taken, whether the first line has been loaded, and whether each whole
 // line was good.
-#[derive(Drop)]
+#[derive(Clone, Copy)]
 pub struct Loading {
     pub taken: usize,
     pub begun: bool,

@@ -4,7 +4,7 @@ ghost use Rattle.std.specs.Prelude.{◌≡◌};
 ghost use Rattle.text.specs.Text.{lead_of, step_of, is_text};
 
 // What has to follow in a text: so many more bytes of a sequence, the next of them from low to high. With none of them a sequence may begin.
-#[derive(Drop)]
+#[derive(Clone, Copy)]
 pub enum Pending {
     Bytes(u8, u8, u8),
     Invalid,

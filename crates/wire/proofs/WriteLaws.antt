@@ -184,6 +184,17 @@ module _ {A : Type 0} (c : Codec A) (a : A) (old : List ℕ) where
   unfolding send
   send-room v h = rw (v, le-leb (length (c.enc a)) (length old) (omega arith))
 
+-- a copy into the part from at on that is as long as what is copied
+pub wrote_part : (n at : ℕ) (s old new : List ℕ) → at + length s ≤ length old → new ≡ s
+    → Wrote (raw n) s old (take at old ++ (new ++ drop (at + length s - at) (drop at old))) at (at + length s)
+unfolding raw
+wrote_part n at s old new h e =
+    let m : at + length s - at ≡ length s = omega arith in
+    let b : drop (at + length s - at) (drop at old) ≡ drop (at + length s) old = rw (m, drop-drop) in
+    let d : take at old ++ (new ++ drop (at + length s - at) (drop at old)) ≡ sets old at s =
+    rw (b, e) (sym (sets-eq s old at h ∙ append_assoc (take at old) s (drop (at + length s) old))) in
+    record { next = refl; list = d; long = ap length d ∙ length-sets old at s }
+
 -- bytes copied to the front of what stands from `at` on
 pub wrote_copy : (n at : ℕ) (s old new : List ℕ) → at + length s ≤ length old → new ≡ take (length s) s ++ drop (length s) (take (length old - at) (drop at old))
     → Wrote (raw n) s old (take at old ++ (new ++ drop (length old - at) (drop at old))) at (at + length s)

@@ -1,0 +1,13 @@
+-- `decimal::is_digit` meets its contract. Assumes nothing.
+use native.Mathlib.Omega.{arith}
+use borrow.Author.Tests.{le-leb, lt-leb}
+use Rattle.decimal.specs.Decimal.{is_digit}
+use Rattle.decimal.proofs.is_digit.Goals as goal
+
+pub returns-then-b-ge48 : goal.returns-then-b-ge48
+unfolding is_digit
+returns-then-b-ge48 c = rw (le-leb 0x30 c.args.b (omega arith))
+
+pub returns-else-b-ge48 : goal.returns-else-b-ge48
+unfolding is_digit
+returns-else-b-ge48 c = rw (lt-leb 0x30 c.args.b (omega arith))

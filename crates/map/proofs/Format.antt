@@ -131,6 +131,9 @@ shown-enc t m.versioned ns es (some e) l h = ap (λ (s : List ℕ). entry_versio
 shown-enc t m.statistics ns es f l h = append-nil ((stats.statistics).enc ns)
 shown-enc t m.entries ns es f l h = listing-enc true es l
 shown-enc t m.keys ns es f l h = listing-enc false es l
+shown-enc t m.value ns es none l h = elim h [ ]
+shown-enc t m.versioned ns es none l h = elim h [ ]
+shown-enc t m.text ns es f l h = elim h [ ]
 
 empty-good : Valid empty tt
 unfolding empty
@@ -176,6 +179,9 @@ shown-good t m.versioned ns es (some e) g l z h i =
 shown-good t m.statistics ns es f g l z h i = type_good _ _ _ _ refl g
 shown-good t m.entries ns es f g l z h i = type_good _ _ _ _ refl (listing-good true es l z)
 shown-good t m.keys ns es f g l z h i = type_good _ _ _ _ refl (listing-good false es l z)
+shown-good t m.value ns es none g l z h i = elim h [ ]
+shown-good t m.versioned ns es none g l z h i = elim h [ ]
+shown-good t m.text ns es f g l z h i = elim h [ ]
 
 -- an old value
 abbrev old_of : Option Entry → Shown

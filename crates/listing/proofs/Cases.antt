@@ -1,8 +1,7 @@
 -- Worked cases of the format. Assumes nothing.
 use mathlib.Core.Path.{◌≡◌, refl}
-use mathlib.Core.List.{List, [], ◌∷◌}
+use mathlib.Core.List.{[], ◌∷◌}
 use mathlib.Core.Bool.{true, false}
-use Prim.Native.Nat.{ℕ}
 use Rattle.wire.specs.Codec.{whole, more, refused, empty, byte, raw, guard, seq, as_type}
 use Rattle.wire.specs.Number.{v_int, number, number_dec, number_enc}
 use Rattle.wire.specs.Field.{limited}

@@ -9,7 +9,7 @@ use lib.Dec.{leb}
 use borrow.Author.Tests.{eqb-true, le-leb}
 use types.Run.{OneOf}
 use denote.Enum.Declared.{tag_of}
-use Rattle.wire.specs.Codec.{Read, whole, more, refused, after, mapped, Bytes, read_at, byte, empty, all}
+use Rattle.wire.specs.Codec.{whole, more, refused, after, mapped, Bytes, read_at, byte, empty, all}
 use Rattle.wire.specs.Number.{v_int, v_long}
 use Rattle.wire.specs.Field.{limited}
 use Rattle.wire.proofs.Laws.{Laws, after-after, after_on, after-only, seq_laws, guard_laws, type_laws, byte_laws, guard-valid, seq-valid}
@@ -28,7 +28,6 @@ use Rattle.message.proofs.RequestLaws.{text_laws, operation_laws, transaction_la
 use Rattle.message.specs.Start.{start, id_found}
 use Rattle.request_reader.specs.RequestRead.{request_at, front, options}
 use Rattle.request_reader.specs.Parts.{as_front, as_options, as_args, options_at, args_at, args_with, together_of, sends_of, transaction_in, part_in, int_in, entry_in, bulk_in}
-use Rattle.request_reader.specs.declared.Args as code
 use Rattle.request_reader.specs.declared.FrontRead.{FrontRead}
 use Rattle.request_reader.specs.declared.FrontRead.TheVariants as f
 use Rattle.request_reader.specs.declared.OptionsRead.{OptionsRead}

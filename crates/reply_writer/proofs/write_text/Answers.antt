@@ -10,28 +10,15 @@ use Rattle.message.specs.Reply.{is_awaited, statuses_of, awaited, reply, error_r
 use Rattle.rules.proofs.BodyLaws.{error-text}
 use Rattle.reply_writer.specs.Frame.{error_of}
 use Rattle.reply_writer.proofs.SendLaws.{send-framed}
-use borrow.Author.Rules.{rules}
-use Rattle.reply_writer.proofs.write_text.Statement.{statement}
-use Rattle.reply_writer.proofs.write_text.Tie as tie
+use Rattle.reply_writer.proofs.write_text.Goals as goal
 
-returns : tie.Need-returns
+pub returns : goal.returns
 unfolding error_reply reply awaited edition_of find_code
 returns c = let w = c.before.before in
-    let s = w.before.before.before.before.before in
+    let s = w in
     let a = s.args in
     let r = error_of a.id a.status a.text.now in
-    let e = ap is_allowed (sym (error-text a.status s.requires.0 s.requires.1)) in
-    w.write-reply.ensures
+    let e = ap is_allowed (sym (error-text a.status s.requires.le_status s.requires.status_bound)) in
+    w.write_reply.ensures
     ∙ sym (send-framed (is_awaited Ping) (statuses_of false Ping) false r a.out.now refl e)
     ∙ send-framed (λ op. eqb op error_code) (λ op. errors) false r a.out.now refl e
-
-pub write-text-spec : {M : Type 1} → statement M
-write-text-spec =
-    tie.close
-    (tie.spec
-    (λ c. search rules)
-    (λ c. search rules)
-    (λ c. search rules)
-    (λ c κs. search rules)
-    (λ c. search rules)
-    returns)

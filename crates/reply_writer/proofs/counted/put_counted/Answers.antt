@@ -7,11 +7,9 @@ use Rattle.statistics.specs.Statistics.{statistics, list_of}
 use Rattle.message.specs.Payload.{statistics_body}
 use Rattle.message.specs.Reply.{statistics_reply}
 use Rattle.reply_writer.proofs.SendLaws.{rules, headed, counted-ok, counted_length, counted-wrote}
-use borrow.Author.Rules.{rules}
-use Rattle.reply_writer.proofs.counted.put_counted.Statement.{statement}
-use Rattle.reply_writer.proofs.counted.put_counted.Tie as tie
+use Rattle.reply_writer.proofs.counted.put_counted.Goals as goal
 
-returns : tie.Need-returns
+pub returns : goal.returns
 unfolding v_long
 returns c = let w6 = c.before.before in
     let w5 = w6.before.before.before.before in
@@ -19,24 +17,11 @@ returns c = let w6 = c.before.before in
     let w3 = w4.before.before.before.before in
     let w2 = w3.before.before.before.before in
     let w1 = w2.before.before.before.before in
-    let s = w1.before.before.before in
+    let s = w1 in
     let ns = list_of s.args.x in
     let r = statistics_reply s.args.id ns in
-    let h = headed statistics_body r s.args.out.now s.pre.0 s.pre.1
-    w1.put_byte.ensures w2.put-number.ensures w3.put-byte2.ensures w4.put-byte3.ensures w5.put-byte4.ensures in
+    let h = headed statistics_body r s.args.out.now s.requires.valid s.requires.room
+    w1.put_byte-c1.ensures w2.put_number-c2.ensures w3.put_byte-c3.ensures w4.put_byte-c4.ensures w5.put_byte-c5.ensures in
     h.done _ _
     (counted-wrote ns
-    (put-wrote statistics ns _ _ (sym (counted-ok ns) ∙ (rules statistics_body r s.pre.0).body) (omega (arith, h.room, counted_length ns)) _ _ w6.put-statistics.ensures))
-
-pub put-counted-spec : {M : Type 1} → statement M
-put-counted-spec =
-    tie.close
-    (tie.spec
-    (λ c κs. search rules)
-    (λ c κs. search rules)
-    (λ c κs. search rules)
-    (λ c κs. search rules)
-    (λ c κs. search rules)
-    (λ c κs. search rules)
-    (λ c. search rules)
-    returns)
+    (put-wrote statistics ns _ _ (sym (counted-ok ns) ∙ (rules statistics_body r s.requires.valid).body) (omega (arith, h.room, counted_length ns)) _ _ w6.put_statistics.ensures))

@@ -25,7 +25,7 @@ use Rattle.field.specs.FieldRead.{limited_text}
 use Rattle.statistics.specs.Statistics.{statistics}
 use Rattle.statistics.proofs.Writing.{none-bad}
 use Rattle.message.specs.declared.Operation.{Operation}
-use Rattle.message.specs.declared.Operation.TheVariants.{Stats, BulkGet, BulkGetKeys}
+use Rattle.message.specs.declared.Operation.TheVariants.{BulkGet, BulkGetKeys}
 use Rattle.message.specs.declared.Asked.{Asked}
 use Rattle.message.specs.Operation.{code_of}
 use Rattle.message.proofs.RequestLaws.{same_code}

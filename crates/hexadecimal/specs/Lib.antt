@@ -1,3 +1,4 @@
 pub mod Hex
 pub mod Coding
 pub mod Number
+pub mod Scan

@@ -1,5 +1,7 @@
 #![tactic(auto)]
-// Bytes as lowercase hexadecimal digits.
+// Bytes as lowercase hexadecimal digits, and lines of them.
+pub mod scan;
+
 ghost use Rattle.std.specs.Prelude.{◌≡◌, true, ◌+◌, ◌*◌, ◌/◌, ◌≤◌, ◌<◌, length, get_or};
 ghost use Rattle.std.proofs.lemmas.List.Edits.{sets};
 ghost use Rattle.wire.specs.Write.{laid};

@@ -24,10 +24,14 @@ bounds-out-end c = let m = (let made' : let w = c in let a = w.args in
     line_made a.out.now a.at a.n (omega arith) w.spread-end.ensures in made') in omega (arith, m.0, m.1)
 
 pub overflow_add-result : goal.overflow_add-result
-overflow_add-result c = omega (arith, ((let made' : let w = c in let a = w.args in
-    (w.spread-end.result < length a.out.now) × (length w.spread-end.new.out ≡ length a.out.now) × ((w.spread-end.result + 1, set w.spread-end.new.out w.spread-end.result 0x0a) ≡ laid (line (part a.out.now a.at a.n)) a.at a.out.now) = let w = c in
-    let a = w.args in
-    line_made a.out.now a.at a.n (omega arith) w.spread-end.ensures in made')).0, c.well_formed)
+overflow_add-result c = omega (
+  arith,
+  ((let made' : let w = c in let a = w.args in
+      (w.spread-end.result < length a.out.now) × (length w.spread-end.new.out ≡ length a.out.now) × ((w.spread-end.result + 1, set w.spread-end.new.out w.spread-end.result 0x0a) ≡ laid (line (part a.out.now a.at a.n)) a.at a.out.now) = let w = c in
+      let a = w.args in
+      line_made a.out.now a.at a.n (omega arith) w.spread-end.ensures in made')).0,
+  c.well_formed,
+)
 
 pub returns : goal.returns
 returns c = ((let made' : let w = c in let a = w.args in

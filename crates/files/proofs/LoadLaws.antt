@@ -7,7 +7,7 @@ use native.Mathlib.Omega.{arith}
 use lib.ListN.{length, take, drop, length-append, length-drop, take-append-drop}
 use lib.Seq.{take-length}
 use lib.Dec.{eqb}
-use Rattle.bytes.specs.Bytes.{index_of, index_after}
+use Rattle.hexadecimal.specs.Scan.{index_of, index_after}
 use Rattle.wire.specs.Codec.{Valid}
 use Rattle.wire.proofs.Laws.{never}
 use Rattle.map.specs.State.{Entry, State}

@@ -98,6 +98,12 @@ module _ (u w : List ℕ) (len : length w ≡ length u) where
       (gone_independent (drop d.answer.taken input) d.table d'.table cs cs' ds ds' s m (rest_of x)
       (subst (λ (a : Answer). Run (drop a.taken input) d'.table cs' ds')
       (same_answer u w len gone e e' t t' c.buffer c'.buffer d d' k (first-of x) (first-of y)) (rest_of y)))
+  gone_independent input t t' [] [] [] (d' ∷ ds') g _ x y = elim y [ ]
+  gone_independent input t t' [] [] (d ∷ ds) _ g _ x y = elim x [ ]
+  gone_independent input t t' [] (c' ∷ cs') ds _ g x10 x y = elim x10 [ ]
+  gone_independent input t t' (c ∷ cs) [] ds _ g x9 x y = elim x9 [ ]
+  gone_independent input t t' (c ∷ cs) (c' ∷ cs') [] _ g _ x y = elim x [ ]
+  gone_independent input t t' (c ∷ cs) (c' ∷ cs') (d ∷ ds) [] g _ x y = elim y [ ]
 
   module _ (v : ℕ) where
     -- the request wrote the entry of version v
@@ -138,3 +144,9 @@ module _ (u w : List ℕ) (len : length w ≡ length u) where
         (wrote_independent (drop d.answer.taken input) d.table d'.table cs cs' ds ds' s m (rest_of x)
         (subst (λ (a : Answer). Run (drop a.taken input) d'.table cs' ds')
         (same_answer u w len (wrote v) e e' t t' c.buffer c'.buffer d d' z.like (first-of x) (first-of y)) (rest_of y)))
+    wrote_independent input t t' [] [] [] (d' ∷ ds') g _ x y = elim y [ ]
+    wrote_independent input t t' [] [] (d ∷ ds) _ g _ x y = elim x [ ]
+    wrote_independent input t t' [] (c' ∷ cs') ds _ g x10 x y = elim x10 [ ]
+    wrote_independent input t t' (c ∷ cs) [] ds _ g x9 x y = elim x9 [ ]
+    wrote_independent input t t' (c ∷ cs) (c' ∷ cs') [] _ g _ x y = elim x [ ]
+    wrote_independent input t t' (c ∷ cs) (c' ∷ cs') (d ∷ ds) [] g _ x y = elim y [ ]

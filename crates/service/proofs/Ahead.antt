@@ -215,3 +215,12 @@ module _ (r : Request) (w : List ℕ) (len : length w ≡ length r.args.value) (
       (λ s p q. ahead_independent rest bf f.1 d.table d'.table cs cs' ds ds' s m p q)
       (subst (λ (input : List ℕ). Run input t (c ∷ cs) (d ∷ ds)) e x)
       (subst (λ (input : List ℕ). Run input t' (c' ∷ cs') (d' ∷ ds')) h y))
+  ahead_independent rest bf f t t' [] [] [] (d' ∷ ds') g _ x y = elim y [ ]
+  ahead_independent rest bf f t t' [] [] (d ∷ ds) _ g _ x y = elim x [ ]
+  ahead_independent rest bf f t t' [] (c' ∷ cs') ds _ g x11 x y = elim x11 [ ]
+  ahead_independent rest [] f t t' (c ∷ cs) [] ds _ g x13 x y = elim x13 [ ]
+  ahead_independent rest [] f t t' (c ∷ cs) (c' ∷ cs') [] _ g _ x y = elim x [ ]
+  ahead_independent rest [] f t t' (c ∷ cs) (c' ∷ cs') (d ∷ ds) [] g _ x y = elim y [ ]
+  ahead_independent rest (r₀ ∷ bf) f t t' (c ∷ cs) [] ds _ g x14 x y = elim x14 [ ]
+  ahead_independent rest (r₀ ∷ bf) f t t' (c ∷ cs) (c' ∷ cs') [] _ g _ x y = elim x [ ]
+  ahead_independent rest (r₀ ∷ bf) f t t' (c ∷ cs) (c' ∷ cs') (d ∷ ds) [] g _ x y = elim y [ ]

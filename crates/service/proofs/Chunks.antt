@@ -11,7 +11,7 @@ use lib.Seq.{drop-length, drop-append-le, drop-append-add}
 use lib.Dec.{eqb, ltb}
 use borrow.Author.Tests.{ltb-true, ltb-false, lt-ltb, lt-leb}
 use Rattle.wire.proofs.Laws.{both}
-use Rattle.bytes.specs.Bytes.{index_of, index_after}
+use Rattle.hexadecimal.specs.Scan.{index_of, index_after}
 use Rattle.map.specs.State.{State}
 use Rattle.service.specs.Line.{longest, asks, Given, given, state_left, later, refused14, line_step, lines_step}
 use Rattle.service.specs.Feed.{line_end, Turn, turn, ended, turn_of, longer, lines_of, joined, Feeds, took, read, end}

@@ -34,3 +34,7 @@ determined input t t' (c ∷ cs) (d ∷ ds) (d' ∷ ds') g (run_call x xs) (run_
     ap₂ ◌∷◌ z.0
     (determined (drop d.answer.taken input) d.table d'.table cs ds ds' z.1 xs
     (subst (λ (n : ℕ). Run (drop n input) d'.table cs ds') k ys))
+determined input t t' [] [] (d' ∷ ds') g _ x10 = elim x10 [ ]
+determined input t t' [] (d ∷ ds) _ g x7 _ = elim x7 [ ]
+determined input t t' (c ∷ cs) [] _ g x6 _ = elim x6 [ ]
+determined input t t' (c ∷ cs) (d ∷ ds) [] g _ x10 = elim x10 [ ]

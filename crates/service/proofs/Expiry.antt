@@ -48,6 +48,8 @@ all_in_time input t (c ∷ cs) (d ∷ ds) (run_call x xs) = (
   },
   all_in_time (drop d.answer.taken input) d.table cs ds xs,
 )
+all_in_time input t [] (d ∷ ds) x'' = elim x'' [ ]
+all_in_time input t (c ∷ cs) [] x3 = elim x3 [ ]
 
 pub call-later : {input t : List ℕ} {c : Call} {d : Done} → Serves input t c d → (state_of t).history.latest ≤ (state_of d.table).history.latest
 call-later {input} {t} {c} {d} x =
@@ -56,3 +58,5 @@ call-later {input} {t} {c} {d} x =
 pub rises : (input t : List ℕ) (cs : List Call) (ds : List Done) → Run input t cs ds → Rises (state_of t).history.latest ds
 rises input t [] [] run_end = tt
 rises input t (c ∷ cs) (d ∷ ds) (run_call x xs) = (call-later x, rises (drop d.answer.taken input) d.table cs ds xs)
+rises input t [] (d ∷ ds) x'' = elim x'' [ ]
+rises input t (c ∷ cs) [] x3 = elim x3 [ ]

@@ -82,6 +82,8 @@ unfolding total_by
 total_left v lent input table [] [] run_end = refl
 total_left v lent input table (c ∷ cs) (d ∷ ds) (run_call x xs) =
     total_left v (drop d.size d.buffer) (drop d.answer.taken input) d.table cs ds xs
+total_left v lent input table [] (d ∷ ds) x'' = elim x'' [ ]
+total_left v lent input table (c ∷ cs) [] x3 = elim x3 [ ]
 
 -- the calls of all connections, one behind the other
 pub all_trace : {c : Context} {inputs : List (List ℕ)} {table lent : List ℕ} {ts : List Total} {css : List (List Call)} {dss : List (List Done)}

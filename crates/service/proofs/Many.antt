@@ -1,7 +1,7 @@
 -- A stream whose reply buffer has room for any reply. Assumes nothing.
 use mathlib.Core.Path.{◌≡◌, refl, ap, ◌∙◌}
 use mathlib.Core.List.{List}
-use mathlib.Core.Bool.{Bool, true, false, cond, and-true, or_true, ◌&&◌, ◌||◌}
+use mathlib.Core.Bool.{Bool, true, false, cond, and-true, or-true, ◌&&◌, ◌||◌}
 use mathlib.Core.Logic.{◌⊎◌, inl, inr}
 use Prim.Native.Nat.{ℕ, ◌≤◌, ◌<◌}
 use native.Mathlib.Omega.{arith}
@@ -53,7 +53,7 @@ module _ {c : Context} {used : Bool} {input table lent : List ℕ} {d : Done} (x
   ample_behind (inr h) = go (ltb 0 d.size) refl
     where
       go : (b : Bool) → ltb 0 d.size ≡ b → Ample (used || b) (drop d.size d.buffer)
-      go true e = inl (or_true used)
+      go true e = inl (or-true used)
       go false e = inr (rw (left-long x (omega (arith, ltb-false 0 d.size e))) h)
 
 ample_stream : {c : Context} {used : Bool} {input table lent : List ℕ} {t : Total} → Ample used lent → (s : Streams c used input table lent t) → NeverShort s

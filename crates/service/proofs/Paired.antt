@@ -285,8 +285,12 @@ module _ (c : Context) (before behind : List Request) (r : Request) (w tail : Li
   values-shares-from {used} (i ∷ is) others table table' lent lent' (t ∷ ts) (t' ∷ ts') g h (share x xs) (share x' xs') =
       let o = stream-paired (related r.args.value w len gone tt i g) g h x x' in
       let q = o.paired in
-      other q (values-shares-from is others t.table t'.table _ _ ts ts' (subst (λ (y : Progress). Tables r.args.value w y t.table t'.table) (stays gone tt table q.dones) o.tables) (left-long q h) xs
+      other q (values-shares-from {used = used || ltb 0 t.size} is others t.table t'.table _ _ ts ts' (subst (λ (y : Progress). Tables r.args.value w y t.table t'.table) (stays gone tt table q.dones) o.tables) (left-long q h) xs
       (subst (λ (y : ℕ). Shares c (used || ltb 0 y) (is ++ ((written (before ++ (with_value w r ∷ behind)) ++ tail) ∷ others)) t'.table (drop t'.size t'.buffer) ts') q.size xs'))
+  values-shares-from {used = used} [] others table table' lent lent' [] _ g h x8 _ = elim x8 [ ]
+  values-shares-from {used = used} [] others table table' lent lent' (t ∷ ts) [] g h _ x14 = elim x14 [ ]
+  values-shares-from {used = used} (i ∷ is) others table table' lent lent' [] _ g h x9 _ = elim x9 [ ]
+  values-shares-from {used = used} (i ∷ is) others table table' lent lent' (t ∷ ts) [] g h _ x15 = elim x15 [ ]
 
   pub values-shares : (first others : List (List ℕ)) (table lent lent' : List ℕ) (ts ts' : List Total) → Sound table → length lent' ≡ length lent
       → Shares c false (first ++ ((written (before ++ (r ∷ behind)) ++ tail) ∷ others)) table lent ts

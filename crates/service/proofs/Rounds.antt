@@ -42,6 +42,8 @@ linear-rounds table (r ∷ rs) (ts ∷ tss) s f (round x xs) =
           (ap (run (timed_of_all rs q.passed)) (sym p.state) ∙ q.one-run);
       state = q.state ∙ (ap (λ (u : State). ends u vs) p.state ∙ sym (ends_on us vs (state_of table)));
     }
+linear-rounds table [] (ts ∷ tss) s f x6 = elim x6 [ ]
+linear-rounds table (r ∷ rs) [] s f x5 = elim x5 [ ]
 
 -- The counts and the seconds that rounds leave are those of the run.
 module _ {table : List ℕ} {rs : List Round} {tss : List (List Total)} (x : LinearRounds table rs tss) where
@@ -69,10 +71,10 @@ module _ {table : List ℕ} {rs : List Round} {tss : List (List Total)} (x : Lin
       ap (λ (st : State). st.history.first) left_is ∙ (first_run given (state_of table) ∙ ap (first_served (state_of table).history.first given) x.one-run)
 
 -- what a connection gets that stands somewhere among those of a round
-gets_in : {space left : ℕ} {input : List ℕ} {t : Total} {ps : List Passed} {is : List (List ℕ)} {ts : List Total} {pss : List (List Passed)} → In input t ps is ts pss
+gets_in : {space : ℕ} {input : List ℕ} {t : Total} {ps : List Passed} {left : ℕ} {is : List (List ℕ)} {ts : List Total} {pss : List (List Passed)} → In input t ps is ts pss
     → AllGet space left is ts pss → (t.taken ≤ length input) × (take t.taken input ≡ written (map passed_request ps)) × WellFormed (map passed_request ps)
 gets_in here (one g gs) = (g.within, g.took, g.well)
-gets_in (there i) (one g gs) = gets_in i gs
+gets_in {space = space} {input = input} {t = t} {ps = ps} {left = left'} (there {i = i'} {is = is} {u = u} {ts = ts} {qs = qs} {pss = pss} i) (one g gs) = gets_in {left = left' - u.size} i gs
 
 written_on : (ps qs : List Passed) → written (map passed_request (ps ++ qs)) ≡ written (map passed_request ps) ++ written (map passed_request qs)
 unfolding written

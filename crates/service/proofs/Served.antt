@@ -80,3 +80,5 @@ served-calls (r ∷ rs) tail table (c ∷ cs) (d ∷ ds) v s h (run_call x xs) =
     rw (k.taken, e) (drop-append_seam (request.enc r) (written rs ++ tail)) in
     let ih = served-calls rs tail d.table cs ds v.1 k.sounds h.1 (subst (λ (input : List ℕ). Run input d.table cs ds) q xs) in
     ap₂ ◌∷◌ k.shows (ih ∙ ap (play rs cs) k.state)
+served-calls (r ∷ rs) tail table [] (d ∷ ds) v s h x = elim x [ ]
+served-calls (r ∷ rs) tail table (c ∷ cs) [] v s h x = elim x [ ]

@@ -20,8 +20,12 @@ joins table (x ∷ xs) ys h i = (h.0, joins x.done.table xs ys h.1 i)
 pub run_trace : (input table : List ℕ) (cs : List Call) (ds : List Done) → Run input table cs ds → Trace table (events_of input cs ds)
 run_trace input table [] [] run_end = tt
 run_trace input table (c ∷ cs) (d ∷ ds) (run_call x xs) = (x, run_trace (drop d.answer.taken input) d.table cs ds xs)
+run_trace input table [] (d ∷ ds) x'' = elim x'' [ ]
+run_trace input table (c ∷ cs) [] x3 = elim x3 [ ]
 
 pub run_states : (input table : List ℕ) (cs : List Call) (ds : List Done) → Run input table cs ds
     → map (λ (x : Event). state_of x.done.table) (events_of input cs ds) ≡ map (λ (d : Done). state_of d.table) ds
 run_states input table [] [] run_end = refl
 run_states input table (c ∷ cs) (d ∷ ds) (run_call x xs) = ap₂ ◌∷◌ refl (run_states (drop d.answer.taken input) d.table cs ds xs)
+run_states input table [] (d ∷ ds) x'' = elim x'' [ ]
+run_states input table (c ∷ cs) [] x3 = elim x3 [ ]

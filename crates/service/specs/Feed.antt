@@ -1,7 +1,7 @@
 -- A file that comes chunk by chunk. A chunk is what stands in a buffer: what the last call left of it, and what was read behind that.
 use Rattle.std.specs.Prelude.{◌≡◌, List, [], ◌∷◌, ◌++◌, Bool, true, false, cond, ◌&&◌, not, ℕ, suc, ◌+◌, length, take, drop, eqb, ltb, leb}
 use Rattle.std.proofs.Math.Option.{Option, none}
-use Rattle.bytes.specs.Bytes.{index_of}
+use Rattle.hexadecimal.specs.Scan.{index_of}
 use Rattle.map.specs.State.{State}
 use Rattle.service.specs.Line.{longest, Given, given, state_left, later, line_step}
 

@@ -10,7 +10,7 @@ use lib.ListN.{length, take, drop}
 use lib.Seq.{take_at, take-append_seam, drop-append-add}
 use lib.Dec.{eqb}
 use borrow.Author.Tests.{eqb-true, ne_eqb}
-use Rattle.bytes.specs.Bytes.{index_of, index_after}
+use Rattle.hexadecimal.specs.Scan.{index_of, index_after}
 use Rattle.wire.specs.Codec.{Codec, Valid, Bytes, byte, guard, seq, all}
 use Rattle.wire.specs.Field.{big_endian, limited}
 use Rattle.wire.proofs.Laws.{Laws, seq_laws, guard_laws, type_laws, byte_laws, guard-valid, seq-valid, type_good, seq-good, guard_good, bytes_are}

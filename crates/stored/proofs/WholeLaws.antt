@@ -10,7 +10,7 @@ use lib.ListN.{length, take, drop, length-append, length-drop, take-append-drop,
 use lib.Seq.{take-length, take-append-le, drop-append-le, take-add, drop-drop}
 use lib.Dec.{eqb}
 use borrow.Author.Tests.{eqb-true}
-use Rattle.bytes.specs.Bytes.{slice, index_of, index_after}
+use Rattle.hexadecimal.specs.Scan.{index_of, index_after}
 use Rattle.wire.specs.Codec.{Valid}
 use Rattle.wire.proofs.Laws.{never, bytes_are}
 use Rattle.wire.proofs.FieldLaws.{limited-valid}

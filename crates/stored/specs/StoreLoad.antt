@@ -1,7 +1,7 @@
 -- Storing and loading a table: what the functions answer, and what they leave of the memory that they were lent.
 use Rattle.std.specs.Prelude.{◌≡◌, List, [], ◌∷◌, ◌++◌, Bool, true, false, cond, ℕ, zero, suc, ◌≤◌, length, take, drop, get_or, ltb}
 use Rattle.std.proofs.Math.Option.{Option, none, some}
-use Rattle.bytes.specs.Bytes.{index_of}
+use Rattle.hexadecimal.specs.Scan.{index_of}
 use Rattle.wire.specs.Write.{Sent, kept, sent}
 use Rattle.map.specs.State.{Entry, State}
 use Rattle.table.specs.Memory.{size, entry, state_of, Sound}

@@ -137,7 +137,7 @@ pub(crate) fn line_sound(line: &[u8], t: &mut [u8], out: &mut [u8], at: usize) -
 fn line_end(s: &[u8]) -> usize
     ensures { result ≡ line_end s.now }
 {
-    bytes::scan::find(s, 0, s.len(), 0x0a)
+    hexadecimal::scan::find(s, 0, 0x0a)
 }
 
 // The answer of a turn.

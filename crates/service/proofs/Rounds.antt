@@ -95,8 +95,8 @@ in_order no_more-rounds over = record { within = zero-le; took = refl; well = tt
 in_order (in_round g gs) (elsewhere x) = in_order gs x
 in_order (in_round g gs) (serves {rest = rest} {chunk = chunk} {chunks = chunks} {t = t} {ps = ps} {n = n} {qs = qs} i x) =
     let a = gets_in i g in
-    let b = in_order gs x in
     let row = rest ++ chunk in
+    let b = in_order {rest = drop t.taken (rest ++ chunk)} gs x in
     let e : rest ++ (chunk ++ joined chunks) ≡ row ++ joined chunks = sym (append_assoc rest chunk (joined chunks)) in
     let d = drop-append-le t.taken row (joined chunks) a.0 in
     let k = take-append-le t.taken row (joined chunks) a.0 in

@@ -147,7 +147,7 @@ pub fn load_lines(chunk: &[u8], t: &mut [u8], begun: bool) -> Loading
     let mut at = 0;
     let mut headed = begun;
     loop {
-        let next = bytes::scan::find(chunk, at, chunk.len(), Line::END);
+        let next = hexadecimal::scan::find(chunk, at, Line::END);
         if next == chunk.len() {
             return Loading {
                 taken: at,
@@ -186,6 +186,6 @@ pub fn load(file: &[u8], t: &mut [u8]) -> Outcome
     if !p.good || !p.begun || p.taken != file.len() {
         return Outcome::Refused(17);
     }
-    bytes::copy(&built, t);
+    t.copy_from_slice(&built);
     Outcome::Done
 }

@@ -83,13 +83,12 @@ loads-long no_line = refl
 loads-long {f} {b} {t = t} (a-line {u = u} l o e r) = loads-long r ∙ loaded-long f b l t u e
 
 -- the line end that was found from `at` on, or the end of the list
-module _ (s : List ℕ) (at r : ℕ) (found : r ≡ at + index_of 0x0a (slice at (length s) s)) where
+module _ (s : List ℕ) (at r : ℕ) (found : r ≡ at + index_of 0x0a (drop at s)) where
   abbrev next : List ℕ
   next = take (r - at) (drop at s)
 
   index : r ≡ at + index_of 0x0a (drop at s)
-  unfolding slice
-  index = found ∙ ap (λ (xs : List ℕ). at + index_of 0x0a (drop at xs)) (take-length s)
+  index = found
 
   pub none_left : at ≤ length s → r ≡ length s → NoEnd (drop at s)
   none_left h e = omega (arith, index, length-drop at s)

@@ -1,0 +1,7 @@
+-- `server::act::refuse` meets its contract: the error reply of a refusal is written. Assumes nothing.
+use Rattle.server.proofs.SendLaws.{error-sent}
+use Rattle.server.proofs.act.refuse.Goals as goal
+
+pub returns : goal.returns
+returns c =
+    error-sent c.args.k c.args.id c.requires.le_k c.requires.k_bound c.requires.id_bound c.requires.room_in_bounds c.write_error-w.ensures c.ended.ensures

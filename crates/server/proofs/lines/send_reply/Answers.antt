@@ -1,0 +1,14 @@
+-- `server::lines::send_reply` meets its contract. Assumes nothing.
+use native.Mathlib.Omega.{arith}
+use Rattle.service.proofs.Calls.{room_most}
+use Rattle.server.proofs.LineLaws.{shows, gives, lent-room, line_replied}
+use Rattle.server.proofs.lines.send_reply.Goals as goal
+
+pub perform-a-requires : goal.perform-a-requires
+perform-a-requires c =
+    let r = lent-room c.args.out.now c.args.at c.requires.line_room_in_bounds in record { given = record { sound = c.requires.sound; room = omega (arith, r, room_most c.args.r.head.op); context = c.requires.admissible }; valid = c.requires.valid }
+
+pub returns : goal.returns
+returns c =
+    let x = shows _ _ _ c.requires.sound c.requires.valid c.requires.admissible _ c.perform-a.ensures in
+    gives x (line_replied c.args.out.now c.args.at c.requires.line_room_in_bounds x.sent c.make_line.ensures)

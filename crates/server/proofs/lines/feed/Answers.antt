@@ -29,7 +29,7 @@ turn-r-requires c =
 
 pub shape_of-t-then-r-eq0 : goal.shape_of-t-then-r-eq0
 shape_of-t-then-r-eq0 c =
-    sound-long _ _ (done-sound c.loop-out.invariant.sound c.turn-r.ensures) c.requires.0
+    sound-long _ _ (done-sound c.loop-out.invariant.sound c.turn-r.ensures) c.requires.sound
 
 pub shape_of-out-then-r-eq0 : goal.shape_of-out-then-r-eq0
 shape_of-out-then-r-eq0 c =

@@ -14,7 +14,7 @@ use Rattle.server.proofs.lines.serve_frame.Goals as goal
 
 pub returns-then-n-frame : goal.returns-then-n-frame
 returns-then-n-frame c =
-    gives_same (frame-cut _ _ ((let found' : request.dec c.args.frame.now ≡ whole (request_in c.args.frame.now c.in-Whole.r) c.in-Whole.n = request-in _ ((let bytes' : Bytes c.args.frame.now = λ c. omega (arith, c.shared_slice_known-1.given c) in bytes')) _ _ c.read_request-q.ensures c.in-Whole.is in found')) c.if-n-frame.true) c.put_text.ensures
+    gives_same (frame-cut _ _ ((let found' : request.dec c.args.frame.now ≡ whole (request_in c.args.frame.now c.in-Whole.r) c.in-Whole.n = request-in _ ((let bytes' : Bytes c.args.frame.now = λ n. omega (arith, c.shared_slice_known-1.given n) in bytes')) _ _ c.read_request-q.ensures c.in-Whole.is in found')) c.if-n-frame.true) c.put_text.ensures
 
 pub send_reply-requires : goal.send_reply-requires
 send_reply-requires c = record { sound = c.requires.sound; line_room_in_bounds = c.requires.line_room_in_bounds; admissible = c.requires.admissible; valid = (request_laws.exact _ _ _ ((let bytes' : Bytes c.args.frame.now = λ i. omega (arith, c.shared_slice_known-1.given i) in bytes')) ((let found' : request.dec c.args.frame.now ≡ whole (request_in c.args.frame.now c.in-Whole.r) c.in-Whole.n = request-in _ ((let bytes' : Bytes c.args.frame.now = λ i. omega (arith, c.shared_slice_known-1.given i) in bytes')) _ _ c.read_request-q.ensures c.in-Whole.is in found'))).good }
@@ -25,7 +25,7 @@ send_error-requires c =
 
 pub returns-else-n-frame : goal.returns-else-n-frame
 returns-else-n-frame c =
-    gives_as (frame-whole _ _ ((let found' : request.dec c.args.frame.now ≡ whole (request_in c.args.frame.now c.in-Whole.r) c.in-Whole.n = request-in _ ((let bytes' : Bytes c.args.frame.now = λ c. omega (arith, c.shared_slice_known-1.given c) in bytes')) _ _ c.read_request-q.ensures c.in-Whole.is in found')) c.if-n-frame.false) c.send_reply.ensures
+    gives_as (frame-whole _ _ ((let found' : request.dec c.args.frame.now ≡ whole (request_in c.args.frame.now c.in-Whole.r) c.in-Whole.n = request-in _ ((let bytes' : Bytes c.args.frame.now = λ n. omega (arith, c.shared_slice_known-1.given n) in bytes')) _ _ c.read_request-q.ensures c.in-Whole.is in found')) c.if-n-frame.false) c.send_reply.ensures
 
 pub returns-in-More : goal.returns-in-More
 returns-in-More c =

@@ -1,32 +1,29 @@
 -- The keys that numbers name are the listing, which has a written form, and the writer of entries writes it. Assumes nothing.
-use mathlib.Core.Path.{◌≡◌, refl, sym, ap, ap₂, subst, ◌∙◌}
+use mathlib.Core.Path.{◌≡◌, refl, sym, ap, subst, ◌∙◌}
 use mathlib.Core.List.{List, [], ◌∷◌, ◌++◌, map}
-use mathlib.Core.Bool.{Bool, true, false, cond}
+use mathlib.Core.Bool.{Bool, true, false}
 use Prim.Native.Nat.{ℕ, zero, suc, ◌+◌, ◌*◌, ◌/◌, ◌≤◌, ◌<◌, min}
 use native.Mathlib.Omega.{arith}
 use native.Mathlib.Nat.{zero-add}
-use lib.ListN.{length, get_or, take, drop, length-take}
-use lib.Seq.{get_or-take, ext_get_or, length-take-le, sets, sets-eq}
-use lib.Dec.{leb}
+use lib.ListN.{length, take, drop, length-take}
+use lib.Seq.{get_or-take, ext_get_or, length-take-le, sets-eq}
 use borrow.Author.Tests.{le-leb, lt-leb, ne_eqb}
 use Rattle.wire.specs.Codec.{Valid}
 use Rattle.wire.specs.Upto.{upto}
 use Rattle.wire.specs.Write.{Sent, written, kept, sent, put_at}
-use Rattle.wire.proofs.Basics.{pick}
 use Rattle.wire.proofs.UptoLaws.{length_upto, get_or_upto}
 use Rattle.wire.proofs.WriteLaws.{put-wrote, put-moved, put-kept}
 use Rattle.wire.proofs.ListedEnc.{listed-some}
 use Rattle.message.specs.Listing.{item_of, listing}
-use Rattle.map.specs.State.{Entry, State, without}
-use Rattle.map.specs.Step.{most_keys}
+use Rattle.map.specs.State.{Entry, without}
 use Rattle.map.specs.Deadline.{expired, standing}
-use Rattle.map.specs.Table.{Each, Sizes}
+use Rattle.map.specs.Table.{Sizes}
 use Rattle.map.specs.Reply.{pair_of}
 use Rattle.map.proofs.Each.{each-without, fewer}
 use Rattle.map.proofs.ListedLaws.{each_take}
 use Rattle.map.proofs.ListedFormat.{listing-good}
 use Rattle.listing.specs.EntryWrite.{entry_named, listed_in}
-use Rattle.table.specs.Memory.{size, count_of, state_of, Sound}
+use Rattle.table.specs.Memory.{state_of, Sound}
 use Rattle.table.proofs.Lists.{upto_ext, says_yes, says_no}
 use Rattle.wire.specs.Before.{before}
 use Rattle.wire.proofs.SortedLaws.{length_sorted, each-sorted}

@@ -6,7 +6,7 @@ use mathlib.Core.Bool.{Bool, true, false}
 use mathlib.Core.Option.{Option, none, some}
 use Prim.Native.Nat.{ℕ, suc, ◌+◌, ◌-◌, ◌≤◌, ◌<◌}
 use native.Mathlib.Omega.{arith}
-use lib.ListN.{length, take, drop, length-append, length-drop, take-append-drop, drop_of_length-le}
+use lib.ListN.{length, take, drop, length-append, length-drop, take-append-drop}
 use lib.Seq.{take-length, take-append-le, drop-append-le, take-add, drop-drop}
 use lib.Dec.{eqb}
 use borrow.Author.Tests.{eqb-true}
@@ -51,6 +51,16 @@ to_end (x ∷ s) h = go (eqb x 0x0a) refl (to_end s) h
         let n : suc (index_of 0x0a s) + 1 ≡ suc (index_of 0x0a s + 1) = omega arith in
         (rw n (ap (λ (y : List ℕ). x ∷ y) i.0), rw e (ap suc i.1))
 
+-- no line end is found behind the end
+index_most : (v : ℕ) (s : List ℕ) → index_of v s ≤ length s
+unfolding index_of index_after
+index_most v [] = omega arith
+index_most v (x ∷ s) = go (eqb x v) (index_most v s)
+  where
+    go : (b : Bool) → index_of v s ≤ length s → index_after b (index_of v s) ≤ suc (length s)
+    go true h = omega arith
+    go false h = omega arith
+
 -- what a loader left
 left-none : {t u : List ℕ} (o : Option (List ℕ)) → is_some o ≡ false → Left t o u → (o ≡ none) × (t ≡ u)
 left-none none e l = (refl, sym l)
@@ -89,6 +99,9 @@ module _ (s : List ℕ) (at r : ℕ) (found : r ≡ at + index_of 0x0a (drop at 
 
   index : r ≡ at + index_of 0x0a (drop at s)
   index = found
+
+  pub found_within : at ≤ length s → r ≤ length s
+  found_within h = omega (arith, index, index_most 0x0a (drop at s), length-drop at s)
 
   pub none_left : at ≤ length s → r ≡ length s → NoEnd (drop at s)
   none_left h e = omega (arith, index, length-drop at s)
@@ -252,9 +265,5 @@ module _ {B new u : List ℕ} {p : Loading} (t : List ℕ) (g : LoadsLines form1
   pub loaded_no : length new ≡ size → (p.good ≡ true → p.begun ≡ true → p.taken ≡ length B → ⊥) → Loaded form1 B t (Refused 17) t
   loaded_no l n = (refl, refl, λ st s _. let a = whole-loaded st g s l in n a.1 a.0 a.2)
 
-  pub loaded_yes : (t' : List ℕ) → length t ≡ size → p.begun ≡ true → p.taken ≡ length B → t' ≡ take (length u) u ++ drop (length u) t → Loaded form1 B t Done t'
-  loaded_yes t' h b n e =
-      let x = whole-stores g b n in
-      let d : drop (length u) t ≡ [] = drop_of_length-le t {i = length u} (omega (arith, x.0.layout.long)) in
-      let q : t' ≡ u = e ∙ rw (take-length, d, append-nil) in
-      rw q (h, x.0, x.1)
+  pub loaded_yes : (t' : List ℕ) → length t ≡ size → p.begun ≡ true → p.taken ≡ length B → t' ≡ u → Loaded form1 B t Done t'
+  loaded_yes t' h b n e = let x = whole-stores g b n in rw e (h, x.0, x.1)

@@ -1,25 +1,17 @@
 -- `stored::load_next` meets its contract. Assumes nothing.
--- the bytes of the line
 use mathlib.Core.Path.{refl}
 use native.Mathlib.Omega.{arith}
-use Rattle.wire.specs.Codec.{Codec}
 use Rattle.stored.specs.File.{form1, entry_line, head_line}
 use Rattle.stored.specs.StoreLoad.{head_loaded, line_loaded}
-use Rattle.stored.proofs.LoadLaws.{Digits, digits_read, loaded-none}
+use Rattle.stored.proofs.LoadLaws.{digits_read, loaded-none}
 use borrow.Enum.Refused.{opened}
 use Rattle.stored.proofs.load_next.Goals as goal
 
-digits : {A : Type 0} (d : Codec A) (c : goal.In-Bytes) →
-    Digits d c.args.line.now c.decode.new.out c.in-Bytes.n
-digits d c = digits_read d _ _ _ _ (rw c.in-Bytes.is at c.decode.ensures)
+pub slice_bounds-restore-end : goal.slice_bounds-restore-end
+slice_bounds-restore-end c = omega (arith, (digits_read (entry_line form1) _ _ _ _ (rw c.in-Bytes.is at c.decode.ensures)).within)
 
--- GONE
-part-restore-end : tie.Need-slice-bounds-restore-end
-part-restore-end c = omega (arith, (digits (entry_line form1) c.before.before).within)
-
--- GONE
-part-start-end : tie.Need-slice-bounds-start-end
-part-start-end c = omega (arith, (digits (head_line form1) c.before.before).within)
+pub slice_bounds-start-end : goal.slice_bounds-start-end
+slice_bounds-start-end c = omega (arith, (digits_read (head_line form1) _ _ _ _ (rw c.in-Bytes.is at c.decode.ensures)).within)
 
 pub returns-in_default : goal.returns-in_default
 returns-in_default c =
@@ -29,9 +21,9 @@ returns-in_default c =
 pub returns-then-begun : goal.returns-then-begun
 unfolding line_loaded
 returns-then-begun c =
-    rw (c.if-begun.true, (digits (entry_line form1) c).read) c.restore.ensures
+    rw (c.if-begun.true, (digits_read (entry_line form1) _ _ _ _ (rw c.in-Bytes.is at c.decode.ensures)).read) c.restore.ensures
 
 pub returns : goal.returns
 unfolding head_loaded
 returns c =
-    rw (c.if-begun.false, (digits (head_line form1) c).read) c.start.ensures
+    rw (c.if-begun.false, (digits_read (head_line form1) _ _ _ _ (rw c.in-Bytes.is at c.decode.ensures)).read) c.start.ensures

@@ -14,13 +14,13 @@ use Rattle.stored.proofs.LineLaws.{head_most, head_good, entry-most}
 use Rattle.stored.proofs.StoreLaws.{line_head, held-good, last-small, wrote-front}
 use Rattle.stored.proofs.store_line.Goals as goal
 
--- GONE
-part-put-line-end : tie.Need-slice-bounds-put-line-end
-part-put-line-end c = let f = head-front c.before.before in omega (arith, f.1)
+pub slice_bounds-put_line-end : goal.slice_bounds-put_line-end
+slice_bounds-put_line-end c =
+    omega (arith, (wrote-front (head_line form1) 9 (head_most form1) (head_good form1 _ (last-small c.args.t.now (λ i. omega (arith, c.shared_slice_known-1.given i)))) (omega arith) c.write_head-n.ensures).1)
 
--- GONE
-part-put-line-end-2 : tie.Need-slice-bounds-put-line-end-2
-part-put-line-end-2 c = let f = entry-front c.before.before in omega (arith, f.1)
+pub slice_bounds-put_line-end-2 : goal.slice_bounds-put_line-end-2
+slice_bounds-put_line-end-2 c =
+    omega (arith, (wrote-front (entry_line form1) 339 (entry-most form1) (held-good form1 c.args.t.now _ (λ i. omega (arith, c.shared_slice_known-1.given i))) (omega arith) c.write_entry-n.ensures).1)
 
 pub returns-then-i-eq0 : goal.returns-then-i-eq0
 returns-then-i-eq0 c = let s = c.args in

@@ -6,4 +6,4 @@ use Rattle.stored.proofs.lines.write_head.Goals as goal
 pub returns : goal.returns
 returns c =
     rw (← c.last.ensures)
-    (head_wrote c.last.result.0 (omega (arith, c.last.type-inv)) (omega arith) c.put_byte-a.ensures c.put_version.ensures)
+    (head_wrote c.last.result.0 (omega (arith, c.last.type_inv)) (omega arith) c.put_byte-a.ensures c.put_version.ensures)

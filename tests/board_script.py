@@ -12,7 +12,7 @@ import termios
 
 from board_errors import NOBODY, Folder, copy_of_board
 from board_frames import GET, PUT, entry_line, head_line, key_name, request
-from board_run import BOARD, Bench, PROGRAM, REFERENCE, STAND_IN, TOP, beside, demand, demand_sentence, read_file, run_part, short, start, wait_for_end, \
+from board_run import ABSENT, BOARD, Bench, PROGRAM, REFERENCE, STAND_IN, TOP, beside, demand, demand_sentence, read_file, run_part, short, start, place, wait_for_end, \
     write_file
 
 OLD = head_line(4) + entry_line(4, b'old', b'value')
@@ -33,7 +33,7 @@ def after(folder, requests, table=OLD):
     with tempfile.TemporaryDirectory(dir=folder.at) as at:
         paths = os.path.join(at, 'requests'), os.path.join(at, 'table')
         write_file(paths[0], requests)
-        write_file(paths[1], table)
+        place(paths[1], table)
         start(REFERENCE, ['serve', *paths])
         return read_file(paths[1])
 
@@ -240,6 +240,38 @@ def rights(bench):
     return count + 1
 
 
+def names(bench):
+    """Names that are no UTF-8, of REQUESTS, TABLE and their folder: served, stored, listed and told as any other; nothing is left beside."""
+    plain, count = folder_of(bench, 'names'), 0
+    new, keys = after(plain, LINE), start(BOARD, ['sheet', plain.table]).out
+    for at in (os.fsencode(plain.at), os.path.join(os.fsencode(plain.at), b'odd\xff')):
+        os.makedirs(at, exist_ok=True)
+        for requests, table in ((b'lines', b'odd\xff'), (b'lines\xff', b'stored'), (b'\xc3 & \n', b'\xf4\x90\x80\x80 & \\')):
+            case = f'REQUESTS {requests!r} and TABLE {table!r} in {at!r}'
+            requests, table = os.path.join(at, requests), os.path.join(at, table)
+            for name, data, wanted in ((table, OLD, new), (table, ABSENT, after(plain, LINE, ABSENT)), (os.path.relpath(table, at), OLD, new)):
+                place(table, data)
+                write_file(requests, LINE)
+                outcome = start(BOARD, ['serve', os.path.join(os.path.dirname(name), os.path.basename(requests)), name], cwd=at)
+                demand((outcome.out, outcome.err, outcome.ended) == (REPLY, b'', 0), case, f'{short(outcome.out)} {short(outcome.err)} {outcome.ended}')
+                demand(read_file(table) == wanted, case, f'TABLE {short(read_file(table))}')
+            write_file(table, OLD)
+            demand(start(BOARD, ['sheet', table]).out == keys, case, 'the keys differ')
+            write_file(table, b'broken\n')
+            for words in (['serve', requests, table], ['sheet', table]):
+                told = start(BOARD, words)
+                demand(b'not a stored table: ' + table + b'\n' in told.err and told.ended == 1 and told.out == b'', case, f'said {short(told.err)}')
+            demand(read_file(table) == b'broken\n', case, 'TABLE was changed')
+            demand(sorted(set(os.listdir(at)) - {b'requests', b'table', b'odd\xff'}) == sorted({os.path.basename(requests), os.path.basename(table)} - {b'odd\xff'}),
+                   case, f'left {os.listdir(at)}')
+            for name in (requests, table):
+                said_without = start(BOARD, ['serve', name + b'-none'])
+                demand(said_without.ended == 1 and name + b'-none' in said_without.err, case, f'said {short(said_without.err)}')
+                os.unlink(name)
+            count += 8
+    return count
+
+
 def ways_to_it(bench):
     """Through a link on the PATH, with CDPATH set, by a relative path, and with an end closed."""
     folder = folder_of(bench, 'ways')
@@ -350,7 +382,7 @@ def part():
         return 'BOARD is not the script, so nothing was tried'
     with Bench() as bench:
         told = [('signals', signals(bench) + control_c(bench) + program_killed(bench)), ('closed pipes', reader_gone(bench)), ('runs at once', at_once(bench)),
-                ('standard inputs', standard_input(bench)), ('files that are none', not_files(bench)), ('rights', rights(bench)),
+                ('standard inputs', standard_input(bench)), ('files that are none', not_files(bench)), ('rights', rights(bench)), ('names', names(bench)),
                 ('ways to call it', ways_to_it(bench)), ('calls without building', without_building(bench)),
                 ('builds', building(bench) + unwritable(bench))]
         return ', '.join(f'{count} {name}' for name, count in told)

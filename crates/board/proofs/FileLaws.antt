@@ -30,12 +30,12 @@ abbrev pub after : List ℕ → ℕ → List ℕ → List ℕ
 after buf k sub = take k buf ++ (sub ++ drop (length buf - k) (drop k buf))
 
 pub read-chunk : (buf sub : List ℕ) (s r : Window) (n : ℕ) → s.held ≤ length buf → length sub ≡ length buf - s.held
-    → n ≤ length (take (length (after buf s.held sub) - s.held) (drop s.held (after buf s.held sub))) → length buf ≤ greatest → Arrives s n r → Chunk buf s r (after buf s.held sub)
+    → n ≤ length sub → length buf ≤ greatest → Arrives s n r → Chunk buf s r (after buf s.held sub)
 read-chunk buf sub s r n h l m g a =
     let k : ℕ = s.held in
     let new : List ℕ = after buf k sub in
     let long : length new ≡ length buf = simp (length-append, length-take, length-drop, l) (omega arith) in
-    let f : k + n ≤ length buf = omega (arith, length-take (length new - k) (drop k new), length-drop k new) in
+    let f : k + n ≤ length buf = omega arith in
     let p : length (take n (drop k new)) ≡ n = length-take-le n (drop k new) (omega (arith, length-drop k new)) in
     record {
       chunk = take n (drop k new);

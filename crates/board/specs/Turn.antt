@@ -24,7 +24,7 @@ pub record Chunk (buf : List ℕ) (s s' : Window) (buf' : List ℕ) : Type 0 whe
 
 abbrev pub ReadsOn : List ℕ → Window → Got → List ℕ → Type 0
 ReadsOn buf s (got.More s') buf' = Chunk buf s s' buf'
-ReadsOn buf s got.Failed buf' = Unit {0}
+ReadsOn buf s (got.Failed e) buf' = Unit {0}
 
 -- A turn of serving is a step of a run, behind which all is ready for the next, or its end. No turn is refused, and no window lies outside its buffer.
 abbrev pub Serves : List ℕ → List ℕ → Window → Turned → List ℕ → List ℕ → List ℕ → Type 0

@@ -1,16 +1,19 @@
 // A file that is read and written through a buffer.
-ghost use Rattle.std.specs.Prelude.{◌≡◌};
+ghost use Rattle.std.specs.Prelude.{◌≡◌, length};
 ghost use Rattle.wire.specs.Write as wire;
 ghost use Rattle.board.specs.Turn.{ReadsOn};
 
 use field::Span;
 use files::Window;
+use std::fs::File;
+use std::io::{Error, ErrorKind, Read, Write};
+use std::{fs, io, str};
 
-// What reading on gives: the window after it, or that it failed.
+// What reading on gives: the window after it, or that it failed, and why.
 #[derive(Clone, Copy)]
 pub(crate) enum Got {
     More(Window),
-    Failed,
+    Failed(Error),
 }
 
 // How a turn ends: there is a next one; all is done; the file is not good; or a system call failed, and that was said.
@@ -20,6 +23,13 @@ pub(crate) enum Turned {
     Done,
     Broken(usize),
     Failed,
+}
+
+// 65,536 zeros, for a loop that moves much data. The `ensures` gives only the length, which lending the array as a slice needs.
+pub(crate) fn large_buffer() -> [u8; 65536]
+    ensures { 65536 ≡ length result }
+{
+    [0; 65536]
 }
 
 // len bytes from start on, as far as they are there.
@@ -36,22 +46,51 @@ pub(crate) fn part(s: &[u8], start: usize, len: usize) -> &[u8]
 }
 
 // Writes the first n bytes of a buffer.
-pub(crate) fn write(fd: i32, buf: &[u8], n: usize) -> bool {
-    io::write_all(fd, part(buf, 0, n))
+pub(crate) fn write(to: &mut impl Write, buf: &[u8], n: usize) -> io::Result<()> {
+    to.write_all(part(buf, 0, n))
 }
 
 // Reads on behind the bytes in a window.
-pub(crate) fn read_on(fd: i32, buf: &mut [u8], s: Window) -> Got
+pub(crate) fn read_on(from: &mut impl Read, buf: &mut [u8], s: Window) -> Got
     ensures { ReadsOn buf.old s result buf.new }
 {
     let held = s.held;
     if buf.len() < held {
-        return Got::Failed;
+        return Got::Failed(Error::from(ErrorKind::InvalidInput));
     }
-    let got = libc::read(fd, &mut buf[held..]);
-    if got < 0 {
-        return Got::Failed;
+    match from.read(&mut buf[held..]) {
+        Ok(n) => Got::More(files::after_read(s, n)),
+        Err(e) => Got::Failed(e),
     }
-    let n = io::count(got, &buf[held..]);
-    Got::More(files::after_read(s, n))
+}
+
+// The text of a name: the library takes no name that is none.
+fn text_of(name: &[u8]) -> io::Result<&str> {
+    match str::from_utf8(name) {
+        Ok(text) => Ok(text),
+        Err(_) => Err(Error::new(ErrorKind::InvalidFilename, "The name is no text in UTF-8")),
+    }
+}
+
+// Opens a file to read it.
+pub(crate) fn open_read(rt: &HostRuntime, path: &[u8]) -> io::Result<File> {
+    File::open(rt, text_of(path)?)
+}
+
+// Makes a file that is not there yet, to write it.
+pub(crate) fn create(rt: &HostRuntime, name: &[u8]) -> io::Result<File> {
+    File::options()
+        .write(true)
+        .create_new(true)
+        .open(rt, text_of(name)?)
+}
+
+// Gives a file another's name, whose place it takes.
+pub(crate) fn rename(rt: &HostRuntime, name: &[u8], path: &[u8]) -> io::Result<()> {
+    fs::rename(rt, text_of(name)?, text_of(path)?)
+}
+
+// Removes a file.
+pub(crate) fn unlink(rt: &HostRuntime, name: &[u8]) -> io::Result<()> {
+    fs::remove_file(rt, text_of(name)?)
 }

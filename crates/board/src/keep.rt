@@ -7,22 +7,35 @@ use crate::file::{Got, Turned};
 use crate::{file, say};
 use field::put;
 use files::{NextLoad, NextStore, Window};
-use libc::STDERR_FILENO;
+use std::fs::File;
+use std::io;
+use std::io::{Error, ErrorKind};
+use std::os::fd::AsRawFd;
+use std::random::RandomSource;
 
 // Does what is to be done next.
-fn turn(fd: i32, name: &[u8], input: &mut [u8], t: &mut [u8], s: Window) -> Turned
+fn turn(
+    rt: &HostRuntime,
+    stored: &mut File,
+    name: &[u8],
+    input: &mut [u8],
+    t: &mut [u8],
+    s: Window,
+) -> Turned
     requires { LoadReady input.old s }
     ensures { Loads input.old t.old s result input.new t.new }
 {
     let n = files::load_next(input, t, s);
     match n {
         NextLoad::Read(after) => {
-            let g = file::read_on(fd, input, after);
-            let Got::More(next) = g else {
-                say::no_table(name);
-                return Turned::Failed;
-            };
-            Turned::On(next)
+            let g = file::read_on(stored, input, after);
+            match g {
+                Got::More(next) => Turned::On(next),
+                Got::Failed(e) => {
+                    say::no_table(rt, name, e);
+                    Turned::Failed
+                }
+            }
         }
         NextLoad::Done => Turned::Done,
         NextLoad::Broken(line) => Turned::Broken(line),
@@ -32,13 +45,13 @@ fn turn(fd: i32, name: &[u8], input: &mut [u8], t: &mut [u8], s: Window) -> Turn
 }
 
 // Whether a table was loaded. Where the file stores none, it says so.
-fn is_loaded(r: Turned, name: &[u8]) -> bool
+fn is_loaded(rt: &HostRuntime, r: Turned, name: &[u8]) -> bool
     ensures { result ≡ true → r ≡ Turned.Done }
 {
     match r {
         Turned::Done => true,
         Turned::Broken(line) => {
-            say::broken(name, line);
+            say::broken(rt, name, line);
             false
         }
         _ => false,
@@ -46,14 +59,14 @@ fn is_loaded(r: Turned, name: &[u8]) -> bool
 }
 
 // Builds the table of a file, and answers how that ends. The turns are counted down as in serving.
-fn build(fd: i32, name: &[u8], t: &mut [u8]) -> Turned
+fn build(rt: &HostRuntime, stored: &mut File, name: &[u8], t: &mut [u8]) -> Turned
     ensures { Builds t.old result t.new }
 {
-    let mut input = io::large_buffer();
+    let mut input = file::large_buffer();
     let mut s = files::start();
     let mut turns = u64::MAX;
     while turns > 0 {
-        let r = turn(fd, name, &mut input, t, s);
+        let r = turn(rt, stored, name, &mut input, t, s);
         let Turned::On(next) = r else {
             return r;
         };
@@ -64,43 +77,46 @@ fn build(fd: i32, name: &[u8], t: &mut [u8]) -> Turned
 }
 
 // Loads the table of a file that is open, and closes it. It answers whether there is a table.
-fn load_open(fd: i32, path: &[u8], t: &mut [u8]) -> bool
+fn load_open(rt: &HostRuntime, stored: File, path: &[u8], t: &mut [u8]) -> bool
     requires { length t.old ≡ size }
     ensures { result ≡ true → Sound t.new }
 {
-    let r = build(fd, path, t);
-    libc::close(fd);
-    is_loaded(r, path)
+    let mut stored = stored;
+    let r = build(rt, &mut stored, path, t);
+    drop(stored);
+    is_loaded(rt, r, path)
 }
 
 // Loads the table of a file that is to be there. It answers whether there is a table.
-pub(crate) fn load_stored(path: &[u8], t: &mut [u8]) -> bool
+pub(crate) fn load_stored(rt: &HostRuntime, path: &[u8], t: &mut [u8]) -> bool
     requires { length t.old ≡ size }
     ensures { result ≡ true → Sound t.new }
 {
-    let fd = os::open_read(path);
-    if fd < 0 {
-        say::no_stored(path);
-        return false;
+    match file::open_read(rt, path) {
+        Ok(stored) => load_open(rt, stored, path, t),
+        Err(e) => {
+            say::no_stored(rt, path, e);
+            false
+        }
     }
-    load_open(fd, path, t)
 }
 
 // Loads the table of a file, a fresh one only where the system says that there is no such file. It answers whether there is a table to serve from.
-pub(crate) fn load_file(path: &[u8], t: &mut [u8]) -> bool
+pub(crate) fn load_file(rt: &HostRuntime, path: &[u8], t: &mut [u8]) -> bool
     requires { length t.old ≡ size }
     ensures { result ≡ true → Sound t.new }
 {
-    let fd = os::open_read(path);
-    if fd >= 0 {
-        return load_open(fd, path, t);
+    match file::open_read(rt, path) {
+        Ok(stored) => load_open(rt, stored, path, t),
+        Err(e) => {
+            if e.kind() == ErrorKind::NotFound {
+                table::make(t);
+                return true;
+            }
+            say::no_table(rt, path, e);
+            false
+        }
     }
-    if os::errno() == libc::ENOENT {
-        table::make(t);
-        return true;
-    }
-    say::no_table(path);
-    false
 }
 
 // Room for the name of a file beside another: longer than any name that the system takes.
@@ -111,29 +127,36 @@ pub(crate) fn room() -> [u8; 4160]
 }
 
 // The name of a file beside a table's that is to take its place: the table's, `.new-` and sixteen random digits.
-pub(crate) fn beside(path: &[u8], name: &mut [u8]) -> usize {
+pub(crate) fn beside(rt: &impl RandomSource, path: &[u8], name: &mut [u8]) -> usize {
     let mut seed = [0u8; 8];
-    libc::getentropy(&mut seed);
+    let _ = rt.fill_bytes(&mut seed);
     let a = put::put_raw(name, 0, path);
     let b = put::put_raw(name, a, b".new-");
     put::put_raw(name, b, &seed);
     hexadecimal::spread(name, b, seed.len())
 }
 
-// Makes the file that is to take a table's place, and answers its descriptor. Where it can't be made, it says so and answers a negative number.
-pub(crate) fn make_file(name: &[u8]) -> i32 {
-    let fd = os::create(name);
-    if fd < 0 {
-        say::no_room(name);
-        return -1;
+// Makes the file that is to take a table's place. Where it can't be made, it says so.
+pub(crate) fn make_file(rt: &HostRuntime, name: &[u8]) -> Option<File> {
+    let out = match file::create(rt, name) {
+        Ok(out) => out,
+        Err(e) => {
+            say::no_room(rt, name, e);
+            return None;
+        }
+    };
+    if out.as_raw_fd() <= rt.stderr().as_raw_fd() {
+        say::closed(rt);
+        let_go(rt, out, name);
+        return None;
     }
-    if fd <= STDERR_FILENO {
-        say::closed();
-        libc::close(fd);
-        os::unlink(name);
-        return -1;
-    }
-    fd
+    Some(out)
+}
+
+// Closes a file that was made, and removes it.
+pub(crate) fn let_go(rt: &HostRuntime, out: File, name: &[u8]) {
+    drop(out);
+    let _ = file::unlink(rt, name);
 }
 
 // Whether all lines were written.
@@ -147,32 +170,41 @@ fn is_stored(r: NextStore) -> bool
     }
 }
 
-// Writes the lines of the table, as many at a time as there is room for.
-fn write_lines(fd: i32, t: &[u8]) -> bool
+// Writes the lines of the table, as many at a time as there is room for, and answers whether they are all written.
+fn write_lines(out: &mut File, t: &[u8]) -> io::Result<bool>
     requires { Sound t.now }
 {
-    let mut out = io::large_buffer();
+    let mut lines = file::large_buffer();
     let mut line = 0;
     loop {
-        let r = files::store_next(t, &mut out, line);
+        let r = files::store_next(t, &mut lines, line);
         let NextStore::Write(n, next) = r else {
-            return is_stored(r);
+            return Ok(is_stored(r));
         };
-        if !file::write(fd, &out, n) {
-            return false;
-        }
+        file::write(out, &lines, n)?;
         line = next;
     }
 }
 
-// Writes the table to the file made for it, which takes the table's name when all has reached the disk. Where that fails, it says so and the file goes.
-pub(crate) fn store_file(fd: i32, t: &[u8], name: &[u8], path: &[u8])
+// Writes the table to the file made for it, which takes the table's name when all has reached the disk.
+fn store_lines(rt: &HostRuntime, out: File, t: &[u8], name: &[u8], path: &[u8]) -> io::Result<()>
     requires { Sound t.now }
 {
-    let written = write_lines(fd, t) && libc::fsync(fd) == 0;
-    let closed = libc::close(fd) == 0;
-    if !written || !closed || os::rename(name, path) != 0 {
-        say::not_stored(path);
-        os::unlink(name);
+    let mut out = out;
+    if !write_lines(&mut out, t)? {
+        return Err(Error::from(ErrorKind::InvalidData));
+    }
+    out.sync_all()?;
+    drop(out);
+    file::rename(rt, name, path)
+}
+
+// Stores the table by the file made for it. Where that fails, it says so and the file goes.
+pub(crate) fn store_file(rt: &HostRuntime, out: File, t: &[u8], name: &[u8], path: &[u8])
+    requires { Sound t.now }
+{
+    if let Err(e) = store_lines(rt, out, t, name, path) {
+        say::not_stored(rt, path, e);
+        let _ = file::unlink(rt, name);
     }
 }

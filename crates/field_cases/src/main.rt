@@ -1,11 +1,12 @@
 #![tactic(auto)]
 // Runs the field readers on the cases of standard input, one a line: a letter for the field, and the bytes in hexadecimal digits.
-ghost use Rattle.std.specs.Prelude.{◌≤◌};
-ghost use Rattle.io.specs.Counts.{IsPrefixLen};
+ghost use Rattle.std.specs.Prelude.{◌≡◌, ◌≤◌, length, IfOk};
+ghost use Rattle.field_cases.specs.Counts.{IsPrefixLen};
 
 use field::{Cursor, Kind, NumberRead, SpanRead, VersionRead};
-use libc::{STDIN_FILENO, STDOUT_FILENO};
 use message::Request;
+use std::io;
+use std::io::Read;
 
 // The value of a hexadecimal digit; of any other byte 0.
 fn digit(b: u8) -> u8
@@ -33,108 +34,132 @@ fn decode(s: &[u8], out: &mut [u8]) -> usize
     n
 }
 
-fn tell(s: &[u8]) {
-    io::write_all(STDOUT_FILENO, s);
+fn tell(rt: &impl Print, s: &[u8]) -> io::Result<()> {
+    rt.write_all(s)
 }
 
 // The end of a whole answer: the place behind the field.
-fn tell_end(c: Cursor) {
-    tell(b" ");
-    io::print_decimal(STDOUT_FILENO, c.at as u64);
+fn tell_end(rt: &impl Print, c: Cursor) -> io::Result<()> {
+    let at = c.at;
+    print!(rt; " {at}")
 }
 
-fn tell_refusal(k: u8) {
-    tell(b"refused ");
-    io::print_decimal(STDOUT_FILENO, k as u64);
+fn tell_refusal(rt: &impl Print, k: u8) -> io::Result<()> {
+    print!(rt; "refused {k}")
 }
 
-fn tell_number(r: NumberRead) {
+fn tell_number(rt: &impl Print, r: NumberRead) -> io::Result<()> {
     match r {
         NumberRead::Whole(v, c) => {
-            tell(b"whole ");
-            io::print_decimal(STDOUT_FILENO, v);
-            tell_end(c);
+            print!(rt; "whole {v}")?;
+            tell_end(rt, c)
         }
-        NumberRead::More => tell(b"more"),
-        NumberRead::Refused(k) => tell_refusal(k),
+        NumberRead::More => tell(rt, b"more"),
+        NumberRead::Refused(k) => tell_refusal(rt, k),
     }
 }
 
-fn tell_version(r: VersionRead) {
+fn tell_version(rt: &impl Print, r: VersionRead) -> io::Result<()> {
     match r {
         VersionRead::Whole(v, c) => {
-            tell(b"whole ");
-            io::print_decimal(STDOUT_FILENO, v.0);
-            tell_end(c);
+            let number = v.0;
+            print!(rt; "whole {number}")?;
+            tell_end(rt, c)
         }
-        VersionRead::More => tell(b"more"),
+        VersionRead::More => tell(rt, b"more"),
     }
 }
 
-fn tell_bytes(s: &[u8]) {
-    let mut i = 0;
-    while i < s.len() {
-        io::print_hex(STDOUT_FILENO, s[i] as u64, 2);
-        i += 1;
+fn tell_bytes(rt: &impl Print, s: &[u8]) -> io::Result<()> {
+    for b in s {
+        print!(rt; "{b:02x}")?;
     }
+    Ok(())
 }
 
-fn tell_span(s: &[u8], r: SpanRead) {
+fn tell_span(rt: &impl Print, s: &[u8], r: SpanRead) -> io::Result<()> {
     match r {
         SpanRead::Whole(p, c) => {
-            tell(b"whole ");
-            tell_bytes(field::part(s, p));
-            tell_end(c);
+            tell(rt, b"whole ")?;
+            tell_bytes(rt, field::part(s, p))?;
+            tell_end(rt, c)
         }
-        SpanRead::More => tell(b"more"),
-        SpanRead::Refused(k) => tell_refusal(k),
+        SpanRead::More => tell(rt, b"more"),
+        SpanRead::Refused(k) => tell_refusal(rt, k),
     }
 }
 
-fn tell_text(s: &[u8]) {
+fn tell_text(rt: &impl Print, s: &[u8]) -> io::Result<()> {
     if text::is_text(s) {
-        tell(b"text");
+        tell(rt, b"text")
     } else {
-        tell(b"no text");
+        tell(rt, b"no text")
     }
 }
 
 // One case: the field that the letter stands for, read at the start of s.
-fn run(letter: u8, s: &[u8]) {
+fn run(rt: &impl Print, letter: u8, s: &[u8]) -> io::Result<()> {
     let c = Cursor { at: 0 };
     match letter {
-        b'i' => tell_number(field::read_number(s, c, Kind::VInt)),
-        b'l' => tell_number(field::read_number(s, c, Kind::VLong)),
-        b'e' => tell_version(field::read_version(s, c)),
-        b't' => tell_text(s),
-        b'n' => tell_span(s, field::read_text(s, c, Request::NAME)),
-        b'k' => tell_span(s, field::read_limited(s, c, Request::KEY)),
-        b'v' => tell_span(s, field::read_limited(s, c, Request::VALUE)),
-        _ => tell(b"not a case"),
+        b'i' => tell_number(rt, field::read_number(s, c, Kind::VInt))?,
+        b'l' => tell_number(rt, field::read_number(s, c, Kind::VLong))?,
+        b'e' => tell_version(rt, field::read_version(s, c))?,
+        b't' => tell_text(rt, s)?,
+        b'n' => tell_span(rt, s, field::read_text(s, c, Request::NAME))?,
+        b'k' => tell_span(rt, s, field::read_limited(s, c, Request::KEY))?,
+        b'v' => tell_span(rt, s, field::read_limited(s, c, Request::VALUE))?,
+        _ => tell(rt, b"not a case")?,
     }
-    tell(b"\n");
+    tell(rt, b"\n")
 }
 
-fn run_line(line: &[u8]) {
+// Room for the bytes of a case. The `ensures` gives only the length, which lending the array as a slice needs.
+fn buffer() -> [u8; 4096]
+    ensures { 4096 ≡ length result }
+{
+    [0; 4096]
+}
+
+fn run_line(rt: &impl Print, line: &[u8]) -> io::Result<()> {
     if line.len() == 0 {
-        return;
+        return Ok(());
     }
-    let mut bytes = io::buffer();
+    let mut bytes = buffer();
     let n = decode(&line[1..], &mut bytes);
-    run(line[0], &bytes[..n]);
+    run(rt, line[0], &bytes[..n])
 }
 
-fn run_lines(s: &[u8]) {
-    let mut at = 0;
-    while at < s.len() {
-        let end = bytes::scan::find(s, at, s.len(), b'\n');
-        run_line(&s[at..end]);
-        at = end + 1;
+fn run_lines(rt: &impl Print, s: &[u8]) -> io::Result<()> {
+    for line in s.split(|b| *b == b'\n') {
+        run_line(rt, line)?;
     }
+    Ok(())
 }
 
-fn main() {
-    let mut input = io::large_buffer();
-    let n = io::read_full(STDIN_FILENO, &mut input);
-    run_lines(&input[..n]);
+// Room for all cases.
+fn large_buffer() -> [u8; 65536]
+    ensures { 65536 ≡ length result }
+{
+    [0; 65536]
+}
+
+// Reads until buf is full or the input ends, and answers how many bytes there are.
+fn read_full(from: &mut impl Read, buf: &mut [u8]) -> io::Result<usize>
+    ensures { IfOk result (λ n. IsPrefixLen n buf.new) }
+{
+    let mut done = 0;
+    while done < buf.len() {
+        let n = from.read(&mut buf[done..])?;
+        if n == 0 {
+            break;
+        }
+        done += n;
+    }
+    Ok(done)
+}
+
+fn main(rt: HostRuntime) -> io::Result<()> {
+    let mut input = large_buffer();
+    let n = read_full(&mut rt.stdin(), &mut input)?;
+    run_lines(&rt, &input[..n])
 }

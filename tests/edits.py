@@ -215,8 +215,17 @@ def at_once():
     return max(1, min(len(os.sched_getaffinity(0)), free // 4_000_000))
 
 
+def renew(crates):
+    """Has rt prove what other commands left of the libraries below these crates, where it is old."""
+    named = kit.needs()[0]
+    for one in {one: None for crate in crates for one in kit.below(crate, named)}:
+        subprocess.run(['rt', 'lib'], cwd=f'crates/{one}', check=True, stdin=subprocess.DEVNULL, stdout=subprocess.DEVNULL)
+
+
 def main(words):
     paths = sorted(path for path in glob.glob('crates/*/must-fail/*.edit') if not words or path.split('/')[1] in words)
+    if kit.is_kept():
+        renew(path.split('/')[1] for path in paths)
     with ThreadPoolExecutor(at_once()) as pool:
         told = list(pool.map(faults_of, paths))
     found = [f'{path}: {fault}' for path, (faults, _) in zip(paths, told) for fault in faults]

@@ -266,12 +266,13 @@ class Clone:
         return subprocess.CompletedProcess(words, started.returncode, out, err)
 
 
-PROVED = 'echo "rt: wire proved (1 s)"; echo "more"; echo "rt: text proved (2 s)" >&2; '
-MADE = PROVED + 'mkdir -p target/staticlib && echo a > target/staticlib/libexports.a'
+PROVED = ('echo "only=0 proved=0"; echo "crate wire: modules loaded=0 checked=9"; echo "logic=proved functions=2"; echo "more"; '
+          'echo "crate text: modules loaded=4 checked=1" >&2; echo "logic=proved functions=3" >&2; ')
+MADE = PROVED + 'echo "crate exports: modules loaded=4 checked=1"; echo "logic=proved functions=1"; mkdir -p out && echo a > out/libexports.a'
 PROGRAM_MADE = '[ "$1" != --version ] || { echo "cargo 1.85.0 (x 2025)"; exit; }; cd "${0%/*}/.." && mkdir -p host/target/release && printf "#!$PWD/bin/bash\\necho built \\$*" > host/target/release/feyqoolad && bin/chmod +x host/target/release/feyqoolad'
 STEPS = [(None, b'the Rattle toolchain (rt) is not there'), (('rt', 'exit 1'), b'the library was not built'),
-         (('rt', PROVED + 'exit 1'), b'feyqoolad: 1 of 3: wire proved (1 s)\nfeyqoolad: 2 of 3: text proved (2 s)\nfeyqoolad: the library was not built'),
-         (('rt', MADE), b'2 of 3: text proved (2 s)\nfeyqoolad: 3 of 3: exports proved (0 s)\nfeyqoolad: proved and built, after 0 seconds\nfeyqoolad: the Rust compiler (cargo) is not there'),
+         (('rt', PROVED + 'exit 1'), b'feyqoolad: 1 of 3: wire proved (0 s)\nfeyqoolad: 2 of 3: text proved (0 s)\nfeyqoolad: the library was not built'),
+         (('rt', MADE), b'2 of 3: text proved (0 s)\nfeyqoolad: 3 of 3: exports proved (0 s)\nfeyqoolad: proved and built, after 0 seconds\nfeyqoolad: the Rust compiler (cargo) is not there'),
          (('cargo', 'echo "cargo 1.63.0 (fd9c4297c 2022)"'), b'the Rust compiler (cargo) is version 1.63.0, and version 1.85 or later is needed'),
          (('cargo', '[ "$1" != --version ] || { echo "cargo 1.120.1"; exit; }; exit 1'), b'the program was not built')]
 
@@ -302,6 +303,7 @@ def script(bench):
         if tool:
             clone.stand_in(*tool)
         done = clone.run('ping')
+        done.stderr = re.sub(rb'\(\d+ s\)', b'(0 s)', re.sub(rb'after \d+ seconds', b'after 0 seconds', done.stderr))
         demand(done.returncode == 1 and wanted in done.stderr and done.stderr.endswith(b'Nothing was done.\n'), f'ping with {tool}', f'{done}')
     build_ends(clone)
     os.symlink(shutil.which('chmod'), os.path.join(clone.at, 'bin/chmod'))

@@ -42,7 +42,7 @@ def below(crate, named):
 
 
 def is_kept(top=TOP):
-    """Whether other commands of rt have left libraries of their own here, which may be older than the sources: rt ci leaves none with a stamp."""
+    """Whether other commands of rt have left libraries of their own here, with a stamp, which may be older than the sources. Those of rt ci have none."""
     return bool(glob.glob(os.path.join(top, 'crates/*/out/rlib/stamp')))
 
 

@@ -73,6 +73,9 @@ def stale_edits():
     """The wrong programs whose text to be changed does not stand in its file, or stands there more than once."""
     for place, crate, changes in edits():
         for name, old, _ in changes:
+            if not os.path.exists(f'crates/{crate}/{name}'):
+                yield f'{place}: no file {name}'
+                continue
             count = text_of(f'crates/{crate}/{name}').count(old)
             if count != 1:
                 yield f'{place}: {old!r} stands {count} times'

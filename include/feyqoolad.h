@@ -1,8 +1,8 @@
 /* The library of Feyqoolad for C: a Hot Rod cache server for protocols 1.0, 1.1, 1.2 and 2.0, and the reader and the writer of its messages.
 
-   `rt staticlib exports` proves the library and writes target/staticlib/libexports.a, for x86-64 Linux:
+   `rt lib`, in crates/exports, proves the library and writes out/libexports.a there, for x86-64 Linux:
 
-       gcc -I include program.c target/staticlib/libexports.a
+       gcc -I include program.c crates/exports/out/libexports.a
 
    A part of memory goes over as a pointer, which is not NULL, and a length. A part that a function may write to overlaps no other part of the call. Each
    function takes any bytes and any numbers. It keeps no memory of its own between calls, so threads may call it on parts of their own.

@@ -16,7 +16,7 @@ HEAD = '| Crate | Must-fail edits | `tests/wrong/`, with how many |\n|---|---|--
 
 def crates():
     with open('crates.txt', encoding='utf-8') as lines:
-        return [line.split(':')[0] for line in lines if ':' in line]
+        return [line.split(':')[0].split()[0] for line in lines if ':' in line.partition('#')[0]]
 
 
 def edits_of(crate):
@@ -73,6 +73,9 @@ def stale_edits():
     """The wrong programs whose text to be changed does not stand in its file, or stands there more than once."""
     for place, crate, changes in edits():
         for name, old, _ in changes:
+            if not os.path.exists(f'crates/{crate}/{name}'):
+                yield f'{place}: no file {name}'
+                continue
             count = text_of(f'crates/{crate}/{name}').count(old)
             if count != 1:
                 yield f'{place}: {old!r} stands {count} times'
@@ -94,14 +97,15 @@ def copied_edits():
 
 
 def lost_places():
-    """The places of wrong programs that no proof has: neither a need or law of that name, nor, where the prover searches for the proof, the function."""
+    """The places of wrong programs that no proof has: neither a law of that name in a file of laws, nor the function, whose goals mostly need no answer."""
     for path in sorted(glob.glob('crates/*/must-fail/*.edit')):
         crate = path.split('/')[1]
         for program in programs(path):
             for place in program.places:
                 where, _, name = place.partition(' ')
-                files = [file for file in (f'crates/{crate}/proofs/{where}/Proof.antt', f'crates/{crate}/proofs/{where}.antt') if os.path.exists(file)]
-                told = re.search(rf'^ *(?:pub )?{re.escape(name)} :', text_of(files[0]), re.M) if files else re.search(rf'\bfn {where.split("/")[-1]}\b', source(f'crates/{crate}/src'))
+                laws = f'crates/{crate}/proofs/{where}.antt'
+                told = (re.search(rf'^ *(?:pub )?{re.escape(name)} :', text_of(laws), re.M) if os.path.exists(laws)
+                        else re.search(rf'\bfn {where.split("/")[-1]}\b', source(f'crates/{crate}/src')))
                 if not told:
                     yield f'{path}, {program.name}: no place {place}'
 

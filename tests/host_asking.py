@@ -1,4 +1,4 @@
-"""Part 10: asking as people and scripts do: dates and spans, what goes to standard output and what to standard error, JSON and raw bytes."""
+"""Part 10: asking as people and scripts do: dates and spans, JSON and raw bytes, and what goes to standard output and what to standard error with these."""
 import datetime
 import json
 import os
@@ -83,11 +83,11 @@ def deadlines(bench):
             demand(low <= second <= high, line, f'the deadline is {second}, wanted {low} to {high}')
         time.sleep(1.2)
         done = run('get', 'short', *to)
-        demand((done.stdout, done.stderr, done.returncode) == (b'', b'feyqoolad: there is no such key\n', 2), 'a second later', f'{done}')
+        demand((done.stdout, done.stderr, done.returncode) == (b'there is no such key\n', b'', 2), 'a second later', f'{done}')
     return 5
 
 
-# Words, the object that is printed, and the status; what is said on standard error is the same as without --json.
+# Words, the object that is printed, and the status; with --json a no, and that there is nothing to list, is said on standard error.
 OBJECTS = [(('ping',), {'done': True}, 0), (('put', 'b1', 'Ida'), {'key': 'b1', 'done': True}, 0), (('get', 'b1'), {'key': 'b1', 'found': True, 'value': 'Ida'}, 0),
            (('get', 'b2'), {'key': 'b2', 'found': False}, 2), (('getwithversion', 'b1'), {'key': 'b1', 'found': True, 'version': 1, 'value': 'Ida'}, 0),
            (('getwithversion', 'b2'), {'key': 'b2', 'found': False}, 2), (('contains', 'b1'), {'key': 'b1', 'found': True}, 0), (('contains', 'b2'), {'key': 'b2', 'found': False}, 2),

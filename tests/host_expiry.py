@@ -15,9 +15,9 @@ def now():
 
 
 def said(host, *words):
-    """What a command prints, or says on standard error where the answer is no or there is nothing, and its status."""
+    """What a command prints, and its status."""
     done = run([*words, '--to', f'127.0.0.1:{host.port}'])
-    return (done.stdout or done.stderr.removeprefix(b'feyqoolad: ')).decode().rstrip('\n'), done.returncode
+    return done.stdout.decode().rstrip('\n'), done.returncode
 
 
 def seen(host):

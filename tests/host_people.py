@@ -40,20 +40,10 @@ WRONG = [('nothing b1', 'there is no command'), ('get', 'is followed by KEY'), (
          (b'\xff b1', 'there is no command'), (b'encode \xff', 'there is no command'), ('serve', 'is followed by TABLE'), ('serve table --what', 'no option --what'),
          ('serve table --connections 0', 'has to be a number from 1 to 100000')]
 HINT = "'feyqoolad help' shows what is understood. Nothing was done."
-NONE = 'there are no entries'
 
 
 def run(words, **more):
     return subprocess.run([HOST, *words], capture_output=True, timeout=SECONDS, check=False, **more)
-
-
-def parted(wanted, status):
-    """Standard output, standard error and status: what was asked for goes to the first, every no to the second."""
-    return ('', f'feyqoolad: {wanted}\n', status) if status or wanted == NONE else (f'{wanted}\n', '', status)
-
-
-def said(done):
-    return done.stdout.decode(), done.stderr.decode(), done.returncode
 
 
 def talk(bench):
@@ -62,7 +52,7 @@ def talk(bench):
         for words, wanted, status in TALK:
             words = words.split()
             done = run(words[:1] + to + words[1:])
-            demand(said(done) == parted(wanted, status), ' '.join(words), f'{done}, wanted {wanted!r}')
+            demand((done.stdout.decode(), done.returncode, done.stderr) == (wanted + '\n', status, b''), ' '.join(words), f'{done}, wanted {wanted!r}')
         for value, shown in ((b'', '(empty)'), ('Äß'.encode(), 'Äß'), (CONTROL, '0x610a62'), (BYTES, '0xff80'), (b'v' * 256, 'v' * 256), (b'(empty)', '0x28656d70747929'), (b'0xff80', '0x307866663830')):
             run([b'put', b'v', value] + to)
             done = run(['get', 'v'] + to)
@@ -114,9 +104,9 @@ def protocols(bench):
                 done = run([words[0], f'k{protocol}', *words[1:], '--protocol', protocol, '--to', f'127.0.0.1:{host.port}'])
                 wanted = late if protocol == '20' else early
                 status = 2 if wanted.startswith(('not', 'there')) else 0
-                demand(said(done) == parted(wanted, status), f'{" ".join(words)} in version {protocol}', f'{done}, wanted {wanted!r}')
+                demand((done.stdout.decode(), done.returncode, done.stderr) == (wanted + '\n', status, b''), f'{" ".join(words)} in version {protocol}', f'{done}, wanted {wanted!r}')
         done = run(['keys', '--protocol', '12', '--to', f'127.0.0.1:{host.port}'])
-        demand(said(done) == parted(NONE, 0), 'keys in version 12', f'{done}')
+        demand(done.stdout == b'there are no entries\n', 'keys in version 12', f'{done}')
     return 4 * len(OLD) + 1
 
 
@@ -186,12 +176,12 @@ def lines(bench):
     others = subprocess.run([REFERENCE, 'serve', requests], capture_output=True, check=True).stdout
     demand(others == replies, 'encode', f'the second program answers {others!r}')
     done = run(['decode', requests], input=replies)
-    words = done.stdout.decode().splitlines()
-    demand(words[1] == 'get b1: Ida' and words[2] == 'putifabsent b1: not stored: the key is there; held: Ida', 'decode', f'{done}')
-    demand(words[-2:] == ['?: refused 14: not a request line', '?: refused 15: not exactly one request'] and len(words) == len(ENCODED) + 2, 'decode', f'{done}')
-    demand(words[15:18] == ['put b1: stored', 'remove b1: removed; before: Ida', 'replace b1: not stored: there is no such key'], 'decode', f'{done}')
-    demand(words[9:12] == ['list: there are no entries', 'list 300: there are no entries', 'keys: there are no entries'], 'decode', f'{done}')
-    demand(re.match(r'stats: seconds since the first call: \d+; entries: 0; keys added: 1; puts: 1; gets: 1; ', words[13]), 'decode', f'{done}')
+    said = done.stdout.decode().splitlines()
+    demand(said[1] == 'get b1: Ida' and said[2] == 'putifabsent b1: not stored: the key is there; held: Ida', 'decode', f'{done}')
+    demand(said[-2:] == ['?: refused 14: not a request line', '?: refused 15: not exactly one request'] and len(said) == len(ENCODED) + 2, 'decode', f'{done}')
+    demand(said[15:18] == ['put b1: stored', 'remove b1: removed; before: Ida', 'replace b1: not stored: there is no such key'], 'decode', f'{done}')
+    demand(said[9:12] == ['list: there are no entries', 'list 300: there are no entries', 'keys: there are no entries'], 'decode', f'{done}')
+    demand(re.match(r'stats: seconds since the first call: \d+; entries: 0; keys added: 1; puts: 1; gets: 1; ', said[13]), 'decode', f'{done}')
     for change in (replies[:replies.rindex(b'\n', 0, -1) + 1], replies + b'a101180000\n'):
         done = run(['decode', requests], input=change)
         demand(done.returncode == 1 and b'replies than requests' in done.stderr, 'decode', f'{done}')
@@ -206,7 +196,7 @@ def show(bench):
     """A stored table in words, also while it is served, with deadlines as dates; what stores no table is told and left as it is."""
     now = int(time.time())
     ends = [(104, 'expired 1970-01-01 00:01:44 UTC'), (now, f'expired {date(now)}'), (now + 1000, f'until {date(now + 1000)}'), (LARGEST_DEADLINE, 'until 2242-03-16 12:56:30 UTC')]
-    tables = [(head_line(0), ''), (head_line(300) + entry_line(7, b'b1', b'Ida') + entry_line(260, b'\xff', b''), 'version 7: b1: Ida\nversion 260: 0xff: (empty)\n'),
+    tables = [(head_line(0), 'there are no entries\n'), (head_line(300) + entry_line(7, b'b1', b'Ida') + entry_line(260, b'\xff', b''), 'version 7: b1: Ida\nversion 260: 0xff: (empty)\n'),
               (head_line(128) + b''.join(entry_line(at + 1, b'%d' % at, b'v' * 256) for at in range(128)),
                ''.join(f'version {at + 1}: {at}: {"v" * 256}\n' for at in range(128))),
               (head_line(9) + b''.join(entry_line(at + 1, b'%d' % at, b'v', deadline) for at, (deadline, _) in enumerate(ends)),
@@ -214,7 +204,7 @@ def show(bench):
     for at, (data, wanted) in enumerate(tables):
         with Host(bench.table(f'show{at}', data)) as host:
             done = run(['show', host.table])
-            demand(said(done) == (wanted, '' if wanted else f'feyqoolad: {NONE}\n', 0), 'show', f'{done}, wanted {wanted!r}')
+            demand((done.stdout.decode(), done.returncode, done.stderr) == (wanted, 0, b''), 'show', f'{done}, wanted {wanted!r}')
     for data, number in ((b'', 1), (b'no table\n', 1), (tables[2][0] + entry_line(129, b'more'), 130), (tables[1][0][:-1], 3)):
         path = bench.table('shown', data)
         done = run(['show', path])
@@ -266,12 +256,13 @@ class Clone:
         return subprocess.CompletedProcess(words, started.returncode, out, err)
 
 
-PROVED = 'echo "rt: wire proved (1 s)"; echo "more"; echo "rt: text proved (2 s)" >&2; '
-MADE = PROVED + 'mkdir -p target/staticlib && echo a > target/staticlib/libexports.a'
+PROVED = ('echo "only=0 proved=0"; echo "crate wire: modules loaded=0 checked=9"; echo "logic=proved functions=2"; echo "more"; '
+          'echo "crate text: modules loaded=4 checked=1" >&2; echo "logic=proved functions=3" >&2; ')
+MADE = PROVED + 'echo "crate exports: modules loaded=4 checked=1"; echo "logic=proved functions=1"; mkdir -p out && echo a > out/libexports.a'
 PROGRAM_MADE = '[ "$1" != --version ] || { echo "cargo 1.85.0 (x 2025)"; exit; }; cd "${0%/*}/.." && mkdir -p host/target/release && printf "#!$PWD/bin/bash\\necho built \\$*" > host/target/release/feyqoolad && bin/chmod +x host/target/release/feyqoolad'
 STEPS = [(None, b'the Rattle toolchain (rt) is not there'), (('rt', 'exit 1'), b'the library was not built'),
-         (('rt', PROVED + 'exit 1'), b'feyqoolad: 1 of 3: wire proved (1 s)\nfeyqoolad: 2 of 3: text proved (2 s)\nfeyqoolad: the library was not built'),
-         (('rt', MADE), b'2 of 3: text proved (2 s)\nfeyqoolad: 3 of 3: exports proved (0 s)\nfeyqoolad: proved and built, after 0 seconds\nfeyqoolad: the Rust compiler (cargo) is not there'),
+         (('rt', PROVED + 'exit 1'), b'feyqoolad: 1 of 3: wire proved (0 s)\nfeyqoolad: 2 of 3: text proved (0 s)\nfeyqoolad: the library was not built'),
+         (('rt', MADE), b'2 of 3: text proved (0 s)\nfeyqoolad: 3 of 3: exports proved (0 s)\nfeyqoolad: proved and built, after 0 seconds\nfeyqoolad: the Rust compiler (cargo) is not there'),
          (('cargo', 'echo "cargo 1.63.0 (fd9c4297c 2022)"'), b'the Rust compiler (cargo) is version 1.63.0, and version 1.85 or later is needed'),
          (('cargo', '[ "$1" != --version ] || { echo "cargo 1.120.1"; exit; }; exit 1'), b'the program was not built')]
 
@@ -302,6 +293,7 @@ def script(bench):
         if tool:
             clone.stand_in(*tool)
         done = clone.run('ping')
+        done.stderr = re.sub(rb'\(\d+ s\)', b'(0 s)', re.sub(rb'after \d+ seconds', b'after 0 seconds', done.stderr))
         demand(done.returncode == 1 and wanted in done.stderr and done.stderr.endswith(b'Nothing was done.\n'), f'ping with {tool}', f'{done}')
     build_ends(clone)
     os.symlink(shutil.which('chmod'), os.path.join(clone.at, 'bin/chmod'))
@@ -350,13 +342,13 @@ def copied(bench, clone):
 def sheet(bench):
     """The keys of a stored table by their bytes, also while it is served; what stores no table is told and left as it is."""
     keys = [b'b10', b'b9', b'', b'b', b'b1', b'b1\xc3\xa4', b'b1~', b'\xff', b'\x7f', b'B2', b'k' * 64, b'k' * 63]
-    tables = [(head_line(0), ''),
+    tables = [(head_line(0), 'there are no entries\n'),
               (head_line(300) + b''.join(entry_line(at + 1, key, b'v', at % 3 * 1000) for at, key in enumerate(keys)),
                '(empty)\nB2\nb\nb1\nb10\nb1~\nb1\u00e4\nb9\n' + 'k' * 63 + '\n' + 'k' * 64 + '\n0x7f\n0xff\n')]
     for at, (data, wanted) in enumerate(tables):
         with Host(bench.table(f'sheet{at}', data)) as host:
             done = run(['sheet', host.table])
-            demand(said(done) == (wanted, '' if wanted else f'feyqoolad: {NONE}\n', 0), 'sheet', f'{done}, wanted {wanted!r}')
+            demand((done.stdout.decode(), done.returncode, done.stderr) == (wanted, 0, b''), 'sheet', f'{done}, wanted {wanted!r}')
     path = bench.table('sheets', tables[1][0][:-1])
     done = run(['sheet', path])
     demand(done.returncode == 1 and not done.stdout and b'refused 17: not a stored table' in done.stderr, 'sheet', f'{done}')
@@ -397,7 +389,7 @@ def helps(bench):
                     to = [] if name == 'encode' or '--to' in words else ['--to', f'127.0.0.1:{host.port}']
                     words = [f'127.0.0.1:{host.port}' if one == '127.0.0.1:11222' else one for one in words]
                     done = run(words[:1] + to + words[1:])
-                    demand(done.returncode in (0, 2) and (done.returncode == 2 or not done.stderr or NONE in done.stderr.decode()), f'an example of {name}', f'{line}: {done}')
+                    demand(done.returncode in (0, 2) and not done.stderr, f'an example of {name}', f'{line}: {done}')
             if name not in ('decode', 'show', 'sheet'):
                 # An option that is listed is taken, and needs a value where one is listed; all others are unknown.
                 for option, value in options:

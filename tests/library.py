@@ -27,7 +27,7 @@ def in_c(word):
 
 def exported():
     """The declaration in C of each exported function."""
-    for name, words, answer in re.findall(r'#\[no_mangle\]\npub extern "C" fn (\w+)\(([^)]*)\) -> (\w+)', read(SOURCE)):
+    for name, words, answer in re.findall(r'#\[unsafe\(no_mangle\)\]\npub extern "C" fn (\w+)\(([^)]*)\) -> (\w+)', read(SOURCE)):
         words = [word.strip() for word in words.split(',') if word.strip()]
         yield f"{TYPES[answer]} {name}({', '.join(in_c(word) for word in words)});"
 

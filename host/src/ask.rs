@@ -1,5 +1,6 @@
-//! The commands that send one request to a server. What was asked for goes to
-//! standard output; that the answer is no, to standard error.
+//! The commands that send one request to a server. The reply goes to standard
+//! output. With --raw and --json that the answer is no, and that there is nothing
+//! to list, goes to standard error.
 
 use std::ffi::OsString;
 use std::io::{self, Write};
@@ -50,12 +51,12 @@ pub fn ask(given: &[OsString], usual: &str) -> Result<ExitCode, Failure> {
     }
     if words.has("json") {
         print(json::of_reply(asked, &command.key, &reply, bytes).as_bytes())?;
-    } else if words.has("raw") && went == Went::Done {
-        print(&bytes[reply.value.clone()])?;
-    } else if went == Went::Done {
+    } else if !words.has("raw") {
         print(format!("{text}\n").as_bytes())?;
+    } else if went == Went::Done {
+        print(&bytes[reply.value.clone()])?;
     }
-    if went != Went::Done {
+    if went != Went::Done && (words.has("json") || words.has("raw")) {
         say(text);
     }
     Ok(match went {

@@ -67,7 +67,8 @@ impl Counts {
         if done {
             add(&self.stores, 1);
             add(&self.micros, micros(time));
-            self.last.store(micros(self.begin.elapsed()).max(1), Relaxed);
+            self.last
+                .store(micros(self.begin.elapsed()).max(1), Relaxed);
         } else {
             add(&self.failures, 1);
         }

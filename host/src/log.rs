@@ -36,7 +36,11 @@ fn line(second: u64, level: &str, words: &str) -> String {
         if at > 0 {
             out.push_str(if out.ends_with('.') { " " } else { ". " });
         }
-        out.extend(sentence.chars().map(|one| if one.is_control() { ' ' } else { one }));
+        out.extend(
+            sentence
+                .chars()
+                .map(|one| if one.is_control() { ' ' } else { one }),
+        );
     }
     out.push('\n');
     out

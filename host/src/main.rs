@@ -20,7 +20,7 @@ use feyqoolad::saver::{Saver, Sync};
 use feyqoolad::server::{listen, Limits, Server};
 use feyqoolad::show::{sheet, show};
 use feyqoolad::usage;
-use feyqoolad::words::{shown, NO_ENTRIES};
+use feyqoolad::words::shown;
 
 /// Characters of the page's heading at most.
 const LONGEST_TITLE: usize = 64;
@@ -90,11 +90,7 @@ fn of_table(
     let [table] = given else {
         return Err(not_understood(format!("{word} is followed by TABLE")));
     };
-    let text = told(Path::new(table))?;
-    if text.is_empty() {
-        say(NO_ENTRIES);
-    }
-    print_text(&text)
+    print_text(&told(Path::new(table))?)
 }
 
 /// What `serve` is told.

@@ -7,6 +7,7 @@
 mod documents;
 mod http;
 mod json;
+pub mod metrics;
 mod order;
 mod source;
 mod visitor;

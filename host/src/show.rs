@@ -13,10 +13,10 @@ use crate::failure::{because, Failure};
 use crate::keeper::{broken, read_table};
 use crate::limits::BULK_ROOM;
 use crate::server::second;
-use crate::words::{of_entry, of_keys};
+use crate::words::{of_entry, of_keys, NO_ENTRIES};
 
 /// The words for the table that a file stores: a line for each entry, with its
-/// version, and with its deadline where it has one. Without entries it is empty.
+/// version, and with its deadline where it has one.
 pub fn show(path: &Path) -> Result<String, Failure> {
     let bytes = read(path)?;
     let (reply, listed) = list(load(path, &bytes)?)?;
@@ -27,6 +27,9 @@ pub fn show(path: &Path) -> Result<String, Failure> {
         let words = (of_deadline(deadline), of_entry(entry));
         lines.push_str(&format!("version {version}{}: {}\n", words.0, words.1));
     }
+    if lines.is_empty() {
+        lines = format!("{NO_ENTRIES}\n");
+    }
     Ok(lines)
 }
 
@@ -34,8 +37,11 @@ pub fn show(path: &Path) -> Result<String, Failure> {
 pub fn sheet(path: &Path) -> Result<String, Failure> {
     let bytes = read(path)?;
     let listed = load(path, &bytes)?.list_keys();
-    let keys = of_keys(entries_at(&listed, 0, false));
-    Ok(if keys.is_empty() { keys } else { keys + "\n" })
+    let mut keys = of_keys(entries_at(&listed, 0, false));
+    if keys.is_empty() {
+        keys.push_str(NO_ENTRIES);
+    }
+    Ok(keys + "\n")
 }
 
 /// The table that these bytes of a file store.

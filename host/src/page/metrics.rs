@@ -9,14 +9,22 @@ use crate::refusals::TEXTS;
 
 /// The name of each statistic, what it is, and what it counts.
 const NAMES: [(&str, &str, &str); STATISTICS] = [
-    ("first_call_age_seconds", "gauge", "Seconds since the first call."),
+    (
+        "first_call_age_seconds",
+        "gauge",
+        "Seconds since the first call.",
+    ),
     ("entries", "gauge", "Entries that stand."),
     ("keys_added_total", "counter", "Writes that added a key."),
     ("puts_total", "counter", "Puts."),
     ("gets_total", "counter", "Gets."),
     ("get_hits_total", "counter", "Gets that found the key."),
     ("get_misses_total", "counter", "Gets that did not."),
-    ("remove_hits_total", "counter", "Removes that found the key."),
+    (
+        "remove_hits_total",
+        "counter",
+        "Removes that found the key.",
+    ),
     ("remove_misses_total", "counter", "Removes that did not."),
 ];
 
@@ -46,18 +54,51 @@ pub fn of_counts(counts: &Counts, answers: bool) -> String {
     let help = "Whether the server answers its page; where not, its statistics are missing.";
     one(&mut out, ("answers", "gauge", help), u8::from(answers));
     for (name, kind, help, count) in [
-        ("connections", "gauge", "Connections that are open.", &counts.open),
-        ("connections_limit", "gauge", "Connections that may be open.", &counts.limit),
-        ("connections_accepted_total", "counter", "Connections that were taken.", &counts.accepted),
-        ("connections_refused_total", "counter", "Connections above the limit.", &counts.turned_away),
-        ("connections_idle_total", "counter", "Connections that were closed since they were idle.", &counts.idle),
+        (
+            "connections",
+            "gauge",
+            "Connections that are open.",
+            &counts.open,
+        ),
+        (
+            "connections_limit",
+            "gauge",
+            "Connections that may be open.",
+            &counts.limit,
+        ),
+        (
+            "connections_accepted_total",
+            "counter",
+            "Connections that were taken.",
+            &counts.accepted,
+        ),
+        (
+            "connections_refused_total",
+            "counter",
+            "Connections above the limit.",
+            &counts.turned_away,
+        ),
+        (
+            "connections_idle_total",
+            "counter",
+            "Connections that were closed since they were idle.",
+            &counts.idle,
+        ),
     ] {
         one(&mut out, (name, kind, help), get(count));
     }
-    head(&mut out, "refusals_total", "counter", "Requests that were refused, by the number of the refusal.");
+    head(
+        &mut out,
+        "refusals_total",
+        "counter",
+        "Requests that were refused, by the number of the refusal.",
+    );
     for ((at, text), count) in TEXTS.iter().enumerate().zip(counts.refusals()) {
         let number = at + 1;
-        let _ = writeln!(out, "feyqoolad_refusals_total{{number=\"{number}\",text=\"{text}\"}} {count}");
+        let _ = writeln!(
+            out,
+            "feyqoolad_refusals_total{{number=\"{number}\",text=\"{text}\"}} {count}"
+        );
     }
     of_stores(&mut out, counts);
     out
@@ -66,13 +107,41 @@ pub fn of_counts(counts: &Counts, answers: bool) -> String {
 fn of_stores(out: &mut String, counts: &Counts) {
     let (stores, failures, time) = counts.stores();
     let seconds = time.as_secs_f64();
-    one(out, ("stores_total", "counter", "Times that the table was stored."), stores);
-    one(out, ("store_seconds_total", "counter", "Seconds that these took."), seconds);
-    one(out, ("store_failures_total", "counter", "Times that it could not be stored."), failures);
+    one(
+        out,
+        (
+            "stores_total",
+            "counter",
+            "Times that the table was stored.",
+        ),
+        stores,
+    );
+    one(
+        out,
+        ("store_seconds_total", "counter", "Seconds that these took."),
+        seconds,
+    );
+    one(
+        out,
+        (
+            "store_failures_total",
+            "counter",
+            "Times that it could not be stored.",
+        ),
+        failures,
+    );
     let help = "Whether the last try to store it failed.";
-    one(out, ("store_failing", "gauge", help), u8::from(counts.is_failing()));
+    one(
+        out,
+        ("store_failing", "gauge", help),
+        u8::from(counts.is_failing()),
+    );
     if let Some(age) = counts.age() {
         let help = "Seconds since it was last stored; a table that does not change is not stored.";
-        one(out, ("last_store_age_seconds", "gauge", help), age.as_secs_f64());
+        one(
+            out,
+            ("last_store_age_seconds", "gauge", help),
+            age.as_secs_f64(),
+        );
     }
 }

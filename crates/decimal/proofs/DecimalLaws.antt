@@ -9,7 +9,7 @@ use native.Mathlib.Decide.{dec_lt}
 use lib.ListN.{length, get_or, length-append, get_or-append}
 use lib.Dec.{leb, ltb, lit≤}
 use borrow.Author.Tests.{ltb-true, lt-ltb, le-ltb, leb-true, le-leb, lt-leb}
-use Rattle.wire.specs.Codec.{more, Valid, Bytes, raw, guard, seq, as_type, all}
+use Rattle.wire.specs.Codec.{Valid, Bytes, raw, guard, seq, as_type, all}
 use Rattle.wire.specs.Number.{number_enc, number, v_int}
 use Rattle.wire.specs.Field.{limited}
 use Rattle.wire.proofs.Laws.{Laws, never, both, and, and_false, guard-valid, guard_good, type_good, guard_laws, type_laws}

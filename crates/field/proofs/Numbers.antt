@@ -5,7 +5,7 @@ use mathlib.Core.Bool.{false}
 use Prim.Native.Nat.{ℕ, ◌≤◌, ◌<◌}
 use native.Mathlib.Omega.{arith}
 use Rattle.wire.specs.Codec.{Valid}
-use Rattle.wire.specs.Number.{number, v_int, v_long}
+use Rattle.wire.specs.Number.{v_int, v_long}
 use Rattle.wire.specs.Write.{Wrote}
 use Rattle.wire.proofs.NumberWrite.{number-good, number-bad, int_long}
 use Rattle.field.specs.FieldRead.{number_of, greatest_of}

@@ -1,5 +1,5 @@
 -- Bytes as lowercase hexadecimal digits, two a byte, the higher first.
-use Rattle.std.specs.Prelude.{List, [], ◌∷◌, ◌++◌, Bool, true, false, cond, ◌&&◌, ℕ, ◌+◌, ◌-◌, ◌*◌, ◌/◌, ◌%◌, leb, ltb}
+use Rattle.std.specs.Prelude.{List, [], ◌∷◌, ◌++◌, Bool, cond, ◌&&◌, ℕ, ◌+◌, ◌-◌, ◌*◌, ◌/◌, ◌%◌, leb, ltb}
 use Rattle.std.proofs.Math.Option.{Option, none, some}
 
 -- the digit of a number below 16: 0 to 9, then a to f

@@ -17,7 +17,7 @@ use Rattle.message.specs.declared.Operation.{Operation}
 use Rattle.message.specs.declared.Operation.TheVariants.{Put, Remove, Clear}
 use Rattle.message.specs.Request.{Request}
 use Rattle.map.specs.State.{Entry, State, find, without, has_key}
-use Rattle.map.specs.Deadline.{deadline, expired, standing, still}
+use Rattle.map.specs.Deadline.{expired, standing, still}
 use Rattle.map.specs.Plan.{Change, keep, store, drop, empty, plans, plan}
 use Rattle.map.specs.Step.{most_keys, last_version, Context, Result, Outcome, refused, answered, entry, stored, dropped, emptied, is_none, names, held, version_of, full, planned, result, act, core, present, swept, noted, arrive, step, state_after, run}
 use Rattle.map.specs.Table.{In, Pairs, OtherKey, IsTable}

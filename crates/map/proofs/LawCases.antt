@@ -6,7 +6,7 @@ use Prim.Native.Nat.{ℕ}
 use lib.ListN.{take, drop}
 use Rattle.wire.specs.Codec.{seq, byte, as_type, empty}
 use Rattle.wire.specs.Number.{v_long, v_int, number, number_enc}
-use Rattle.wire.specs.Field.{big_endian, entry_version}
+use Rattle.wire.specs.Field.{big_endian}
 use Rattle.wire.specs.Same.{same_list}
 use Rattle.message.specs.declared.Operation.{Operation}
 use Rattle.message.specs.declared.Operation.TheVariants.{Put, ReplaceIfUnmodified, Remove, GetWithVersion, Clear, Ping}
@@ -18,11 +18,11 @@ use Rattle.map.specs.State.{State, fresh, find, without}
 use Rattle.map.specs.Deadline.{deadline, expired}
 use Rattle.map.specs.Plan.{plans, plan}
 use Rattle.map.specs.Shown.{shows}
-use Rattle.map.specs.Step.{Context, context_of, Result, answered, entry, stored, dropped, emptied, held, full, planned, status_of, result, act, core, swept, noted, arrive, step, run}
+use Rattle.map.specs.Step.{context_of, entry, stored, dropped, emptied, held, full, planned, status_of, result, act, core, swept, noted, arrive, step, run}
 use Rattle.map.specs.Counted.{ends}
 use Rattle.map.specs.Reply.{flat, shown_pieces, pieces}
 use Rattle.map.specs.Update.{takes_effect, affects, final_state}
-use Rattle.map.specs.Combine.{Content, content, in_context}
+use Rattle.map.specs.Combine.{content, in_context}
 
 abbrev b1 : List ℕ
 b1 = 0x62 ∷ 0x31 ∷ []

@@ -1,29 +1,26 @@
 -- The laws of old values by version and flag (specs/OldValue.antt). Assumes nothing.
-use mathlib.Core.Path.{◌≡◌, refl, sym, ap, ◌∙◌}
-use mathlib.Core.List.{List, [], ◌∷◌}
-use mathlib.Core.Bool.{Bool, true, false, cond, not, ◌&&◌, ◌||◌}
+use mathlib.Core.Path.{◌≡◌, refl, ap, ◌∙◌}
+use mathlib.Core.List.{List}
+use mathlib.Core.Bool.{Bool, true, false, cond, not, ◌&&◌}
 use mathlib.Core.Option.{Option, none, some}
 use Prim.Native.Nat.{ℕ, suc, ◌%◌, ◌/◌, ◌≤◌}
 use native.Mathlib.Omega.{arith}
 use lib.Dec.{eqb, lit≤}
-use borrow.Author.Tests.{eqb-true}
-use Rattle.wire.specs.Codec.{Valid}
 use Rattle.wire.proofs.Laws.{never, both}
 use Rattle.wire.proofs.Basics.{pick}
 use Rattle.message.specs.declared.Operation.{Operation}
 use Rattle.message.specs.declared.Operation.TheVariants.{Put, Get, PutIfAbsent, Replace, ReplaceIfUnmodified, Remove, RemoveIfUnmodified, ContainsKey, GetWithVersion, Clear, Stats, Ping, BulkGet, BulkGetKeys}
 use Rattle.message.specs.Arguments.{is_empty}
-use Rattle.message.specs.Request.{Request, edition_at}
+use Rattle.message.specs.Request.{Request}
 use Rattle.message.specs.ReplyTable as m
 use Rattle.message.specs.ReplyTable.{Body, table, body_at, is_allowed, allowed, has_old, status_with_old, reply_status}
 use Rattle.message.specs.Payload.{form_of}
-use Rattle.message.proofs.Every.{every}
 use Rattle.message.proofs.Editions.{old_statuses_is}
 use Rattle.map.specs.State.{Entry, State}
 use Rattle.map.specs.Deadline.{deadline}
 use Rattle.map.specs.Plan.{Change, keep, store, drop, empty, Plan, plans, plan}
-use Rattle.map.specs.Shown.{Shown, nothing, value, shows, listed_by}
-use Rattle.map.specs.Step.{Context, Result, Outcome, refused, answered, wants_old, with_old, is_none, names, full, held, version_of, planned, statistics, status_of, result, present, swept, noted, arrive, entry, stored, dropped, act, core, step}
+use Rattle.map.specs.Shown.{shows, listed_by}
+use Rattle.map.specs.Step.{Context, Result, Outcome, refused, answered, wants_old, with_old, is_none, full, held, version_of, planned, statistics, status_of, result, swept, noted, arrive, entry, stored, dropped, act, core, step}
 use Rattle.map.specs.OldValue.{held_then, planned_of, old_shown, may_follow, early_flags}
 use Rattle.map.proofs.Answered.{did}
 

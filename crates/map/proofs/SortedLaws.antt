@@ -11,7 +11,7 @@ use Prim.Native.Nat.{ℕ}
 use Rattle.wire.proofs.Laws.{never}
 use Rattle.wire.proofs.SortedLaws.{Apart, apart-turned}
 use Rattle.map.specs.State.{Entry}
-use Rattle.map.specs.Table.{Each, Pairs}
+use Rattle.map.specs.Table.{Pairs}
 use Rattle.map.specs.Revalue.{entry_with, entries_with}
 use Rattle.wire.specs.Sorted.{insert, sorted}
 use Rattle.map.proofs.Each.{same-pairs}

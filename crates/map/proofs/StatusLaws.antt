@@ -4,7 +4,6 @@ use mathlib.Core.List.{List, [], ◌∷◌}
 use mathlib.Core.Bool.{Bool, true, false, cond, not, ◌&&◌, ◌||◌}
 use mathlib.Core.Option.{Option, none, some}
 use Prim.Native.Nat.{ℕ, ◌%◌, ◌≤◌}
-use native.Mathlib.Omega.{arith}
 use lib.Dec.{eqb, ltb, lit≤}
 use borrow.Author.Tests.{eqb-true}
 use Rattle.wire.specs.Codec.{Valid, is_bytes, empty, raw, byte, guard, seq, as_type}
@@ -22,16 +21,16 @@ use Rattle.message.specs.Edition.{Edition, edition_of, is_served}
 use Rattle.message.specs.Request.{Request, is_version, edition_at, operation, transaction, fields, request}
 use Rattle.message.specs.ReplyTable.{Body, table, body_at, is_allowed, reply_status}
 use Rattle.message.proofs.Every.{every}
-use Rattle.map.specs.State.{Entry, State, fresh, with_entries, with_last, find, without}
+use Rattle.map.specs.State.{State, fresh, with_entries, with_last, find, without}
 use Rattle.map.specs.Deadline.{deadline, expired}
 use Rattle.map.specs.Plan.{Change, keep, store, drop, empty as clears, plans, plan}
-use Rattle.map.specs.Step.{Context, Result, Outcome, answered, last_version, wants_old, with_old, entry, stored, is_none, full, held, version_of, planned, status_of, result, act, core, swept, noted, arrive, step}
+use Rattle.map.specs.Step.{Context, Result, answered, last_version, with_old, entry, stored, is_none, full, held, planned, status_of, result, act, core, swept, noted, arrive, step}
 use Rattle.map.specs.Table.{IsTable}
 use Rattle.map.specs.Update.{is_update}
 use Rattle.map.specs.Reply.{pieces}
 use Rattle.map.specs.OldValue.{held_then, planned_of, Given, OldValues}
 use Rattle.map.proofs.CountLaws.{fresh-counts}
-use Rattle.map.proofs.Format.{Row, row_fits}
+use Rattle.map.proofs.Format.{row_fits}
 use Rattle.map.proofs.OldLaws.{status-is, follows-status, follows-shown, neither, idle-flags}
 
 -- a request that asks for version 1 where it asks for one, and three tables for it: one without its key, and two with it, of version 1 and of version 2

@@ -1,5 +1,5 @@
 -- Old values by version and flag, over a step (document 02, C-16): what 03 and 04 mean, that the further flags mean nothing, and which statuses are given.
-use Rattle.std.specs.Prelude.{◌≡◌, List, Bool, true, false, cond, ◌&&◌, ℕ, ◌%◌, ◌≤◌, eqb}
+use Rattle.std.specs.Prelude.{◌≡◌, Bool, true, false, cond, ◌&&◌, ℕ, ◌%◌, ◌≤◌, eqb}
 use Rattle.std.proofs.Math.Option.{Option, none, some}
 use Rattle.wire.specs.Codec.{Valid}
 use Rattle.message.specs.declared.Operation.{Operation}

@@ -1,7 +1,6 @@
 -- An error reply is a reply to every served operation, and the refusals 1 to 11 have one. Assumes nothing.
 use mathlib.Core.Path.{◌≡◌, refl}
 use mathlib.Core.List.{List, [], ◌∷◌}
-use mathlib.Core.Option.{some}
 use mathlib.Core.Bool.{Bool, true, false, cond, ◌&&◌, ◌||◌}
 use Prim.Native.Nat.{ℕ, suc, ◌+◌, ◌≤◌, ◌<◌}
 use native.Mathlib.Omega.{arith}
@@ -20,7 +19,7 @@ use Rattle.message.specs.declared.Operation.{Operation}
 use Rattle.message.specs.declared.Asked.{Asked}
 use Rattle.message.specs.Edition.{Edition}
 use Rattle.message.specs.Operation.{code_of}
-use Rattle.message.specs.ReplyTable.{text, errors, error_code, body_at, is_allowed, allowed}
+use Rattle.message.specs.ReplyTable.{errors, error_code, body_at, is_allowed, allowed}
 use Rattle.message.specs.Payload.{text_limit, payload, text_body, fields_of, form_of}
 use Rattle.message.specs.Reply.{Reply, fields, message, is_awaited, statuses_of, reply, Awaits, error_reply}
 use Rattle.message.specs.Refusal.{WireError, error_table, error_in, refusal}

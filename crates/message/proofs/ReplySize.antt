@@ -13,7 +13,6 @@ use Rattle.wire.proofs.Laws.{never, guard-valid}
 use Rattle.wire.proofs.Basics.{pick}
 use Rattle.statistics.proofs.Writing.{statistics-most}
 use Rattle.message.specs.declared.Operation.{Operation}
-use Rattle.message.specs.Operation.{code_of}
 use Rattle.message.specs.Arguments.{value_limit}
 use Rattle.message.specs.Edition.{Edition}
 use Rattle.message.specs.declared.Asked.{Asked}

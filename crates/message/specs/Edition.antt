@@ -1,5 +1,5 @@
 -- What goes by the protocol version.
-use Rattle.std.specs.Prelude.{List, [], ◌∷◌, Bool, true, false, cond, not, ℕ, eqb}
+use Rattle.std.specs.Prelude.{Bool, true, false, cond, not, ℕ, eqb}
 use Rattle.std.proofs.Math.Option.{Option, none, some}
 use Rattle.message.specs.declared.Operation.{Operation}
 use Rattle.message.specs.declared.Operation.TheVariants.{BulkGetKeys}

@@ -1,6 +1,6 @@
 -- Worked cases of the format. Assumes nothing.
 use mathlib.Core.Path.{◌≡◌, refl}
-use mathlib.Core.List.{List, [], ◌∷◌, ◌++◌}
+use mathlib.Core.List.{List, [], ◌∷◌}
 use Prim.Native.Nat.{ℕ}
 use lib.ListN.{length, get_or}
 use Rattle.wire.specs.Codec.{whole, more, refused, raw, guard, seq, as_type, empty}

@@ -1,5 +1,5 @@
 -- Well-formed UTF-8, after the table of RFC 3629, section 4.
-use Rattle.std.specs.Prelude.{List, [], ◌∷◌, Bool, true, false, cond, ℕ, ◌-◌, leb, ltb, eqb}
+use Rattle.std.specs.Prelude.{List, [], ◌∷◌, Bool, false, cond, ℕ, ◌-◌, leb, ltb, eqb}
 use Rattle.text.specs.declared.Pending.{Pending}
 use Rattle.text.specs.declared.Pending.TheVariants.{Bytes, Invalid}
 

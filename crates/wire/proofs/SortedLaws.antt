@@ -3,15 +3,13 @@ use mathlib.Core.Path.{◌≡◌, refl, sym, ap, ap₂, subst, ◌∙◌}
 use mathlib.Core.List.{List, [], ◌∷◌, map}
 use mathlib.Core.Bool.{Bool, true, false, cond, not}
 use mathlib.Core.Logic.{⊎_elim, ◌⊎◌, inl, inr}
-use Prim.Native.Nat.{ℕ, zero, suc, ◌+◌, ◌<◌}
+use Prim.Native.Nat.{ℕ, suc}
 use native.Mathlib.Omega.{arith}
-use lib.ListN.{length, get_or}
+use lib.ListN.{length}
 use Rattle.wire.proofs.Laws.{never}
 use Rattle.wire.proofs.Basics.{pick}
-use Rattle.wire.specs.Upto.{upto}
-use Rattle.wire.proofs.UptoLaws.{length_upto, get_or_upto}
 use Rattle.wire.specs.Each.{Each, Pairs}
-use Rattle.wire.specs.Sorted.{insert, sorted, Ordered}
+use Rattle.wire.specs.Sorted.{insert, sorted}
 
 -- an element is one of the list
 abbrev pub In : {A : Type 0} → A → List A → Type 0

@@ -21,34 +21,50 @@ returns-in_default c = let n = c in
 pub returns-then-not-are_digits : goal.returns-then-not-are_digits
 returns-then-not-are_digits c = let t = c.before in
     let p = t.before in
-    rw (at-decimal, (let found' : let r = p in let a = r.args in
-    read_at (limited 19) a.s.now a.c.at ≡ whole (part_of a.s.now r.in-Whole.p) r.in-Whole.next.at = let r = p in
-    let a = r.args in
-    limited_in a.s.now a.c.at 19 _ _ r.read_limited-r.ensures r.in-Whole.is in found'), not_digits _ (sym (ap are_digits p.part-d.ensures) ∙ sym t.are_digits.ensures ∙ c.if-not-are_digits.true))
+    rw (
+      at-decimal,
+      (let found' : let r = p in let a = r.args in
+          read_at (limited 19) a.s.now a.c.at ≡ whole (part_of a.s.now r.in-Whole.p) r.in-Whole.next.at = let r = p in
+          let a = r.args in
+          limited_in a.s.now a.c.at 19 _ _ r.read_limited-r.ensures r.in-Whole.is in found'),
+      not_digits _ (sym (ap are_digits p.part-d.ensures) ∙ sym t.are_digits.ensures ∙ c.if-not-are_digits.true),
+    )
 
 pub returns-then-not-is_shortest : goal.returns-then-not-is_shortest
 returns-then-not-is_shortest c = let t = c.before in
     let p = t.before.before.before in
-    rw (at-decimal, (let found' : let r = p in let a = r.args in
-    read_at (limited 19) a.s.now a.c.at ≡ whole (part_of a.s.now r.in-Whole.p) r.in-Whole.next.at = let r = p in
-    let a = r.args in
-    limited_in a.s.now a.c.at 19 _ _ r.read_limited-r.ensures r.in-Whole.is in found'), not_shortest _ (sym (ap is_shortest p.part-d.ensures) ∙ sym t.is_shortest.ensures ∙ c.if-not-is_shortest.true))
+    rw (
+      at-decimal,
+      (let found' : let r = p in let a = r.args in
+          read_at (limited 19) a.s.now a.c.at ≡ whole (part_of a.s.now r.in-Whole.p) r.in-Whole.next.at = let r = p in
+          let a = r.args in
+          limited_in a.s.now a.c.at 19 _ _ r.read_limited-r.ensures r.in-Whole.is in found'),
+      not_shortest _ (sym (ap is_shortest p.part-d.ensures) ∙ sym t.is_shortest.ensures ∙ c.if-not-is_shortest.true),
+    )
 
 pub value-v-requires : goal.value-v-requires
 value-v-requires c = let e = c.before.before in
-    let p = e.before.before in record { s_value = (let digits' : are_digits e.part-d.result.now ≡ true = sym e.are_digits.ensures ∙ e.if-not-are_digits.false in digits'); s_len_bound = rw p.part-d.ensures (limited-short _ _ 19 _ _ ((let found' : let r = p in let a = r.args in
-    read_at (limited 19) a.s.now a.c.at ≡ whole (part_of a.s.now r.in-Whole.p) r.in-Whole.next.at = let r = p in
-    let a = r.args in
-    limited_in a.s.now a.c.at 19 _ _ r.read_limited-r.ensures r.in-Whole.is in found'))) }
+    let p = e.before.before in record {
+      s_value = (let digits' : are_digits e.part-d.result.now ≡ true = sym e.are_digits.ensures ∙ e.if-not-are_digits.false in digits');
+      s_len_bound = rw p.part-d.ensures (limited-short _ _ 19 _ _ ((let found' : let r = p in let a = r.args in
+          read_at (limited 19) a.s.now a.c.at ≡ whole (part_of a.s.now r.in-Whole.p) r.in-Whole.next.at = let r = p in
+          let a = r.args in
+          limited_in a.s.now a.c.at 19 _ _ r.read_limited-r.ensures r.in-Whole.is in found')));
+    }
 
 pub returns-then-v-gt-LARGEST : goal.returns-then-v-gt-LARGEST
 returns-then-v-gt-LARGEST c = let v = c.before in
     let p = v.before.before.before.before.before in
     let h = c.if-v-gt-LARGEST.true in
-    rw (at-decimal, (let found' : let r = p in let a = r.args in
-    read_at (limited 19) a.s.now a.c.at ≡ whole (part_of a.s.now r.in-Whole.p) r.in-Whole.next.at = let r = p in
-    let a = r.args in
-    limited_in a.s.now a.c.at 19 _ _ r.read_limited-r.ensures r.in-Whole.is in found'), ← p.part-d.ensures, not_small p.part-d.result.now (omega (arith, v.value-v.ensures)))
+    rw (
+      at-decimal,
+      (let found' : let r = p in let a = r.args in
+          read_at (limited 19) a.s.now a.c.at ≡ whole (part_of a.s.now r.in-Whole.p) r.in-Whole.next.at = let r = p in
+          let a = r.args in
+          limited_in a.s.now a.c.at 19 _ _ r.read_limited-r.ensures r.in-Whole.is in found'),
+      ← p.part-d.ensures,
+      not_small p.part-d.result.now (omega (arith, v.value-v.ensures)),
+    )
 
 pub returns : goal.returns
 returns c = let v = c.before in
@@ -59,9 +75,9 @@ returns c = let v = c.before in
     rw (
       at-decimal,
       (let found' : let r = p in let a = r.args in
-    read_at (limited 19) a.s.now a.c.at ≡ whole (part_of a.s.now r.in-Whole.p) r.in-Whole.next.at = let r = p in
-    let a = r.args in
-    limited_in a.s.now a.c.at 19 _ _ r.read_limited-r.ensures r.in-Whole.is in found'),
+          read_at (limited 19) a.s.now a.c.at ≡ whole (part_of a.s.now r.in-Whole.p) r.in-Whole.next.at = let r = p in
+          let a = r.args in
+          limited_in a.s.now a.c.at 19 _ _ r.read_limited-r.ensures r.in-Whole.is in found'),
       ← p.part-d.ensures,
       is-decimal p.part-d.result.now ((let digits' : are_digits e.part-d.result.now ≡ true = sym e.are_digits.ensures ∙ e.if-not-are_digits.false in digits')) (sym s.is_shortest.ensures ∙ s.if-not-is_shortest.false) (omega (arith, v.value-v.ensures)),
       v.value-v.ensures,

@@ -9,15 +9,22 @@ pub loop-i-init : goal.loop-i-init
 loop-i-init c = sum-begin _
 
 pub overflow_mul-v : goal.overflow_mul-v
-overflow_mul-v c = omega (arith, (let fits' : let l = c.loop-i in let s = c.args.s.now in
-    l.v * 10 + (get_or s l.i 0 - 0x30) < 0x1_0000_0000_0000_0000 = let p = c.requires in sum_fits _ _ _ c.loop-i.invariant p.s_value c.loop-i-test.true p.s_len_bound in fits'))
+overflow_mul-v c = omega (
+  arith,
+  (let fits' : let l = c.loop-i in let s = c.args.s.now in
+      l.v * 10 + (get_or s l.i 0 - 0x30) < 0x1_0000_0000_0000_0000 = let p = c.requires in sum_fits _ _ _ c.loop-i.invariant p.s_value c.loop-i-test.true p.s_len_bound in fits'),
+)
 
 pub overflow_sub-v : goal.overflow_sub-v
 overflow_sub-v c = let i = c in omega (arith, c.wide.ensures, digit_at _ _ i.requires.s_value i.loop-i-test.true)
 
 pub overflow_add-v : goal.overflow_add-v
-overflow_add-v c = omega (arith, c.wide.ensures, (let fits' : let l = c.loop-i in let s = c.args.s.now in
-    l.v * 10 + (get_or s l.i 0 - 0x30) < 0x1_0000_0000_0000_0000 = let p = c.requires in sum_fits _ _ _ c.loop-i.invariant p.s_value c.loop-i-test.true p.s_len_bound in fits'))
+overflow_add-v c = omega (
+  arith,
+  c.wide.ensures,
+  (let fits' : let l = c.loop-i in let s = c.args.s.now in
+      l.v * 10 + (get_or s l.i 0 - 0x30) < 0x1_0000_0000_0000_0000 = let p = c.requires in sum_fits _ _ _ c.loop-i.invariant p.s_value c.loop-i-test.true p.s_len_bound in fits'),
+)
 
 pub loop-i-preserved : goal.loop-i-preserved
 loop-i-preserved c = let i = c in rw c.wide.ensures (sum-on _ _ _ i.loop-i.invariant i.requires.s_value i.loop-i-test.true)

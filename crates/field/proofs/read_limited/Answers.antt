@@ -20,13 +20,25 @@ returns-in_default c = let n = c in
 
 pub returns-then-lim-n : goal.returns-then-lim-n
 unfolding mapped v_int
-returns-then-lim-n c = rw (at-limited, (let found' : let r = c.before in let s = r in
-    read_at v_int s.args.s.now s.args.c.at ≡ whole r.in-Whole.n r.in-Whole.next.at = let r = c in sym r.read_number-r.ensures ∙ rw r.in-Whole.is in found'), lt-leb _ _ c.if-lim-n.true)
+returns-then-lim-n c = rw (
+  at-limited,
+  (let found' : let r = c.before in let s = r in
+      read_at v_int s.args.s.now s.args.c.at ≡ whole r.in-Whole.n r.in-Whole.next.at = let r = c in sym r.read_number-r.ensures ∙ rw r.in-Whole.is in found'),
+  lt-leb _ _ c.if-lim-n.true,
+)
 
 pub returns-then-len-eq0 : goal.returns-then-len-eq0
 unfolding mapped v_int
-returns-then-len-eq0 c = rw (at-limited, (let found' : let r = c.before in let s = r in
-    read_at v_int s.args.s.now s.args.c.at ≡ whole r.in-Whole.n r.in-Whole.next.at = let r = c in sym r.read_number-r.ensures ∙ rw r.in-Whole.is in found'), le-leb _ _ c.if-lim-n.false, c.if-len-eq0.true, le-leb 0 _ zero-le, add-zero, ← span_none)
+returns-then-len-eq0 c = rw (
+  at-limited,
+  (let found' : let r = c.before in let s = r in
+      read_at v_int s.args.s.now s.args.c.at ≡ whole r.in-Whole.n r.in-Whole.next.at = let r = c in sym r.read_number-r.ensures ∙ rw r.in-Whole.is in found'),
+  le-leb _ _ c.if-lim-n.false,
+  c.if-len-eq0.true,
+  le-leb 0 _ zero-le,
+  add-zero,
+  ← span_none,
+)
 
 pub overflow_sub-s : goal.overflow_sub-s
 unfolding v_int
@@ -35,10 +47,21 @@ overflow_sub-s c = v_int-within _ _ _ _ ((let found' : let r = c.before in let s
 
 pub returns-then-s-at : goal.returns-then-s-at
 unfolding mapped v_int
-returns-then-s-at c = rw (at-limited, (let found' : let r = c.before in let s = r in
-    read_at v_int s.args.s.now s.args.c.at ≡ whole r.in-Whole.n r.in-Whole.next.at = let r = c in sym r.read_number-r.ensures ∙ rw r.in-Whole.is in found'), le-leb _ _ c.if-lim-n.false, lt-leb _ _ c.if-s-at.true)
+returns-then-s-at c = rw (
+  at-limited,
+  (let found' : let r = c.before in let s = r in
+      read_at v_int s.args.s.now s.args.c.at ≡ whole r.in-Whole.n r.in-Whole.next.at = let r = c in sym r.read_number-r.ensures ∙ rw r.in-Whole.is in found'),
+  le-leb _ _ c.if-lim-n.false,
+  lt-leb _ _ c.if-s-at.true,
+)
 
 pub returns : goal.returns
 unfolding mapped v_int
-returns c = rw (at-limited, (let found' : let r = c.before in let s = r in
-    read_at v_int s.args.s.now s.args.c.at ≡ whole r.in-Whole.n r.in-Whole.next.at = let r = c in sym r.read_number-r.ensures ∙ rw r.in-Whole.is in found'), le-leb _ _ c.if-lim-n.false, le-leb _ _ c.if-s-at.false, ← (span-at _ _ _ c.if-s-at.false c.if-len-eq0.false))
+returns c = rw (
+  at-limited,
+  (let found' : let r = c.before in let s = r in
+      read_at v_int s.args.s.now s.args.c.at ≡ whole r.in-Whole.n r.in-Whole.next.at = let r = c in sym r.read_number-r.ensures ∙ rw r.in-Whole.is in found'),
+  le-leb _ _ c.if-lim-n.false,
+  le-leb _ _ c.if-s-at.false,
+  ← (span-at _ _ _ c.if-s-at.false c.if-len-eq0.false),
+)

@@ -1,7 +1,7 @@
 -- `field::read_number` meets its contract: between two bytes the loop knows what `Going` says, for either kind. The measure is what is left of
 -- the slice. Assumes nothing.
 use mathlib.Core.Path.{◌≡◌}
-use Prim.Native.Nat.{◌-◌, ◌≤◌}
+use Prim.Native.Nat.{◌≤◌}
 use native.Mathlib.Omega.{arith}
 use lib.Dec.{lit≤}
 use Rattle.wire.specs.Codec.{read_at}
@@ -33,8 +33,12 @@ overflow_cast-b c = omega (arith, c.shared_slice_known-in-loop-i-1.given c.loop-
 pub returns-then-b-low : goal.returns-then-b-low
 returns-then-b-low c =
     let l = c.before.before.before in
-    rw ((let same' : let m = l in let a = m.args in
-    read_at (number_of a.k) a.s.now a.c.at ≡ read_at (number m.refusal-bad.result m.top-last.result m.most-left.result 0) a.s.now a.c.at = let m = l in rw (← m.most-left.ensures, ← m.refusal-bad.ensures, ← m.top-last.ensures) in same'), l.loop-i.invariant.rest, at_low _ _ _ _ _ _ c.loop-i-test.true (omega arith) c.if-b-low.true)
+    rw (
+      (let same' : let m = l in let a = m.args in
+          read_at (number_of a.k) a.s.now a.c.at ≡ read_at (number m.refusal-bad.result m.top-last.result m.most-left.result 0) a.s.now a.c.at = let m = l in rw (← m.most-left.ensures, ← m.refusal-bad.ensures, ← m.top-last.ensures) in same'),
+      l.loop-i.invariant.rest,
+      at_low _ _ _ _ _ _ c.loop-i-test.true (omega arith) c.if-b-low.true,
+    )
 
 pub overflow_add-result : goal.overflow_add-result
 overflow_add-result c =
@@ -48,15 +52,23 @@ pub returns-then-b-last : goal.returns-then-b-last
 returns-then-b-last c =
     let b = c.before.before in
     let l = b.before.before.before in
-    rw ((let same' : let m = l in let a = m.args in
-    read_at (number_of a.k) a.s.now a.c.at ≡ read_at (number m.refusal-bad.result m.top-last.result m.most-left.result 0) a.s.now a.c.at = let m = l in rw (← m.most-left.ensures, ← m.refusal-bad.ensures, ← m.top-last.ensures) in same'), l.loop-i.invariant.rest, at_last _ _ _ _ _ _ b.loop-i-test.true b.if-b-low.false c.if-left-eq0.true c.if-b-last.true)
+    rw (
+      (let same' : let m = l in let a = m.args in
+          read_at (number_of a.k) a.s.now a.c.at ≡ read_at (number m.refusal-bad.result m.top-last.result m.most-left.result 0) a.s.now a.c.at = let m = l in rw (← m.most-left.ensures, ← m.refusal-bad.ensures, ← m.top-last.ensures) in same'),
+      l.loop-i.invariant.rest,
+      at_last _ _ _ _ _ _ b.loop-i-test.true b.if-b-low.false c.if-left-eq0.true c.if-b-last.true,
+    )
 
 pub returns-then-left-eq0 : goal.returns-then-left-eq0
 returns-then-left-eq0 c =
     let b = c.before.before in
     let l = b.before.before.before in
-    rw ((let same' : let m = l in let a = m.args in
-    read_at (number_of a.k) a.s.now a.c.at ≡ read_at (number m.refusal-bad.result m.top-last.result m.most-left.result 0) a.s.now a.c.at = let m = l in rw (← m.most-left.ensures, ← m.refusal-bad.ensures, ← m.top-last.ensures) in same'), l.loop-i.invariant.rest, at-over _ _ _ _ _ _ b.loop-i-test.true b.if-b-low.false c.if-left-eq0.true c.if-b-last.false)
+    rw (
+      (let same' : let m = l in let a = m.args in
+          read_at (number_of a.k) a.s.now a.c.at ≡ read_at (number m.refusal-bad.result m.top-last.result m.most-left.result 0) a.s.now a.c.at = let m = l in rw (← m.most-left.ensures, ← m.refusal-bad.ensures, ← m.top-last.ensures) in same'),
+      l.loop-i.invariant.rest,
+      at-over _ _ _ _ _ _ b.loop-i-test.true b.if-b-low.false c.if-left-eq0.true c.if-b-last.false,
+    )
 
 pub overflow_add-result-then-b-lt128 : goal.overflow_add-result-then-b-lt128
 overflow_add-result-then-b-lt128 c =
@@ -70,8 +82,12 @@ pub returns-then-b-lt128 : goal.returns-then-b-lt128
 returns-then-b-lt128 c =
     let b = c.before.before in
     let l = b.before.before.before in
-    rw ((let same' : let m = l in let a = m.args in
-    read_at (number_of a.k) a.s.now a.c.at ≡ read_at (number m.refusal-bad.result m.top-last.result m.most-left.result 0) a.s.now a.c.at = let m = l in rw (← m.most-left.ensures, ← m.refusal-bad.ensures, ← m.top-last.ensures) in same'), l.loop-i.invariant.rest, at-short _ _ _ _ _ _ b.loop-i-test.true b.if-b-low.false c.if-left-eq0.false c.if-b-lt128.true)
+    rw (
+      (let same' : let m = l in let a = m.args in
+          read_at (number_of a.k) a.s.now a.c.at ≡ read_at (number m.refusal-bad.result m.top-last.result m.most-left.result 0) a.s.now a.c.at = let m = l in rw (← m.most-left.ensures, ← m.refusal-bad.ensures, ← m.top-last.ensures) in same'),
+      l.loop-i.invariant.rest,
+      at-short _ _ _ _ _ _ b.loop-i-test.true b.if-b-low.false c.if-left-eq0.false c.if-b-lt128.true,
+    )
 
 pub loop-i-preserved : goal.loop-i-preserved
 loop-i-preserved c =
@@ -91,5 +107,9 @@ pub overflow_mul-acc : goal.overflow_mul-acc
 overflow_mul-acc c = omega (arith, (overflow_add-acc c))
 
 pub returns : goal.returns
-returns c = let l = c.before in rw ((let same' : let m = l in let a = m.args in
-    read_at (number_of a.k) a.s.now a.c.at ≡ read_at (number m.refusal-bad.result m.top-last.result m.most-left.result 0) a.s.now a.c.at = let m = l in rw (← m.most-left.ensures, ← m.refusal-bad.ensures, ← m.top-last.ensures) in same'), l.loop-i.invariant.rest, at-end _ _ _ _ _ _ c.loop-i-test.false)
+returns c = let l = c.before in rw (
+  (let same' : let m = l in let a = m.args in
+      read_at (number_of a.k) a.s.now a.c.at ≡ read_at (number m.refusal-bad.result m.top-last.result m.most-left.result 0) a.s.now a.c.at = let m = l in rw (← m.most-left.ensures, ← m.refusal-bad.ensures, ← m.top-last.ensures) in same'),
+  l.loop-i.invariant.rest,
+  at-end _ _ _ _ _ _ c.loop-i-test.false,
+)

@@ -1,6 +1,5 @@
 -- `field::read_version` meets its contract: after n bytes the loop knows what `Begun` says. The measure is how many are to come. Assumes nothing.
 use mathlib.Core.Path.{◌≡◌, sym}
-use Prim.Native.Nat.{◌-◌, ◌≤◌}
 use lib.ListN.{get_or}
 use native.Mathlib.Omega.{arith}
 use lib.Dec.{lit≤}

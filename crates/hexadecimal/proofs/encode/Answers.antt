@@ -1,5 +1,5 @@
 -- `hexadecimal::encode` meets its contract: between two bytes the loop knows what `Pasted` says. Assumes nothing.
-use Prim.Native.Nat.{◌*◌, ◌-◌}
+use Prim.Native.Nat.{◌*◌}
 use native.Mathlib.Omega.{arith}
 use lib.ListN.{length-set}
 use Rattle.hexadecimal.proofs.HexLaws.{hex_length}

@@ -1,5 +1,4 @@
 -- `hexadecimal::spread` meets its contract: from the last byte to the first, the loop knows what `Spread` says. Assumes nothing.
-use Prim.Native.Nat.{◌-◌}
 use native.Mathlib.Omega.{arith}
 use Rattle.hexadecimal.proofs.InPlace.{spread_short, spread_begin, spread_on, spread_end}
 use Rattle.hexadecimal.proofs.spread.Goals as goal

@@ -1,5 +1,4 @@
 -- `hexadecimal::spread` meets its contract: from the last byte to the first, the loop knows what `Spread` says. Assumes nothing.
-use Prim.Native.Nat.{◌-◌}
 use Rattle.hexadecimal.proofs.InPlace.{Spread}
 use Rattle.hexadecimal.proofs.spread.Given as goal
 

@@ -18,15 +18,25 @@ returns-in_default c = let n = c in
 pub returns-then-not-same : goal.returns-then-not-same
 returns-then-not-same c = let t = c.before in
     let p = t.before in
-    rw (at-statistic, (let found' : let r = p in let a = r.args in
-    read_at (limited 22) a.s.now a.c.at ≡ whole (part_of a.s.now r.in-Whole.p) r.in-Whole.next.at = let r = p in
-    let a = r.args in
-    limited_in a.s.now a.c.at 22 _ _ r.read_limited-r.ensures r.in-Whole.is in found'), ← p.part.ensures, sym t.same.ensures ∙ c.if-not-same.true)
+    rw (
+      at-statistic,
+      (let found' : let r = p in let a = r.args in
+          read_at (limited 22) a.s.now a.c.at ≡ whole (part_of a.s.now r.in-Whole.p) r.in-Whole.next.at = let r = p in
+          let a = r.args in
+          limited_in a.s.now a.c.at 22 _ _ r.read_limited-r.ensures r.in-Whole.is in found'),
+      ← p.part.ensures,
+      sym t.same.ensures ∙ c.if-not-same.true,
+    )
 
 pub returns : goal.returns
 returns c = let t = c.before.before in
     let p = t.before in
-    c.read_decimal.ensures ∙ sym (rw (at-statistic, (let found' : let r = p in let a = r.args in
-    read_at (limited 22) a.s.now a.c.at ≡ whole (part_of a.s.now r.in-Whole.p) r.in-Whole.next.at = let r = p in
-    let a = r.args in
-    limited_in a.s.now a.c.at 22 _ _ r.read_limited-r.ensures r.in-Whole.is in found'), ← p.part.ensures, sym t.same.ensures ∙ c.if-not-same.false))
+    c.read_decimal.ensures ∙ sym (rw (
+      at-statistic,
+      (let found' : let r = p in let a = r.args in
+          read_at (limited 22) a.s.now a.c.at ≡ whole (part_of a.s.now r.in-Whole.p) r.in-Whole.next.at = let r = p in
+          let a = r.args in
+          limited_in a.s.now a.c.at 22 _ _ r.read_limited-r.ensures r.in-Whole.is in found'),
+      ← p.part.ensures,
+      sym t.same.ensures ∙ c.if-not-same.false,
+    ))

@@ -1,6 +1,5 @@
 -- `statistics::read_statistics` meets its contract. The loop's invariant: the statistics before i are told. Assumes nothing.
 use mathlib.Core.Path.{◌≡◌, refl, sym, ◌∙◌}
-use Prim.Native.Nat.{◌-◌, ◌≤◌}
 use native.Mathlib.Omega.{arith}
 use lib.Dec.{lit≤}
 use borrow.Author.Tests.{eq-eqb, ne_eqb}
@@ -23,8 +22,12 @@ returns-in_default c = let n = c in
 
 pub returns-then-n-ne9 : goal.returns-then-n-ne9
 unfolding v_int
-returns-then-n-ne9 c = rw (at-statistics, (let begun' : let r = c in let a = r.args in
-    read_at v_int a.s.now a.c.at ≡ whole r.in-Whole.n r.in-Whole.first.at = let r = c in sym r.read_number-r.ensures ∙ rw r.in-Whole.is in begun'), ne_eqb _ 9 c.if-n-ne9.true)
+returns-then-n-ne9 c = rw (
+  at-statistics,
+  (let begun' : let r = c in let a = r.args in
+      read_at v_int a.s.now a.c.at ≡ whole r.in-Whole.n r.in-Whole.first.at = let r = c in sym r.read_number-r.ensures ∙ rw r.in-Whole.is in begun'),
+  ne_eqb _ 9 c.if-n-ne9.true,
+)
 
 pub loop-i-init : goal.loop-i-init
 loop-i-init c = (told_none _ _ _ refl, lit≤ tt)
@@ -35,8 +38,12 @@ returns-in_default-q c = let q = c.before.before in
     let l = q.before.before in
     stops _ _ l.loop-i.i l.loop-i.at l.loop-i.ns l.loop-i.invariant.0 q.loop-i-test.true q.read_one-q.result c.stop-in_default-q.result q.read_one-q.ensures (opened c.in_default-q.in_default-q-own.keys2) c.stop-in_default-q.ensures
     ∙ sym ((let decided' : let r = l in let a = r.args in
-    read_at statistics a.s.now a.c.at ≡ read_at (values titles) a.s.now r.in-Whole.first.at = rw (at-statistics, (let begun' : let r = l in let a = r.args in
-    read_at v_int a.s.now a.c.at ≡ whole r.in-Whole.n r.in-Whole.first.at = let r = l in sym r.read_number-r.ensures ∙ rw r.in-Whole.is in begun'), eq-eqb _ 9 l.if-n-ne9.false) in decided'))
+    read_at statistics a.s.now a.c.at ≡ read_at (values titles) a.s.now r.in-Whole.first.at = rw (
+      at-statistics,
+      (let begun' : let r = l in let a = r.args in
+          read_at v_int a.s.now a.c.at ≡ whole r.in-Whole.n r.in-Whole.first.at = let r = l in sym r.read_number-r.ensures ∙ rw r.in-Whole.is in begun'),
+      eq-eqb _ 9 l.if-n-ne9.false,
+    ) in decided'))
 
 pub loop-i-preserved : goal.loop-i-preserved
 loop-i-preserved c = let q = c.before in
@@ -48,5 +55,9 @@ unfolding v_int
 returns c = let l = c.before.before in
     let n : l.loop-i.i ≡ 9 = omega (arith, c.loop-i-test.false, l.loop-i.invariant.1) in
     rw c.of_list.ensures (sym ((let decided' : let r = l in let a = r.args in
-    read_at statistics a.s.now a.c.at ≡ read_at (values titles) a.s.now r.in-Whole.first.at = rw (at-statistics, (let begun' : let r = l in let a = r.args in
-    read_at v_int a.s.now a.c.at ≡ whole r.in-Whole.n r.in-Whole.first.at = let r = l in sym r.read_number-r.ensures ∙ rw r.in-Whole.is in begun'), eq-eqb _ 9 l.if-n-ne9.false) in decided') ∙ told-all _ _ _ _ (rw n at l.loop-i.invariant.0)))
+    read_at statistics a.s.now a.c.at ≡ read_at (values titles) a.s.now r.in-Whole.first.at = rw (
+      at-statistics,
+      (let begun' : let r = l in let a = r.args in
+          read_at v_int a.s.now a.c.at ≡ whole r.in-Whole.n r.in-Whole.first.at = let r = l in sym r.read_number-r.ensures ∙ rw r.in-Whole.is in begun'),
+      eq-eqb _ 9 l.if-n-ne9.false,
+    ) in decided') ∙ told-all _ _ _ _ (rw n at l.loop-i.invariant.0)))

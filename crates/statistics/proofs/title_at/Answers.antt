@@ -40,5 +40,9 @@ returns-in-7 c = rw (c.in-7.is, c.titled-in-7.ensures.0, c.titled-in-7.ensures.1
 
 pub returns-in_default : goal.returns-in_default
 unfolding titles
-returns-in_default c = rw ((let ninth' : c.args.i ≡ 8 = let r = c.in_default.in_default-own.rest in
-    last _ c.requires r.0.0.0.0.0.0.0.1 r.0.0.0.0.0.0.1 r.0.0.0.0.0.1 r.0.0.0.0.1 r.0.0.0.1 r.0.0.1 r.0.1 r.1 in ninth'), c.titled-in_default.ensures.0, c.titled-in_default.ensures.1) (refl, lit≤ tt)
+returns-in_default c = rw (
+  (let ninth' : c.args.i ≡ 8 = let r = c.in_default.in_default-own.rest in
+      last _ c.requires r.0.0.0.0.0.0.0.1 r.0.0.0.0.0.0.1 r.0.0.0.0.0.1 r.0.0.0.0.1 r.0.0.0.1 r.0.0.1 r.0.1 r.1 in ninth'),
+  c.titled-in_default.ensures.0,
+  c.titled-in_default.ensures.1,
+) (refl, lit≤ tt)

@@ -1,6 +1,5 @@
 -- `field::put::write_number` meets its contract: between two bytes the loop knows what `Left` says. The measure is the number that is left.
 -- Assumes nothing.
-use Prim.Native.Nat.{◌≤◌}
 use native.Mathlib.Omega.{arith}
 use lib.ListN.{length-set}
 use lib.Dec.{lit≤}

@@ -1,6 +1,5 @@
 -- `statistics::put::put_values` meets its contract. The loop's invariant: those before i are written. Assumes nothing.
 use mathlib.Core.Path.{◌≡◌}
-use Prim.Native.Nat.{◌-◌, ◌≤◌}
 use native.Mathlib.Omega.{arith}
 use lib.Dec.{lit≤}
 use Rattle.statistics.proofs.Writing.{begun, on-valid, on_room, on, written}

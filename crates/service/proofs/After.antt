@@ -3,7 +3,7 @@ use mathlib.Core.Path.{◌≡◌, refl, sym, ap, subst, ◌∙◌}
 use mathlib.Core.List.{List, [], ◌∷◌}
 use mathlib.Core.Bool.{Bool, true, false, cond}
 use mathlib.Core.Option.{Option, none, some}
-use mathlib.Core.Logic.{◌⊎◌, ⊎_elim}
+use mathlib.Core.Logic.{⊎_elim}
 use Prim.Native.Nat.{ℕ, ◌≤◌}
 use native.Mathlib.Omega.{arith}
 use lib.ListN.{length, drop}
@@ -16,13 +16,12 @@ use Rattle.map.specs.Step as map-step
 use Rattle.map.specs.Step.{Context, Outcome, answered, step}
 use Rattle.map.specs.Revalue.{state_with, outcome_with, pieces_with}
 use Rattle.map.proofs.Commute.{step_with, issues}
-use Rattle.map.proofs.Keeps.{keeps}
 use Rattle.map.proofs.Sent as sent
 use Rattle.map.proofs.Sent.{pieces-with}
 use Rattle.table.specs.Memory.{state_of}
-use Rattle.service.specs.Serve.{Answer, Effect, effect, served, more, refused, unchanged, on_step, on_read, serve, room, room_of, within}
-use Rattle.service.specs.Stream.{Call, Done, Becomes, Run, run_end, run_call}
-use Rattle.service.specs.Demand3.{wrote, gone, after, SameCalls, same_end, same-call, Independent, end, call}
+use Rattle.service.specs.Serve.{Answer, Effect, effect, refused, unchanged, on_step, on_read, serve, room, room_of, within}
+use Rattle.service.specs.Stream.{Call, Done, Becomes, Run, run_end}
+use Rattle.service.specs.Demand3.{wrote, gone, SameCalls, same_end, same-call, Independent, end, call}
 use Rattle.service.proofs.Decides.{is_sound}
 use Rattle.service.proofs.Sounds.{tells-sound, both-sound, effect_in, first-of, rest_of}
 use Rattle.service.proofs.Like.{answered-answer, answered-state, Like, like-gone, same_answer, alike, Same, same_next}

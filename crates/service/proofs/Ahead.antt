@@ -7,18 +7,15 @@ use Prim.Native.Nat.{ℕ, suc}
 use lib.ListN.{length, drop}
 use lib.Seq.{drop-append_seam}
 use lib.Dec.{eqb, ltb}
-use Rattle.wire.specs.Codec as wire
 use Rattle.wire.specs.Codec.{Valid}
 use Rattle.message.specs.Request.{Request, request}
 use Rattle.message.specs.Value.{with_value}
 use Rattle.message.specs.Written.{written, WellFormed}
 use Rattle.message.proofs.Value.{value_length}
-use Rattle.map.specs.Step as map-step
 use Rattle.map.specs.Step.{Outcome, step}
-use Rattle.map.proofs.Sent as sent
 use Rattle.table.specs.Memory.{state_of}
 use Rattle.service.specs.Serve.{Answer, Effect, refused, unchanged, room}
-use Rattle.service.specs.Stream.{Call, Done, Does, Run, run_end, run_call}
+use Rattle.service.specs.Stream.{Call, Done, Does, Run, run_end}
 use Rattle.service.specs.Demand3.{Progress, ahead, wrote, gone, passes, after, state_but, SameCalls, same_end, same-call, Alike, progress, Independent, end, call}
 use Rattle.service.proofs.Decides.{is_sound}
 use Rattle.service.proofs.Sounds.{tells-sound, effect_in, first-of, rest_of}

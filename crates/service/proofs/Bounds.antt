@@ -35,7 +35,7 @@ use Rattle.map.proofs.Counting.{arrive-table}
 use Rattle.map.proofs.Format.{result-most}
 use Rattle.table.proofs.Lists.{lt-or_ge}
 use Rattle.table.specs.Memory.{state_of, Sound}
-use Rattle.service.specs.Serve.{Effect, refused, error_pieces, unchanged, on_step, on_read, serve, room, bulk_room, room_of, within}
+use Rattle.service.specs.Serve.{Effect, error_pieces, unchanged, on_step, on_read, serve, room, bulk_room, room_of, within}
 use Rattle.service.specs.Stream.{Call, Done, Becomes, Serves}
 use Rattle.service.specs.Many.{is_short}
 use Rattle.service.proofs.Sounds.{sound-is, effect_in, does_in}

@@ -15,7 +15,7 @@ use Rattle.wire.specs.Same.{same_list}
 use Rattle.map.specs.History.{History, counts_held, most_count, start_of}
 use Rattle.map.specs.State.{Entry, State}
 use Rattle.map.specs.Step.{most_keys, last_version}
-use Rattle.map.specs.Table.{Each, Pairs, last_deadline, Sizes, OtherKey, OtherVersion, Issued, Counts, last_second, Seconds, IsTable, Ascending}
+use Rattle.map.specs.Table.{Each, Pairs, last_deadline, Sizes, Counts, last_second, Seconds, IsTable}
 use Rattle.wire.proofs.SameLaws.{same_true, other_differ}
 use Rattle.table.specs.Bytes.{be8}
 use Rattle.table.specs.Memory.{count_index, bound_index, size, number_of, place_of, row_at, count_of, state_of, Permutation, Layout, Sound, order_held, made_afresh}

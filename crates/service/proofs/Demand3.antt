@@ -3,16 +3,12 @@ use mathlib.Core.Path.{◌≡◌, refl, sym, subst, ◌∙◌}
 use mathlib.Core.List.{List, [], ◌∷◌, ◌++◌, append_assoc}
 use Prim.Native.Nat.{ℕ}
 use lib.ListN.{length}
-use Rattle.wire.specs.Codec as wire
 use Rattle.wire.specs.Codec.{Valid, Bytes}
 use Rattle.message.specs.Request.{Request, request}
 use Rattle.message.specs.Value.{with_value}
 use Rattle.message.specs.Written.{written, WellFormed}
 use Rattle.message.proofs.Lists.{lists}
 use Rattle.message.proofs.Value.{value-valid, value-last}
-use Rattle.map.specs.Step as map-step
-use Rattle.map.proofs.Sent as sent
-use Rattle.service.specs.Serve.{served}
 use Rattle.service.specs.Stream.{Call, Done, Run}
 use Rattle.service.specs.Demand3.{ahead, SameCalls, Independent, SameBut, Demand3}
 use Rattle.service.proofs.Served.{served-calls}

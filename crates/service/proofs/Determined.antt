@@ -4,10 +4,7 @@ use mathlib.Core.List.{List, [], ◌∷◌, map}
 use Prim.Native.Nat.{ℕ}
 use lib.ListN.{length, drop}
 use lib.Seq.{sets}
-use Rattle.wire.specs.Codec as wire
-use Rattle.map.specs.Step as map-step
 use Rattle.map.specs.Reply.{flat}
-use Rattle.map.proofs.Sent as sent
 use Rattle.service.specs.Serve.{Effect}
 use Rattle.service.specs.Stream.{Call, Done, Serves, Run, run_end, run_call}
 use Rattle.service.specs.Demand3.{Seen, seen}

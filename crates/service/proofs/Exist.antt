@@ -4,7 +4,6 @@ use mathlib.Core.List.{List, [], ◌∷◌}
 use mathlib.Core.Bool.{Bool, true, false, cond}
 use mathlib.Core.Option.{Option, none, some}
 use Prim.Native.Nat.{ℕ, ◌<◌}
-use native.Mathlib.Omega.{arith}
 use lib.ListN.{length, drop}
 use lib.Seq.{sets}
 use lib.Dec.{ltb}
@@ -13,16 +12,14 @@ use Rattle.wire.specs.Codec.{Read, Valid, Bytes}
 use Rattle.message.specs.Request.{Request, request}
 use Rattle.message.proofs.RequestLaws.{request_laws}
 use Rattle.map.specs.State.{State}
-use Rattle.map.specs.Table.{Each, IsTable, Ascending}
+use Rattle.map.specs.Table.{IsTable, Ascending}
 use Rattle.map.specs.Step as map-step
 use Rattle.map.specs.Step.{Context, Outcome, answered, step}
 use Rattle.map.specs.Reply.{flat}
 use Rattle.map.proofs.Keeps.{keeps}
-use Rattle.map.proofs.Sent as sent
 use Rattle.table.specs.Memory.{state_of, Sound}
-use Rattle.service.specs.Serve.{Effect, more, refused, unchanged, on_step, on_read, serve, room, within}
+use Rattle.service.specs.Serve.{Effect, refused, unchanged, on_step, on_read, serve, room, within}
 use Rattle.service.specs.Stream.{Call, Done, Becomes, Serves, Run, run_end, run_call}
-use Rattle.service.specs.Demand3.{after, call}
 use Rattle.wire.proofs.Laws.{bytes_drop}
 use Rattle.table.specs.Image.{image}
 use Rattle.table.proofs.HasImage.{has_image}

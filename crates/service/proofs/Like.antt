@@ -4,16 +4,13 @@ use mathlib.Core.List.{List}
 use mathlib.Core.Option.{Option, none, some}
 use Prim.Native.Nat.{ℕ}
 use lib.ListN.{length}
-use Rattle.wire.specs.Codec as wire
-use Rattle.message.specs.Request.{request}
 use Rattle.map.specs.State.{State}
 use Rattle.map.specs.Step as map-step
 use Rattle.map.specs.Step.{answered}
 use Rattle.map.specs.Reply.{Piece, flat}
-use Rattle.map.proofs.Sent as sent
 use Rattle.map.proofs.Sent.{same_size}
 use Rattle.table.specs.Memory.{state_of}
-use Rattle.service.specs.Serve.{Answer, Effect}
+use Rattle.service.specs.Serve.{Effect}
 use Rattle.service.specs.Stream.{Call, Done, Becomes, Does}
 use Rattle.service.specs.Demand3.{Progress, ahead, wrote, gone, state_but, sent_but, Alike}
 use Rattle.service.proofs.Decides.{is_sound}

@@ -4,7 +4,7 @@ use mathlib.Core.List.{List, [], ◌∷◌, map}
 use mathlib.Core.Bool.{Bool}
 use Prim.Native.Nat.{ℕ}
 use native.Mathlib.Nat.{add-zero}
-use lib.ListN.{length, take, drop, take-append-drop}
+use lib.ListN.{drop, take-append-drop}
 use Rattle.map.specs.Step.{Context}
 use Rattle.table.specs.Memory.{state_of}
 use Rattle.service.specs.Serve.{Verdict}

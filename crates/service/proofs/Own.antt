@@ -3,13 +3,12 @@ use mathlib.Core.Path.{◌≡◌, refl, sym, ap, subst, subst₂, ◌∙◌}
 use mathlib.Core.List.{List, [], ◌++◌}
 use mathlib.Core.Bool.{Bool, true, false, cond}
 use mathlib.Core.Option.{none}
-use mathlib.Core.Logic.{◌⊎◌, ⊎_elim}
+use mathlib.Core.Logic.{⊎_elim}
 use Prim.Native.Nat.{ℕ, suc}
 use native.Mathlib.Omega.{arith}
 use lib.ListN.{length}
 use lib.Dec.{ltb}
 use borrow.Author.Tests.{le-ltb, lt-ltb}
-use Rattle.wire.specs.Codec as wire
 use Rattle.wire.specs.Codec.{Valid}
 use Rattle.message.specs.Request.{Request, request}
 use Rattle.message.specs.Value.{with_value}
@@ -21,11 +20,10 @@ use Rattle.map.specs.Revalue.{state_with, entries_with, outcome_state}
 use Rattle.map.specs.Reply.{pieces}
 use Rattle.map.proofs.Finding.{fresh}
 use Rattle.map.proofs.Commute.{step_value, issues}
-use Rattle.map.proofs.Sent as sent
 use Rattle.table.specs.Memory.{state_of}
 use Rattle.service.specs.Serve.{Answer, Effect, effect, refused, unchanged, on_step, room, room_of}
 use Rattle.service.specs.Stream.{Call, Done, Does}
-use Rattle.service.specs.Demand3.{ahead, wrote, gone, passes, call}
+use Rattle.service.specs.Demand3.{ahead, wrote, gone, passes}
 use Rattle.service.proofs.Decides.{is_sound}
 use Rattle.service.proofs.Sounds.{is-sound, both-sound, bounded, effect_in}
 use Rattle.service.proofs.Calls.{on_whole, serve-at}

@@ -1,5 +1,5 @@
 -- Two servings of several connections that differ in one request's value are alike. Assumes that a sound table holds no version above the last issued.
-use mathlib.Core.Path.{◌≡◌, refl, sym, ap, ap₂, subst, subst₂, ◌∙◌}
+use mathlib.Core.Path.{◌≡◌, refl, sym, ap, ap₂, subst, ◌∙◌}
 use mathlib.Core.List.{List, [], ◌∷◌, ◌++◌}
 use mathlib.Core.Bool.{Bool, true, false, cond, ◌&&◌, ◌||◌}
 use mathlib.Core.Logic.{⊎_elim}
@@ -13,21 +13,20 @@ use Rattle.wire.proofs.Laws.{never}
 use Rattle.message.specs.Request.{Request}
 use Rattle.message.specs.Value.{with_value}
 use Rattle.message.specs.Written.{written, WellFormed}
-use Rattle.map.specs.State.{State}
 use Rattle.map.specs.Step.{Context}
 use Rattle.map.specs.Reply.{flat}
 use Rattle.table.specs.Memory.{state_of, Sound}
 use Rattle.service.specs.Serve.{Answer, Verdict}
 use Rattle.service.specs.Stream.{Call, Done, Serves, Run, run_end, run_call}
-use Rattle.service.specs.Many.{goes_on, is_short, Total, at, behind, only, Streams, waits, last, then}
-use Rattle.service.specs.Demand3.{Progress, ahead, wrote, gone, after, passes, progress, state_but, SameCalls, same_end, same-call, Alike, Independent, end, call}
+use Rattle.service.specs.Many.{goes_on, is_short, Total, at, behind, Streams, waits, last, then}
+use Rattle.service.specs.Demand3.{Progress, ahead, wrote, gone, after, passes, progress, state_but, SameCalls, same_end, same-call, Independent, call}
 use Rattle.service.specs.Shares.{Shares, no_more, share}
 use Rattle.service.specs.Made.{EndToEnd, total_by, Made}
 use Rattle.service.specs.Paired.{PairedStreams, progress_behind, for_others, PairedShares, nobody, other, own}
 use Rattle.service.proofs.Sounds.{effect_in, does_in, both-sound}
 use Rattle.service.proofs.Bounds.{stays-sound}
 use Rattle.service.proofs.Like.{Same}
-use Rattle.service.proofs.After.{gone_independent, Wrote, wrote_independent}
+use Rattle.service.proofs.After.{gone_independent, wrote_independent}
 use Rattle.service.proofs.Once.{call_next}
 use Rattle.service.proofs.Demand3.{values-from}
 use Rattle.service.proofs.Made.{waits-made, last_made, then-made}

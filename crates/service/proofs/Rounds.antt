@@ -1,5 +1,5 @@
 -- Rounds are one run of the simple map, and each connection's requests stand in it in their order. Assumes nothing.
-use mathlib.Core.Path.{◌≡◌, refl, sym, ap, ap₂, subst, ◌∙◌}
+use mathlib.Core.Path.{◌≡◌, refl, sym, ap, ap₂, ◌∙◌}
 use mathlib.Core.List.{List, [], ◌∷◌, ◌++◌, map, append_assoc}
 use mathlib.Core.Bool.{false}
 use Prim.Native.Nat.{ℕ, ◌+◌, ◌-◌, ◌≤◌, ◌<◌, zero-le}
@@ -12,7 +12,6 @@ use Rattle.message.specs.Written.{written, WellFormed}
 use Rattle.map.specs.State.{State}
 use Rattle.map.specs.History.{counts_held, most_count}
 use Rattle.map.specs.Step.{Context, Taken, run}
-use Rattle.map.specs.Table.{Counts}
 use Rattle.map.specs.Counted.{number, ends, at_most}
 use Rattle.map.specs.Expiry.{greatest, first_served}
 use Rattle.map.proofs.CountLaws.{counts-run}
@@ -20,9 +19,9 @@ use Rattle.map.proofs.Expiry.{latest-run, first_run}
 use Rattle.table.specs.Memory.{state_of, Sound}
 use Rattle.service.specs.Serve.{room}
 use Rattle.service.specs.Many.{Total, Streams}
-use Rattle.service.specs.Shares.{Shares, no_more, share, table_behind}
-use Rattle.service.specs.Linear.{joined, Passed, passed_request, steps, timed, Gets, AllGet, nobody, one, Linear}
-use Rattle.service.specs.Rounds.{Round, Rounds, no_rounds, round, Fits, AllFit, table_after, steps_of_all, timed_of_all, EachGets, no_more-rounds, in_round, LinearRounds, In, here, there, Connection, over, elsewhere, serves, TakenInOrder}
+use Rattle.service.specs.Shares.{no_more, share, table_behind}
+use Rattle.service.specs.Linear.{joined, Passed, passed_request, steps, timed, AllGet, one, Linear}
+use Rattle.service.specs.Rounds.{Round, Rounds, no_rounds, round, AllFit, table_after, steps_of_all, timed_of_all, EachGets, no_more-rounds, in_round, LinearRounds, In, here, there, Connection, over, elsewhere, serves, TakenInOrder}
 use Rattle.service.proofs.Linear.{runs_join, ends_on, linear, stays-sound}
 
 -- What all connections get in all rounds is what the simple map gives for one list of requests.

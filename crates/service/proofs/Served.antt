@@ -6,7 +6,6 @@ use native.Mathlib.Omega.{arith}
 use lib.ListN.{length, take, drop}
 use lib.Seq.{sets, drop-append_seam}
 use borrow.Author.Tests.{le-ltb}
-use Rattle.wire.specs.Codec as wire
 use Rattle.wire.specs.Codec.{Valid}
 use Rattle.message.specs.Request.{Request, request}
 use Rattle.message.specs.Written.{written, WellFormed}
@@ -16,9 +15,8 @@ use Rattle.map.specs.State.{State}
 use Rattle.map.specs.Step as map-step
 use Rattle.map.specs.Step.{Outcome, answered, step, state_after}
 use Rattle.map.specs.Reply.{fixed, flat}
-use Rattle.map.proofs.Sent as sent
 use Rattle.table.specs.Memory.{state_of, Sound}
-use Rattle.service.specs.Serve.{Answer, Effect, refused, on_step, room, room_of}
+use Rattle.service.specs.Serve.{Answer, Effect, on_step, room, room_of}
 use Rattle.service.specs.Stream.{Call, Done, Does, Serves, Run, run_end, run_call}
 use Rattle.service.specs.Demand3.{seen, seen_of, play, Roomy}
 use Rattle.service.proofs.Decides.{is_sound}

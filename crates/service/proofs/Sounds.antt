@@ -5,15 +5,12 @@ use mathlib.Core.Bool.{Bool, true, false}
 use Prim.Native.Nat.{ℕ, ◌≤◌}
 use native.Mathlib.Omega.{arith}
 use lib.ListN.{drop}
-use Rattle.wire.specs.Codec as wire
 use Rattle.map.specs.Table.{Each}
-use Rattle.map.specs.Step as map-step
 use Rattle.map.proofs.Keeps.{below}
-use Rattle.map.proofs.Sent as sent
 use Rattle.table.specs.Memory.{state_of, Sound}
 use Rattle.table.specs.Found.{Tells}
 use Rattle.service.specs.Serve.{Effect}
-use Rattle.service.specs.Stream.{Call, Done, Does, effect_of, Serves, Run, run_end, run_call}
+use Rattle.service.specs.Stream.{Call, Done, Does, effect_of, Serves, Run, run_call}
 use Rattle.service.proofs.Decides.{dec_sound, is_yes, is_sound}
 
 yes_it_is : {P : Type 0} (d : Dec P) → is_yes d ≡ true → P

@@ -1,5 +1,5 @@
 -- A file that comes chunk by chunk. A chunk is what stands in a buffer: what the last call left of it, and what was read behind that.
-use Rattle.std.specs.Prelude.{◌≡◌, List, [], ◌∷◌, ◌++◌, Bool, true, false, cond, ◌&&◌, not, ℕ, suc, ◌+◌, length, take, drop, eqb, ltb, leb}
+use Rattle.std.specs.Prelude.{◌≡◌, List, [], ◌∷◌, ◌++◌, Bool, true, false, cond, ◌&&◌, ℕ, ◌+◌, length, take, drop, eqb, ltb}
 use Rattle.std.proofs.Math.Option.{Option, none}
 use Rattle.hexadecimal.specs.Scan.{index_of}
 use Rattle.map.specs.State.{State}

@@ -1,13 +1,13 @@
 -- The order in memory lists the entries in the order sortedByKey afresh, and the keys that are not before a given one stand from its place on. Assumes nothing.
-use mathlib.Core.Path.{◌≡◌, refl, sym, ap, ap₂, subst, ◌∙◌}
-use mathlib.Core.List.{List, [], ◌∷◌, ◌++◌, map}
-use mathlib.Core.Bool.{Bool, true, false, cond}
-use Prim.Native.Nat.{ℕ, zero, suc, ◌+◌, ◌*◌, ◌%◌, ◌≤◌, ◌<◌}
+use mathlib.Core.Path.{◌≡◌, refl, sym, ap, ◌∙◌}
+use mathlib.Core.List.{List, [], ◌∷◌, map}
+use mathlib.Core.Bool.{Bool, true, false}
+use Prim.Native.Nat.{ℕ, zero, suc, ◌%◌, ◌≤◌, ◌<◌}
 use native.Mathlib.Omega.{arith}
 use lib.ListN.{length, get_or, drop}
 use Rattle.map.specs.State.{Entry, without}
 use Rattle.map.specs.Step.{most_keys}
-use Rattle.table.specs.Memory.{rows_at, row_width, size, place_of, row_at, entry_of, count_of, entries_of, state_of, Permutation, name_of, row_entry, row_before, rows_held, order_held, OrderKept}
+use Rattle.table.specs.Memory.{size, place_of, row_at, entry_of, count_of, entries_of, state_of, Permutation, name_of, row_entry, rows_held, order_held, OrderKept}
 use Rattle.table.proofs.Lists.{upto_ext}
 use Rattle.table.proofs.RowLaws.{entries_are, count_most}
 use Rattle.wire.proofs.SortedLaws.{sorted-map}

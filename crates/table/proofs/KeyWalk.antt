@@ -1,14 +1,13 @@
 -- Walking through the order: what is left of a listing at each place, and the numbers that name the keys passed. Assumes nothing.
-use mathlib.Core.Path.{◌≡◌, refl, sym, ap, ap₂, subst, ◌∙◌}
+use mathlib.Core.Path.{◌≡◌, refl, sym, ap, ap₂, ◌∙◌}
 use mathlib.Core.List.{List, [], ◌∷◌, ◌++◌, map, append_assoc, append-nil}
 use mathlib.Core.Logic.{⊎_elim}
-use mathlib.Core.Bool.{Bool, true, false, not, ◌&&◌}
-use lib.Dec.{eqb, leb, ltb}
-use borrow.Author.Tests.{eq-eqb, ne_eqb, lt-ltb, le-ltb, lt-leb, le-leb}
-use Prim.Native.Nat.{ℕ, zero, suc, ◌+◌, ◌*◌, ◌%◌, ◌≤◌, ◌<◌, min}
+use mathlib.Core.Bool.{true, false}
+use borrow.Author.Tests.{eq-eqb, ne_eqb}
+use Prim.Native.Nat.{ℕ, ◌+◌, ◌*◌, ◌%◌, ◌≤◌, ◌<◌, min}
 use native.Mathlib.Omega.{arith}
 use native.Mathlib.Numerals.{add-one}
-use lib.ListN.{length, get_or, set, take, drop, replicate, length-set, length-replicate, get_or-replicate, get_or-eq_default, drop_of_length-le}
+use lib.ListN.{length, get_or, set, drop, replicate, length-set, length-replicate, get_or-replicate, get_or-eq_default, drop_of_length-le}
 use lib.Seq.{drop-cons, get_or-set_same, get_or-set_other}
 use Rattle.wire.specs.Upto.{upto}
 use Rattle.wire.specs.Write.{part}
@@ -20,14 +19,14 @@ use Rattle.map.specs.Reply.{pair_of}
 use Rattle.listing.specs.EntryWrite.{entry_named}
 use Rattle.message.specs.Arguments.{key_limit}
 use Rattle.table.specs.Bytes.{be8}
-use Rattle.table.specs.Memory.{rows_at, row_width, key_length_start, key_start, size, place_of, entry, entry_of, count_of, state_of, Permutation, order_of, name_of, row_entry}
+use Rattle.table.specs.Memory.{rows_at, row_width, key_length_start, key_start, size, entry, entry_of, count_of, state_of, Permutation, order_of, name_of, row_entry}
 use Rattle.table.proofs.Lists.{lt-or_ge, upto_ext, upto-more}
 use Rattle.table.proofs.RowLaws.{count_most}
 use Rattle.wire.specs.Before.{before}
-use Rattle.table.specs.Order.{name_at, OrderedRows, PlaceFor, insertion_place}
+use Rattle.table.specs.Order.{name_at, OrderedRows, insertion_place}
 use Rattle.map.specs.KeyListing.{sorted_by_key}
 use Rattle.table.specs.KeysFrom.{entries_by_key, pairs_from, keys_from, KeysNamed}
-use Rattle.table.proofs.FindLaws.{row_below, name-at, keys-ascend}
+use Rattle.table.proofs.FindLaws.{row_below, keys-ascend}
 use Rattle.table.proofs.IsKept.{order-afresh}
 use Rattle.wire.proofs.UptoLaws.{map-upto}
 use Rattle.table.proofs.Bisect.{insertion-place}

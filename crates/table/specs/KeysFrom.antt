@@ -1,5 +1,5 @@
 -- The keys that stand, by the order and from the place of a key on, as numbers that name them in the memory.
-use Rattle.std.specs.Prelude.{◌≡◌, List, [], map, Bool, false, cond, ℕ, ◌+◌, ◌*◌, ◌%◌, ◌≤◌, length, drop, eqb}
+use Rattle.std.specs.Prelude.{◌≡◌, List, [], map, false, cond, ℕ, ◌%◌, ◌≤◌, length, drop, eqb}
 use Rattle.listing.specs.EntryWrite.{entry_named}
 use Rattle.map.specs.State.{Entry}
 use Rattle.map.specs.Step.{most_keys}

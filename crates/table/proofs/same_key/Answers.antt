@@ -1,6 +1,5 @@
 -- `table::same_key` meets its contract. The loop's invariant: the pairs compared are alike. Assumes nothing.
 use mathlib.Core.Path.{sym}
-use Prim.Native.Nat.{◌-◌}
 use native.Mathlib.Omega.{arith}
 use Rattle.table.proofs.Compare.{lengths-unlike, alike-none, alike-more, alike-less, alike_all}
 use Rattle.table.proofs.same_key.Goals as goal

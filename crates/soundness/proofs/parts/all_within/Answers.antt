@@ -1,6 +1,6 @@
 -- `soundness::parts::all_within` meets its contract. The loop's invariant: the rows passed are within. Assumes nothing.
 use mathlib.Core.Path.{◌≡◌, sym, ◌∙◌, subst}
-use Prim.Native.Nat.{ℕ, ◌-◌}
+use Prim.Native.Nat.{ℕ}
 use native.Mathlib.Omega.{arith}
 use borrow.Author.Count.{below_more}
 use Rattle.table.specs.Memory.{bound_index, number_of}

@@ -1,5 +1,5 @@
 -- `soundness::parts::is_permutation` meets its contract. The loop's invariant: the rows marked are those that the places passed name. Assumes nothing.
-use Prim.Native.Nat.{◌+◌, ◌-◌}
+use Prim.Native.Nat.{◌+◌}
 use native.Mathlib.Omega.{arith}
 use Rattle.table.specs.Memory.{place_of}
 use Rattle.table.proofs.Lists.{says_yes, says_no}

@@ -1,8 +1,7 @@
 -- `table::collect::collect` meets its contract. The loop's invariant: the keys passed that stand are named. Assumes nothing.
 use mathlib.Core.Path.{sym, ap, subst₂, ◌∙◌}
 use mathlib.Core.List.{List}
-use mathlib.Core.Logic.{⊎_elim}
-use Prim.Native.Nat.{ℕ, ◌+◌, ◌-◌, ◌*◌, ◌<◌, min}
+use Prim.Native.Nat.{ℕ, ◌+◌, ◌*◌, ◌<◌, min}
 use native.Mathlib.Omega.{arith}
 use borrow.Author.Tests.{not-true, not-false}
 use Rattle.message.specs.Arguments.{key_limit}
@@ -45,13 +44,13 @@ loop-p-preserved c =
     let e = c.row_stands.ensures in
     let x = ap (λ (i : ℕ). expired now (row_entry t i)) (sym r) in
     elim c.if-row_stands.branch [
-      then-row_stands w ↦
-    subst₂ (λ (ns : List ℕ) (m : ℕ). Walked t now first ns m (p + 1)) (sym w.numbers-is) (sym w.many-is)
-    (walked_take t now first l.loop-p.numbers l.loop-p.many p l.loop-p.invariant _ _ q (x ∙ not-true _ (sym e ∙ w.if-row_stands.true)) (ap (λ (i : ℕ). rows_at + row_width * i + key_start) r)
-    (w.capped.ensures ∙ ap (λ (i : ℕ). min (be8 t (rows_at + row_width * i + key_length_start)) key_limit) r))
-    | else-row_stands w ↦
-    subst₂ (λ (ns : List ℕ) (m : ℕ). Walked t now first ns m (p + 1)) (sym w.numbers-is) (sym w.many-is)
-    (walked_pass t now first l.loop-p.numbers l.loop-p.many p l.loop-p.invariant q (x ∙ not-false _ (sym e ∙ w.if-row_stands.false)))
+      | then-row_stands w ↦
+          subst₂ (λ (ns : List ℕ) (m : ℕ). Walked t now first ns m (p + 1)) (sym w.numbers-is) (sym w.many-is)
+          (walked_take t now first l.loop-p.numbers l.loop-p.many p l.loop-p.invariant _ _ q (x ∙ not-true _ (sym e ∙ w.if-row_stands.true)) (ap (λ (i : ℕ). rows_at + row_width * i + key_start) r)
+          (w.capped.ensures ∙ ap (λ (i : ℕ). min (be8 t (rows_at + row_width * i + key_length_start)) key_limit) r))
+      | else-row_stands w ↦
+          subst₂ (λ (ns : List ℕ) (m : ℕ). Walked t now first ns m (p + 1)) (sym w.numbers-is) (sym w.many-is)
+          (walked_pass t now first l.loop-p.numbers l.loop-p.many p l.loop-p.invariant q (x ∙ not-false _ (sym e ∙ w.if-row_stands.false)))
     ]
 
 pub returns : goal.returns

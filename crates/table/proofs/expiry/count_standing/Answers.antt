@@ -1,7 +1,5 @@
 -- `table::expiry::count_standing` meets its contract. The loop's invariant: those of the first i entries that stand are counted. Assumes nothing.
 use mathlib.Core.Path.{sym, ap, ◌∙◌}
-use mathlib.Core.Logic.{⊎_elim}
-use Prim.Native.Nat.{◌-◌}
 use native.Mathlib.Omega.{arith}
 use Rattle.table.proofs.Sweeps.{standing_of, standing-none, standing-more, standing-same, standing-held, stands_at, gone_at}
 use Rattle.table.proofs.expiry.count_standing.Goals as goal
@@ -21,8 +19,8 @@ loop-i-preserved c =
     let t = s.t.now in
     let i = l.loop-i.i in
     elim c.if-in_time.branch [
-      then-in_time x ↦ (omega arith, omega (arith, x.many-is), omega (arith, x.many-is, l.loop-i.invariant.2, standing-more n t i (stands_at n t i _ _ d.deadline.ensures a.in_time.ensures x.if-in_time.true)))
-    | else-in_time x ↦ (omega arith, omega (arith, x.many-is), omega (arith, x.many-is, l.loop-i.invariant.2, standing-same n t i (gone_at n t i _ _ d.deadline.ensures a.in_time.ensures x.if-in_time.false)))
+      | then-in_time x ↦ (omega arith, omega (arith, x.many-is), omega (arith, x.many-is, l.loop-i.invariant.2, standing-more n t i (stands_at n t i _ _ d.deadline.ensures a.in_time.ensures x.if-in_time.true)))
+      | else-in_time x ↦ (omega arith, omega (arith, x.many-is), omega (arith, x.many-is, l.loop-i.invariant.2, standing-same n t i (gone_at n t i _ _ d.deadline.ensures a.in_time.ensures x.if-in_time.false)))
     ]
 
 pub returns : goal.returns

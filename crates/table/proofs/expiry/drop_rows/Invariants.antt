@@ -1,6 +1,6 @@
 -- `table::expiry::drop_rows` meets its contract. The loop's invariant: what is left to be done to the first i entries gives the whole. Assumes nothing.
 use mathlib.Core.Path.{◌≡◌}
-use Prim.Native.Nat.{◌-◌, ◌≤◌}
+use Prim.Native.Nat.{◌≤◌}
 use lib.ListN.{length}
 use Rattle.table.specs.Memory.{count_of}
 use Rattle.table.specs.Sweep.{less_all}

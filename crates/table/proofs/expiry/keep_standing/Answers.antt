@@ -1,8 +1,7 @@
 -- `table::expiry::keep_standing` meets its contract. The loop's invariant: the rows passed that stand are kept. Assumes nothing.
 use mathlib.Core.Path.{◌≡◌, sym, ap, subst, subst₂, ◌∙◌}
 use mathlib.Core.List.{List}
-use mathlib.Core.Logic.{⊎_elim}
-use Prim.Native.Nat.{ℕ, ◌+◌, ◌-◌, ◌%◌, ◌<◌}
+use Prim.Native.Nat.{ℕ, ◌+◌, ◌%◌, ◌<◌}
 use native.Mathlib.Omega.{arith}
 use lib.ListN.{set, get_or}
 use borrow.Author.Tests.{not-true, not-false}
@@ -36,12 +35,12 @@ loop-p-preserved c =
     let x : expired now (row_entry t (order_of t p % most_keys)) ≡ expired now (row_entry u (row % most_keys)) =
     sym (ap (expired now) (sifted-row now t s.requires u kept p f q (row % most_keys) (omega arith)) ∙ ap (λ (i : ℕ). expired now (row_entry t (i % most_keys))) r) in
     elim c.if-row_stands.branch [
-      then-row_stands w ↦
-    subst₂ (λ (y : List ℕ) (k : ℕ). Sifted now t y k (p + 1)) (sym w.t-is) (sym w.kept-is)
-    (subst (λ (y : ℕ). Sifted now t (set u (order_at + kept) y) (kept + 1) (p + 1)) (sym r) (sifted_take now t s.requires u kept p f q (x ∙ not-true _ (sym e ∙ w.if-row_stands.true))))
-    | else-row_stands w ↦
-    subst₂ (λ (y : List ℕ) (k : ℕ). Sifted now t y k (p + 1)) (sym w.t-is) (sym w.kept-is)
-    (sifted-pass now t s.requires u kept p f q (x ∙ not-false _ (sym e ∙ w.if-row_stands.false)))
+      | then-row_stands w ↦
+          subst₂ (λ (y : List ℕ) (k : ℕ). Sifted now t y k (p + 1)) (sym w.t-is) (sym w.kept-is)
+          (subst (λ (y : ℕ). Sifted now t (set u (order_at + kept) y) (kept + 1) (p + 1)) (sym r) (sifted_take now t s.requires u kept p f q (x ∙ not-true _ (sym e ∙ w.if-row_stands.true))))
+      | else-row_stands w ↦
+          subst₂ (λ (y : List ℕ) (k : ℕ). Sifted now t y k (p + 1)) (sym w.t-is) (sym w.kept-is)
+          (sifted-pass now t s.requires u kept p f q (x ∙ not-false _ (sym e ∙ w.if-row_stands.false)))
     ]
 
 pub returns : goal.returns

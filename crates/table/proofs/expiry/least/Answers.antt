@@ -1,6 +1,5 @@
 -- `table::expiry::least` meets its contract. The loop's invariant: the least deadline of the first i entries. Assumes nothing.
 use mathlib.Core.Path.{sym, ap, ◌∙◌}
-use Prim.Native.Nat.{◌-◌}
 use native.Mathlib.Omega.{arith}
 use Rattle.table.specs.Sweep.{least_of}
 use Rattle.table.proofs.Bounds.{least-none, least-next}

@@ -1,7 +1,6 @@
 -- `table::key_order::is_before` meets its contract. The loop's invariant: the bytes passed are alike. Assumes nothing.
 use mathlib.Core.Path.{refl, sym, ap₂, ◌∙◌}
 use lib.Dec.{ltb}
-use Prim.Native.Nat.{◌-◌}
 use native.Mathlib.Omega.{arith}
 use Rattle.wire.proofs.Words.{words}
 use Rattle.table.proofs.key_order.is_before.Goals as goal

@@ -1,12 +1,11 @@
 -- `table::key_order::is_rest_before` meets its contract. The loop's invariant: the bytes passed are alike. Assumes nothing.
 use mathlib.Core.Path.{◌≡◌, refl, sym, ap, ◌∙◌}
 use mathlib.Core.Logic.{⊎_elim}
-use Prim.Native.Nat.{suc, ◌+◌, ◌-◌}
+use Prim.Native.Nat.{suc, ◌+◌}
 use native.Mathlib.Omega.{arith}
 use native.Mathlib.Numerals.{add-one}
 use lib.ListN.{length}
 use Rattle.table.proofs.Lists.{lt-or_ge}
-use Rattle.wire.specs.Before.{before}
 use Rattle.wire.proofs.Words.{from, byte-alike, byte-unlike, first_ends, second-ends}
 use Rattle.table.proofs.key_order.is_rest_before.Goals as goal
 

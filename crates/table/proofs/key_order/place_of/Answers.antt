@@ -1,6 +1,6 @@
 -- `table::key_order::place_of` meets its contract. The loop's invariant: no place passed has the row number. Assumes nothing.
 use mathlib.Core.Path.{◌≡◌}
-use Prim.Native.Nat.{ℕ, ◌-◌}
+use Prim.Native.Nat.{ℕ}
 use native.Mathlib.Omega.{arith}
 use borrow.Author.Count.{below_more}
 use Rattle.table.specs.Memory.{order_of}

@@ -1,6 +1,6 @@
 -- `table::rows::find_from` meets its contract. The loop's invariant: no row passed has the key. Assumes nothing.
 use mathlib.Core.Path.{◌≡◌}
-use Prim.Native.Nat.{ℕ, ◌-◌, ◌≤◌}
+use Prim.Native.Nat.{ℕ, ◌≤◌}
 use native.Mathlib.Omega.{arith}
 use borrow.Author.Count.{below_more}
 use Rattle.table.specs.Memory.{count_of, row_at}

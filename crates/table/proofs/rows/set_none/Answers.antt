@@ -1,6 +1,5 @@
 -- `table::rows::set_none` meets its contract. The loop's invariant: the first i bytes are 0. Assumes nothing.
 use mathlib.Core.Path.{◌≡◌, refl, ◌∙◌}
-use Prim.Native.Nat.{◌-◌}
 use native.Mathlib.Omega.{arith}
 use lib.ListN.{length-set}
 use Rattle.table.specs.Bytes.{upto, zeros}

@@ -1,6 +1,5 @@
 -- `table::rows::set_places` meets its contract. The loop's invariant: the first i places are in order. Assumes nothing.
 use mathlib.Core.Path.{◌≡◌, refl, ◌∙◌}
-use Prim.Native.Nat.{◌-◌}
 use native.Mathlib.Omega.{arith}
 use lib.ListN.{length-set}
 use Rattle.map.specs.Step.{most_keys}

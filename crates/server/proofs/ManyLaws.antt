@@ -10,7 +10,7 @@ use Rattle.table.specs.Memory.{Sound}
 use Rattle.table.proofs.Lists.{says_no}
 use Rattle.service.specs.Serve.{room}
 use Rattle.service.proofs.Decides.{is_sound}
-use Rattle.service.proofs.Sounds.{tells-sound, sound-is}
+use Rattle.service.proofs.Sounds.{tells-sound}
 use Rattle.service.specs.Shares.{are_ends}
 use Rattle.server.specs.declared.Shared.{Shared}
 use Rattle.server.specs.declared.Shared.TheVariants as s

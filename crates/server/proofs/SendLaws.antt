@@ -1,5 +1,5 @@
 -- Replies that fit are written, and the reply to a request is the one that the map gives. Assumes nothing.
-use mathlib.Core.Path.{◌≡◌, refl, sym, ap, ap₂, ◌∙◌}
+use mathlib.Core.Path.{◌≡◌, refl, sym, ap, ◌∙◌}
 use mathlib.Core.List.{List, [], ◌∷◌, ◌++◌, map, append-nil}
 use mathlib.Core.Bool.{Bool, true, false, cond, not, ◌||◌}
 use mathlib.Core.Option.{Option, none, some}
@@ -12,17 +12,16 @@ use lib.Dec.{eqb}
 use types.Run.{OneOf, miss}
 use denote.Enum.Declared.{tag_of}
 use borrow.Author.Tests.{eqb-true, eq-eqb, ne_eqb}
-use Rattle.wire.specs.Codec.{more, Codec, Valid, byte}
+use Rattle.wire.specs.Codec.{Codec, Valid, byte}
 use Rattle.wire.specs.Write as wire
 use Rattle.wire.specs.Write.{send, written}
 use Rattle.wire.proofs.Laws.{never, guard-valid}
-use Rattle.wire.proofs.NumberLaws.{valid}
 use Rattle.wire.proofs.WriteLaws.{send-room}
 use Rattle.message.specs.declared.Operation.{Operation}
 use Rattle.message.specs.declared.Operation.TheVariants.{Stats, BulkGet}
 use Rattle.message.specs.Operation.{code_of}
 use Rattle.message.specs.declared.Asked.{Asked}
-use Rattle.message.specs.Request.{Request, edition_at}
+use Rattle.message.specs.Request.{Request}
 use Rattle.message.specs.ReplyTable.{table, body_at, is_allowed, allowed, reply_status}
 use Rattle.message.specs.Payload.{payload, fields_of, form_of}
 use Rattle.message.specs.Reply.{Reply, is_awaited, statuses_of, reply, error_reply, statistics_reply, bulk_operation, bulk_reply}

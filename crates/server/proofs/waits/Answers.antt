@@ -1,7 +1,6 @@
 -- `server::waits` meets its contract. Assumes nothing.
 use mathlib.Core.Path.{sym}
 use mathlib.Core.Bool.{and-true}
-use borrow.Author.Tests.{not-true, not-false}
 use Rattle.wire.proofs.Laws.{and_false}
 use lib.Dec.{eqb}
 use Rattle.service.specs.Many.{is_short}

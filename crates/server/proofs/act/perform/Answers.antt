@@ -17,10 +17,9 @@ use Rattle.map.specs.State.{State, find, has_key}
 use Rattle.map.specs.Table.{IsTable}
 use Rattle.map.proofs.Keeps.{keeps-table}
 use Rattle.table.specs.Memory.{state_of, Sound}
-use Rattle.service.specs.Serve.{room}
 use Rattle.service.proofs.Calls.{room-least}
 use Rattle.plan.specs.declared.Held.{Held}
-use Rattle.plan.specs.Plan.{as_plan, as_change, as_judged, held_version, HoldsAt, judged_at, refusal_of}
+use Rattle.plan.specs.Plan.{as_plan, as_judged, held_version, HoldsAt, judged_at, refusal_of}
 use Rattle.plan.proofs.PlanLaws.{version-held}
 use Rattle.server.specs.CallDone.{as_context}
 use Rattle.server.specs.Act.{after, Planned, Agreed, Arrives}
@@ -81,11 +80,11 @@ module _ (k : map.Context) (q : Request) (t : List ℕ) (g : Sound t) (x : Held)
 
 pub refuse-requires : goal.refuse-requires
 refuse-requires c = record {
-      room_in_bounds = omega (arith, c.requires.given.room, room-least c.args.r.head.op);
-      id_bound = (request-small (request_in c.args.input.now c.args.r) c.requires.valid).id;
-      le_k = omega arith;
-      k_bound = omega arith;
-    }
+  room_in_bounds = omega (arith, c.requires.given.room, room-least c.args.r.head.op);
+  id_bound = (request-small (request_in c.args.input.now c.args.r) c.requires.valid).id;
+  le_k = omega arith;
+  k_bound = omega arith;
+}
 
 pub returns-then-name_in-ne0 : goal.returns-then-name_in-ne0
 returns-then-name_in-ne0 c =

@@ -8,7 +8,7 @@ use lib.ListN.{length, get_or}
 use borrow.Author.Rules.{rules}
 use Rattle.wire.specs.Codec.{byte}
 use Rattle.wire.proofs.ListedEnc.{listed-few}
-use Rattle.wire.proofs.ListedWrite.{Begun, begun, on-valid, on_room, on, end-room, written}
+use Rattle.wire.proofs.ListedWrite.{begun, on-valid, on_room, on, end-room, written}
 use Rattle.wire.proofs.WriteLaws.{put-wrote}
 use Rattle.message.specs.Listing.{item_of, listing}
 use Rattle.map.specs.Reply.{pair_of}

@@ -1,6 +1,5 @@
 -- `server::bulk::put_entry` meets its contract: the byte 1, the key, and the value where there is one. Assumes nothing.
 use mathlib.Core.List.{[]}
-use borrow.Author.Tests.{not-true, not-false}
 use Rattle.listing.proofs.Writing.{wrote-key, wrote-pair}
 use Rattle.table.specs.Found.{entry_at}
 use Rattle.server.proofs.bulk.put_entry.Goals as goal

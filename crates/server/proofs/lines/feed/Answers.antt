@@ -1,7 +1,6 @@
 -- `server::lines::feed` meets its contract: between two turns the loop knows what `Going` says. The measure is what is left of the input.
 -- Assumes nothing.
 use mathlib.Core.Path.{◌∙◌}
-use Prim.Native.Nat.{◌-◌}
 use native.Mathlib.Omega.{arith}
 use Rattle.server.proofs.LineLaws.{puts-long}
 use Rattle.server.proofs.TurnLaws.{going_begin, taken-within, going_on, going_full, going_done, done-sound, sound-long}

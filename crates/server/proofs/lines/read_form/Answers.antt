@@ -31,7 +31,7 @@ returns-in_default-d c =
       form = form_digits _ (no_bytes _ _ c.decode-d.result c.decode-d.new.out
           (omega (arith, rest-long c.args.line.now, c.if-line-gt-LONGEST.false, c.requires))
           (opened c.in_default-d.in_default-d-own.keys2) ((let digits' : let s = c.args.line.now in
-    Decodes c.args.frame.now c.decode-d.result c.decode-d.new.out (from_hex (take (length s - 9) (drop 9 s))) = decodes _ _ _ _ c.decode-d.ensures in digits')));
+          Decodes c.args.frame.now c.decode-d.result c.decode-d.new.out (from_hex (take (length s - 9) (drop 9 s))) = decodes _ _ _ _ c.decode-d.ensures in digits')));
       within = tt;
     }
 

@@ -1,6 +1,5 @@
 -- `server::many::are_ends` meets its contract: what is left of the list decides as the whole. The measure is what is left. Assumes nothing.
 use mathlib.Core.Path.{refl, sym, ◌∙◌}
-use Prim.Native.Nat.{◌-◌}
 use native.Mathlib.Numerals.{add-one}
 use native.Mathlib.Omega.{arith}
 use Rattle.server.proofs.PartLaws.{ends_on, ends-below, ends_above, ends-end}
@@ -19,9 +18,9 @@ returns-then-n-end c =
 
 pub loop-i-preserved : goal.loop-i-preserved
 loop-i-preserved c = (
-      omega (arith, c.loop-i-test.true),
-      rw add-one (c.loop-i.invariant.1 ∙ ends_on c.loop-i.start c.args.n c.loop-i.i c.args.ends.now c.loop-i-test.true c.if-end-start.false c.if-n-end.false),
-    )
+  omega (arith, c.loop-i-test.true),
+  rw add-one (c.loop-i.invariant.1 ∙ ends_on c.loop-i.start c.args.n c.loop-i.i c.args.ends.now c.loop-i-test.true c.if-end-start.false c.if-n-end.false),
+)
 
 pub returns : goal.returns
 returns c =

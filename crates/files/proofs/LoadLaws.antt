@@ -2,7 +2,7 @@
 use mathlib.Core.Path.{◌≡◌, refl, sym, ap, ◌∙◌, subst}
 use mathlib.Core.Bool.{Bool, true, false}
 use mathlib.Core.List.{List, [], ◌∷◌, ◌++◌, append_assoc, append-nil}
-use Prim.Native.Nat.{ℕ, suc, ◌+◌, ◌-◌, ◌≤◌, ◌<◌}
+use Prim.Native.Nat.{ℕ, suc, ◌≤◌, ◌<◌}
 use native.Mathlib.Omega.{arith}
 use lib.ListN.{length, take, drop, length-append, length-drop, take-append-drop}
 use lib.Seq.{take-length}
@@ -15,7 +15,6 @@ use Rattle.map.specs.Table.{Each}
 use Rattle.service.specs.Feed.{joined}
 use Rattle.hexadecimal.specs.Hex.{to_hex, line}
 use Rattle.hexadecimal.proofs.HexLaws.{hex_length}
-use Rattle.wire.specs.Write.{part}
 use Rattle.table.specs.Memory.{size, state_of, Sound}
 use Rattle.table.proofs.Restores.{each-mid}
 use Rattle.stored.specs.File.{form1, entry_line, head_line, entry_lines, lines_of, Stores}
@@ -26,10 +25,9 @@ use Rattle.stored.proofs.OneTable.{file-front}
 use Rattle.stored.proofs.WholeLaws.{loads_both, loads-stores, all-loaded}
 use Rattle.service.proofs.Chunks.{joined-more}
 use Rattle.files.specs.declared.Window.{Window}
-use Rattle.files.specs.declared.NextLoad.TheVariants as load
 use Rattle.stored.specs.declared.Loading.{Loading}
 use Rattle.files.specs.Window.{begin, inside, arrived, Brings}
-use Rattle.files.specs.Loading.{longest_stored, Loads, LoadsOn, LoadsAll, Wrong, bad, cut_off, too_long, LoadsNone, LoadsNext, Loadings, read, done, broken}
+use Rattle.files.specs.Loading.{longest_stored, Loads, LoadsOn, LoadsAll, Wrong, bad, cut_off, too_long, LoadsNone, Loadings, read, done, broken}
 use Rattle.files.proofs.TurnsLaws.{no_chunks}
 use Rattle.files.proofs.WindowLaws.{inside-more, carried-more}
 

@@ -4,7 +4,7 @@ use mathlib.Core.Path.{◌≡◌, refl, sym, ap, ◌∙◌}
 use mathlib.Core.Bool.{Bool, true}
 use mathlib.Core.Option.{Option, none}
 use mathlib.Core.List.{List, [], ◌∷◌, ◌++◌}
-use Prim.Native.Nat.{ℕ, ◌+◌, ◌-◌, ◌≤◌}
+use Prim.Native.Nat.{ℕ, ◌≤◌}
 use native.Mathlib.Omega.{arith}
 use lib.ListN.{length, take}
 use lib.Seq.{sets, sets-eq, take-append_seam}
@@ -12,13 +12,12 @@ use Rattle.wire.proofs.Laws.{never}
 use Rattle.service.specs.Line.{Given, given, later, lines_step}
 use Rattle.service.specs.Feed.{lines_of, joined, Feeds, read as feeds-read, end as feeds-end}
 use Rattle.service.proofs.Chunks.{rest_step, chunks}
-use Rattle.wire.specs.Write.{part}
 use Rattle.table.specs.Memory.{state_of, Sound}
 use Rattle.service.specs.Stream.{Becomes}
 use Rattle.map.specs.State.{State}
 use Rattle.server.proofs.LeftLaws.{left-state, left-sound, left_both}
 use Rattle.files.specs.declared.Window.{Window}
-use Rattle.files.specs.Window.{at, begin, inside, arrived, Brings}
+use Rattle.files.specs.Window.{begin, inside, arrived, Brings}
 use Rattle.files.specs.Serving.{Writes, Reads, Ends, Runs, wrote, read, done, FileGives}
 use Rattle.files.proofs.TurnsLaws.{turns_feed, turns-within, turns-end}
 use Rattle.files.proofs.WindowLaws.{inside-behind, inside-more, carried-more}

@@ -127,9 +127,11 @@ def sum_of(crate, path, said):
 
 
 def edited(crate, path, to):
-    """Changes the copy of a crate as the edit file says. It raises ValueError where a text to be changed does not stand in its file, or more than once."""
+    """Changes the copy of a crate as the edit file says. It raises ValueError where a file is not there, or a text to be changed does not stand there once."""
     for program in programs(path):
         for name, old, new in program.changes:
+            if not os.path.isfile(os.path.join(to, name)):
+                raise ValueError(f'{program.name}: there is no file {name}')
             with open(os.path.join(to, name), encoding='utf-8') as file:
                 text = file.read()
             if text.count(old) != 1:

@@ -23,9 +23,9 @@ import kit  # noqa: E402
 
 # What the prover says of a proof file that is written for other code: a goal, a field or a name that is not there, a place that an argument no longer determines,
 # a loop's invariant or measure that is not even of its type.
-UNFIT = re.compile(r'has no field|is not in scope|has no `|the goal is not yet determined|/Invariants\.antt:')
+UNFIT = re.compile(r'has no field|is not in scope(?! here, so what is shown)|has no `|the goal is not yet determined|/Invariants\.antt:')
 # An error that only follows from another one.
-FOLLOWS = 'was not admitted'
+FOLLOWS = re.compile(r'was not admitted|which was rejected, (?:was|were) not checked')
 PLACE = re.compile(r'(?:^|/)proofs/(\S+?)(?:/(?:Answers|Invariants|Proof))?\.antt:\d+:\d+: error: `([^`]+)`')
 # A goal that no answer of a file is for, which the prover searches for by itself.
 SEARCHED = re.compile(r'^note: (?:\S*/)?src/(\S+)\.rt:(\d+):\d+: it is not proved that .*?\(`([^`]+)`\)')
@@ -102,7 +102,7 @@ def refusals(crate, lines):
         while end < len(lines) and lines[end].startswith('  '):
             end += 1
         said = ' '.join(lines[at:end])
-        if FOLLOWS in said:
+        if FOLLOWS.search(said):
             continue
         place = PLACE.search(line)
         if place:
@@ -127,9 +127,11 @@ def sum_of(crate, path, said):
 
 
 def edited(crate, path, to):
-    """Changes the copy of a crate as the edit file says. It raises ValueError where a text to be changed does not stand in its file, or more than once."""
+    """Changes the copy of a crate as the edit file says. It raises ValueError where a file is not there, or a text to be changed does not stand there once."""
     for program in programs(path):
         for name, old, new in program.changes:
+            if not os.path.isfile(os.path.join(to, name)):
+                raise ValueError(f'{program.name}: there is no file {name}')
             with open(os.path.join(to, name), encoding='utf-8') as file:
                 text = file.read()
             if text.count(old) != 1:

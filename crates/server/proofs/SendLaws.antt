@@ -189,12 +189,18 @@ module _ (c : Context) {t : List ℕ} {q : Request} {y : Held} {s : ℕ} (g : Pl
 
   pub held-sent : {code u e : ℕ} {v : List ℕ} {x : wire.Sent} (old : List ℕ) {new : List ℕ} → is_plain q.op ≡ true → code ≡ code_of q.op → u ≡ status_for s
       → e ≡ version_shown (form q u) (held_at t q.args.key) → v ≡ value_shown (form q u) (held_at t q.args.key)
-      → (x, new) ≡ send (framed (fields_of (form q u))) (made code u e v) old → (x, new) ≡ sent_to c q (state_of t) old
+      → (x, new) ≡ send (reply (asked_by q)) (made code u e v) old → (x, new) ≡ sent_to c q (state_of t) old
   unfolding result status_of held planned
-  held-sent {e = y} {v = d} old n o p e w z =
+  held-sent old n o p e w z =
       let k = status_for (planned q (state_of t)).status in
       let f = shown-same (form_of (wants_old q) (allowed (body_at k (table (with_old q) q.op)))) (statistics c (state_of t)) (listed_by q (state_of t)) (held_at t q.args.key) (every_body (λ b. plain (form_of (wants_old q) b)) k (table (with_old q) q.op) refl (plain-bodies q.op (with_old q) (wants_old q) n)) in
-      (rw (o, p) at z) ∙ formed y d old ∙ rw (e, w, p, statuses_are (with_old q) q.op, ← g.status, f)
+      z ∙ rw (o, e, w, p, statuses_are (with_old q) q.op, ← g.status, f)
+
+  -- and where its form alone was written
+  pub held_framed : {code u e : ℕ} {v : List ℕ} {x : wire.Sent} (old : List ℕ) {new : List ℕ} → is_plain q.op ≡ true → code ≡ code_of q.op → u ≡ status_for s
+      → e ≡ version_shown (form q u) (held_at t q.args.key) → v ≡ value_shown (form q u) (held_at t q.args.key)
+      → (x, new) ≡ send (framed (fields_of (form q u))) (made code u e v) old → (x, new) ≡ sent_to c q (state_of t) old
+  held_framed {e = y} {v = d} old n o p e w z = held-sent old n o p e w (rw (o, p) ((rw (o, p) at z) ∙ formed y d old))
 
   -- the reply to stats
   pub stats-sent : {x : wire.Sent} {ns : List ℕ} (old : List ℕ) {new : List ℕ} → q.op ≡ Stats → ns ≡ statistics c (state_of t)

@@ -8,7 +8,7 @@ use Rattle.message.specs.ReplyTable.{reply_status}
 use Rattle.message.proofs.Every.{code-small}
 use Rattle.map.specs.Step.{wants_old, with_old, is_none}
 use Rattle.plan.specs.Plan.{held_at}
-use Rattle.server.proofs.SendLaws.{form, held_same, held-sent}
+use Rattle.server.proofs.SendLaws.{form, held_same, held_framed}
 use Rattle.server.proofs.act.write_held.Goals as goal
 
 pub overflow_add-awaited : goal.overflow_add-awaited
@@ -24,5 +24,5 @@ returns c x name key value n g =
     let p : c.reply_status-sent.result ≡ reply_status (with_old r) r.op (not (is_none (held_at a.t.now key))) a.status =
     c.reply_status-sent.ensures ∙ rw (m, c.is_held.ensures, held_same a.t.now key a.held g.holds) in
     let f : c.form_of-f.result ≡ form r c.reply_status-sent.result = c.form_of-f.ensures ∙ rw (c.body_at.ensures, c.code-awaited.ensures, m, l) in
-    held-sent x g _ n c.code-awaited.ensures p (rw f at (c.shown_version.ensures a.t.now key g.holds))
+    held_framed x g _ n c.code-awaited.ensures p (rw f at (c.shown_version.ensures a.t.now key g.holds))
     (c.value_at-value.ensures ∙ (rw f at (c.shown_row.ensures a.t.now key g.sound g.holds))) (rw f at c.write_formed.ensures)

@@ -341,8 +341,7 @@ def building(bench):
     env = toolchain(at, f'[ "$PWD:$*" = "{at}/crates/board:run -- serve /dev/null" ] && cat {at}/lines && mkdir -p out && cp {PROGRAM} out/board\n')
     outcome = start('bash', ['-c', 'CDPATH=$PWD/elsewhere: exec bash built/board serve built/ping'], cwd=bench.top, env=env)
     outcome.err = re.sub(rb'\(\d+ s\)', b'(0 s)', re.sub(rb'after \d+ seconds', b'after 0 seconds', outcome.err))
-    takes = re.search(r"^first_takes='(.*)'$", read_file(os.path.join(TOP, 'tools/building')).decode(), re.M)[1]
-    wanted = [f'the library is proved and built first, {takes}', '1 of 3: wire proved (0 s)', '2 of 3: hex proved (0 s)', '3 of 3: board proved (0 s)',
+    wanted = ['the library is proved and built first, about five minutes', '1 of 3: wire proved (0 s)', '2 of 3: hex proved (0 s)', '3 of 3: board proved (0 s)',
               'proved and built, after 0 seconds']
     demand((outcome.out, outcome.err.decode(), outcome.ended) == (PONG, ''.join(f'board: {line}\n' for line in wanted), 0), 'the first build',
            f'{short(outcome.out)} {short(outcome.err)} {outcome.ended}')
@@ -354,7 +353,7 @@ def building(bench):
     said(start(board, ['serve', os.path.join(at, 'ping')], env=env), '1 of' if STAND_IN else 'the program was not built', 'a build that fails')
     logs = [read_file(path).decode() for path in (os.path.join(TOP, f'target/{name}.log') for name in ('board', 'feyqoolad')) if os.path.exists(path)]
     demand(STAND_IN or any(re.search(r'^crate \w+: modules .*^logic=proved ', log, re.M | re.S) for log in logs), 'the first build', 'rt tells a proved crate in other words')
-    demand(takes.encode() in read_file(os.path.join(TOP, 'README.md')), 'the first build', 'README tells another duration')
+    demand(b'five minutes' in read_file(os.path.join(TOP, 'README.md')), 'the first build', 'README tells another duration')
     return 3
 
 

@@ -33,16 +33,26 @@ def wrong_programs(crate):
         return Counter(line[2:].split(': ')[0] for line in lines if line.startswith('# '))
 
 
+# The head of an `impl`: the trait, if it is one of a trait, and the type.
+IMPL = re.compile(r'^impl(?:<[^>]*>)? (?:(\w+).* for )?(\w+|\[.*\])')
+
+
 def public_functions(crate):
-    """The public functions of a library, those of a type with its name in front."""
+    """The public functions of a library, those of a type with its name in front. Those of a trait are as public as the type."""
     for path in glob.glob(f'crates/{crate}/src/*.rt'):
-        kind = ''
-        with open(path, encoding='utf-8') as lines:
-            for line in lines:
-                kind = (re.findall(r'^impl (\w+)', line) or [kind if line.startswith((' ', '\n', '}')) else ''])[0]
-                name = re.match(r'( *)pub (?:extern "C" )?fn (\w+)', line)
-                if name:
-                    yield f'{kind}::{name[2]}' if name[1] else name[2]
+        text = text_of(path)
+        private = re.findall(r'^(?:struct|enum) (\w+)', text, re.M)
+        trait = kind = ''
+        for line in text.splitlines():
+            head = IMPL.match(line)
+            if head:
+                trait, kind = head[1], head[2]
+            elif not line.startswith((' ', '}')) and line:
+                trait = kind = ''
+            name = re.match(r'( *)(pub )?(?:extern "C" )?fn (\w+)', line)
+            if name and (name[2] or trait and kind not in private):
+                of = f'<{kind}>' if kind.startswith('[') else kind
+                yield f'{of}::{name[3]}' if name[1] else name[3]
 
 
 def rows():
@@ -111,32 +121,31 @@ def lost_places():
 
 
 def names_in(text):
-    """The names in a text of definitions, without its comments."""
-    return set(re.findall(r'[^\s(){};,.`]+', re.sub(r'--.*', '', text)))
+    """The names in a text of definitions, without its comments, and those at the ends of its paths."""
+    return set(re.findall(r'[^\s(){};,.`]+', re.sub(r'--.*', '', text).replace('::', ' ')))
 
 
 def unclaimed_laws(claimed):
-    """The public laws that no other file cites and docs/CLAIMS.md does not name."""
+    """The public laws that no other file cites, no public signature beside them has and docs/CLAIMS.md does not name."""
     texts = {}
-    for path in glob.glob('crates/*/**/*', recursive=True):
-        if path.endswith(('.rt', '.antt')):
-            with open(path, encoding='utf-8') as file:
-                texts[path] = file.read()
+    for path in files('crates'):
+        texts[path] = text_of(path)
     cited = Counter(name for text in texts.values() for name in names_in(text))
     for path in sorted(glob.glob('crates/*/proofs/*.antt')):
         for indent, name in re.findall(r'^( *)(?:unfoldable |abbrev )?pub (\S+) :', texts[path], re.M):
             defined = re.search(rf'^{indent}{re.escape(name)}(?: .*)?=', texts[path], re.M)
-            if defined and cited[name] == 1 and name not in claimed:
+            signed = any(name in names_in(sign) for _, sign in re.findall(r'^( *)(?:unfoldable |abbrev )?pub \S+ (.*\n(?:\1 .*\n)*)', texts[path], re.M))
+            if defined and cited[name] == 1 and name not in claimed and not signed:
                 yield f'{path}: no other file cites {name}, and no claim names it'
 
 
+def files(folder):
+    """The files of code and of proofs below a folder. What is built has copies of them, which tell nothing."""
+    return [path for path in glob.glob(f'{folder}/**/*', recursive=True) if path.endswith(('.rt', '.antt')) and '/out/' not in path]
+
+
 def source(folder):
-    text = ''
-    for path in glob.glob(f'{folder}/**/*', recursive=True):
-        if path.endswith(('.rt', '.antt')):
-            with open(path, encoding='utf-8') as file:
-                text += file.read()
-    return text
+    return ''.join(map(text_of, files(folder)))
 
 
 def main():
@@ -153,6 +162,8 @@ def main():
     faults += lost_places()
     faults += unclaimed_laws(names_in(text))
     names = set(crates())
+    definitions = source('crates')
+    functions = {f for crate in crates() for f in public_functions(crate)}
     for crate in crates():
         faults += [f'{crate}, {f}: fewer than two wrong programs' for f in public_functions(crate) if wrong_programs(crate)[f] < 2]
     for row in text[:at].splitlines():
@@ -165,7 +176,11 @@ def main():
             call = re.fullmatch(r'([a-z_]+)::(?:[a-z_]+::)?([a-z_]+)', word)
             if call and call[1] in names and not re.search(rf'\bfn {call[2]}\b', source(f'crates/{call[1]}/src')):
                 faults.append(f'no function {word}')
-    definitions = source('crates')
+            method = re.fullmatch(r'(?:[a-z_]+::)?((?:[A-Z]\w*|u\d+)::[a-z_]+)', word)
+            if method and method[1] not in functions:
+                faults.append(f'no function {word}')
+            if word.startswith('impl ') and f'\n{word} {{\n' not in definitions:
+                faults.append(f'no {word}')
     for word in sorted(set(re.findall(r'`([a-zA-Z][a-zA-Z0-9-]*)`', text[:at]))):
         if not re.search(rf'(?<![\w-]){re.escape(word)}(?![\w-])', definitions) and word not in names:
             faults.append(f'no name {word}')

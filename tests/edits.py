@@ -62,6 +62,14 @@ def programs(path):
         yield Program(name[1] if name else path.split('/')[-1].rsplit('.', 1)[0], part)
 
 
+def impl_of(text):
+    """The folder of the functions of an `impl` that begins with this line: the type's name, or for one of a trait the type, the trait and its argument in one word."""
+    start = re.match(r'impl(?:<[^>]*>)? (\w+)(?:<(\w*)[^>]*>)?(?: for (\w+))?', text)
+    if not start or not start[3]:
+        return start and start[1]
+    return ''.join(word[:1].upper() + word[1:] for word in (start[3], start[1], start[2] or ''))
+
+
 def function_at(crate, module, line):
     """The function that has the line of a source file, or the attributes that stand there, as the folder of its proof."""
     kind = name = None
@@ -75,7 +83,7 @@ def function_at(crate, module, line):
             name = f'{kind}/{start[2]}' if start[1] else start[2]
         elif re.match(r'[a-z]', text):
             name = None
-            kind = (re.findall(r'^impl(?:<[^>]*>)? (\w+)', text) or [None])[0]
+            kind = impl_of(text)
     return name and (name if module in ('lib', 'main') else f'{module}/{name}')
 
 

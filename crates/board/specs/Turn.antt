@@ -11,8 +11,7 @@ use Rattle.files.specs.declared.NextStore.TheVariants as store
 use Rattle.files.specs.Window.{Lies, arrived, Brings}
 use Rattle.files.specs.Serving.{Ready, Runs, FileGives, Ahead}
 use Rattle.files.specs.Loading.{longest_stored, LoadsNone, Loadings, LoadAhead}
-use Rattle.board.specs.declared.file.Got.{Got}
-use Rattle.board.specs.declared.file.Got.TheVariants as got
+use Rattle.std.specs.Prelude.{Result, Ok, Err}
 use Rattle.board.specs.declared.file.Turned.{Turned}
 use Rattle.board.specs.declared.file.Turned.TheVariants as turned
 
@@ -22,9 +21,9 @@ pub record Chunk (buf : List ℕ) (s s' : Window) (buf' : List ℕ) : Type 0 whe
   pub brings : Brings buf s.held chunk buf'
   pub next : s' ≡ arrived s (length chunk)
 
-abbrev pub ReadsOn : List ℕ → Window → Got → List ℕ → Type 0
-ReadsOn buf s (got.More s') buf' = Chunk buf s s' buf'
-ReadsOn buf s (got.Failed e) buf' = Unit {0}
+abbrev pub ReadsOn : {E : Type 0} → List ℕ → Window → Result Window E → List ℕ → Type 0
+ReadsOn buf s (Ok s') buf' = Chunk buf s s' buf'
+ReadsOn buf s (Err e) buf' = Unit {0}
 
 -- A turn of serving is a step of a run, behind which all is ready for the next, or its end. No turn is refused, and no window lies outside its buffer.
 abbrev pub Serves : List ℕ → List ℕ → Window → Turned → List ℕ → List ℕ → List ℕ → Type 0

@@ -4,12 +4,8 @@ ghost use Rattle.std.specs.Prelude.{◌≡◌, ◌≤◌, length};
 use std::env::FillError;
 use std::rt::Env;
 
-// 4,096 zeros, which hold any path. The `ensures` gives only the length, which lending the array as a slice needs.
-pub(crate) fn buffer() -> [u8; 4096]
-    ensures { 4096 ≡ length result }
-{
-    [0; 4096]
-}
+// The bytes of room for a word, which holds any path.
+pub(crate) const WORD: usize = 4096;
 
 // Whether there is an argument i.
 fn is_given(env: &impl Env, i: usize) -> bool {

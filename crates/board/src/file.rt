@@ -9,13 +9,6 @@ use std::fs::File;
 use std::io::{Error, ErrorKind, Read, Write};
 use std::{fs, io, str};
 
-// What reading on gives: the window after it, or that it failed, and why.
-#[derive(Clone, Copy)]
-pub(crate) enum Got {
-    More(Window),
-    Failed(Error),
-}
-
 // How a turn ends: there is a next one; all is done; the file is not good; or a system call failed, and that was said.
 #[derive(Clone, Copy)]
 pub(crate) enum Turned {
@@ -25,43 +18,31 @@ pub(crate) enum Turned {
     Failed,
 }
 
-// 65,536 zeros, for a loop that moves much data. The `ensures` gives only the length, which lending the array as a slice needs.
-pub(crate) fn large_buffer() -> [u8; 65536]
-    ensures { 65536 ≡ length result }
-{
-    [0; 65536]
-}
+// The bytes of a buffer for a loop that moves much data.
+pub(crate) const BUFFER: usize = 65_536;
 
 // len bytes from start on, as far as they are there.
 pub(crate) fn part(s: &[u8], start: usize, len: usize) -> &[u8]
     ensures { result.now ≡ wire.part s.now start len }
 {
-    field::part(
-        s,
-        Span {
-            start: start,
-            len: len,
-        },
-    )
+    field::part(s, Span { start, len })
 }
 
 // Writes the first n bytes of a buffer.
+// What is written, here and in `say`, need not be text: names of files are bytes.
 pub(crate) fn write(to: &mut impl Write, buf: &[u8], n: usize) -> io::Result<()> {
     to.write_all(part(buf, 0, n))
 }
 
-// Reads on behind the bytes in a window.
-pub(crate) fn read_on(from: &mut impl Read, buf: &mut [u8], s: Window) -> Got
+// Reads on behind the bytes in a window, and answers the window after it.
+pub(crate) fn read_on(from: &mut impl Read, buf: &mut [u8], s: Window) -> io::Result<Window>
     ensures { ReadsOn buf.old s result buf.new }
 {
-    let held = s.held;
-    if buf.len() < held {
-        return Got::Failed(Error::from(ErrorKind::InvalidInput));
+    if buf.len() < s.held {
+        return Err(Error::from(ErrorKind::InvalidInput));
     }
-    match from.read(&mut buf[held..]) {
-        Ok(n) => Got::More(files::after_read(s, n)),
-        Err(e) => Got::Failed(e),
-    }
+    let n = from.read(&mut buf[s.held..])?;
+    Ok(files::after_read(s, n))
 }
 
 // The text of a name: the library takes no name that is none.

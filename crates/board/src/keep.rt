@@ -3,7 +3,8 @@ ghost use Rattle.std.specs.Prelude.{length, ◌≡◌, true};
 ghost use Rattle.table.specs.Memory.{size, Sound};
 ghost use Rattle.board.specs.Turn.{LoadReady, Loads, Builds, Stores};
 
-use crate::file::{Got, Turned};
+use crate::file::{BUFFER, Turned};
+use crate::say::Failure;
 use crate::{file, say};
 use field::put;
 use files::{NextLoad, NextStore, Window};
@@ -25,18 +26,14 @@ fn turn(
     requires { LoadReady input.old s }
     ensures { Loads input.old t.old s result input.new t.new }
 {
-    let n = files::load_next(input, t, s);
-    match n {
-        NextLoad::Read(after) => {
-            let g = file::read_on(stored, input, after);
-            match g {
-                Got::More(next) => Turned::On(next),
-                Got::Failed(e) => {
-                    say::no_table(rt, name, e);
-                    Turned::Failed
-                }
+    match files::load_next(input, t, s) {
+        NextLoad::Read(after) => match file::read_on(stored, input, after) {
+            Ok(next) => Turned::On(next),
+            Err(e) => {
+                say::failed(rt, Failure::NoTable, name, e);
+                Turned::Failed
             }
-        }
+        },
         NextLoad::Done => Turned::Done,
         NextLoad::Broken(line) => Turned::Broken(line),
         NextLoad::Refused(_) => Turned::Broken(0),
@@ -58,20 +55,18 @@ fn is_loaded(rt: &HostRuntime, r: Turned, name: &[u8]) -> bool
     }
 }
 
-// Builds the table of a file, and answers how that ends. The turns are counted down as in serving.
+// Builds the table of a file, and answers how that ends. The turns are counted as in serving.
 fn build(rt: &HostRuntime, stored: &mut File, name: &[u8], t: &mut [u8]) -> Turned
     ensures { Builds t.old result t.new }
 {
-    let mut input = file::large_buffer();
+    let mut input = [0; BUFFER];
     let mut s = files::start();
-    let mut turns = u64::MAX;
-    while turns > 0 {
+    for _ in 0..u64::MAX {
         let r = turn(rt, stored, name, &mut input, t, s);
         let Turned::On(next) = r else {
             return r;
         };
         s = next;
-        turns -= 1;
     }
     Turned::Failed
 }
@@ -88,6 +83,7 @@ fn load_open(rt: &HostRuntime, stored: File, path: &[u8], t: &mut [u8]) -> bool
 }
 
 // Loads the table of a file that is to be there. It answers whether there is a table.
+// This and `load_file` share `load_open`: to one of them a file that is not there is a failure, and to the other a fresh table.
 pub(crate) fn load_stored(rt: &HostRuntime, path: &[u8], t: &mut [u8]) -> bool
     requires { length t.old ≡ size }
     ensures { result ≡ true → Sound t.new }
@@ -95,7 +91,7 @@ pub(crate) fn load_stored(rt: &HostRuntime, path: &[u8], t: &mut [u8]) -> bool
     match file::open_read(rt, path) {
         Ok(stored) => load_open(rt, stored, path, t),
         Err(e) => {
-            say::no_stored(rt, path, e);
+            say::failed(rt, Failure::NoStored, path, e);
             false
         }
     }
@@ -110,21 +106,16 @@ pub(crate) fn load_file(rt: &HostRuntime, path: &[u8], t: &mut [u8]) -> bool
         Ok(stored) => load_open(rt, stored, path, t),
         Err(e) => {
             if e.kind() == ErrorKind::NotFound {
-                table::make(t);
-                return true;
+                return table::make(t).is_ok();
             }
-            say::no_table(rt, path, e);
+            say::failed(rt, Failure::NoTable, path, e);
             false
         }
     }
 }
 
 // Room for the name of a file beside another: longer than any name that the system takes.
-pub(crate) fn room() -> [u8; 4160]
-    ensures { 4160 ≡ length result }
-{
-    [0; 4160]
-}
+pub(crate) const ROOM: usize = 4160;
 
 // The name of a file beside a table's that is to take its place: the table's, `.new-` and sixteen random digits.
 pub(crate) fn beside(rt: &impl RandomSource, path: &[u8], name: &mut [u8]) -> usize {
@@ -141,7 +132,7 @@ pub(crate) fn make_file(rt: &HostRuntime, name: &[u8]) -> Option<File> {
     let out = match file::create(rt, name) {
         Ok(out) => out,
         Err(e) => {
-            say::no_room(rt, name, e);
+            say::failed(rt, Failure::NoRoom, name, e);
             return None;
         }
     };
@@ -164,17 +155,14 @@ fn is_stored(r: NextStore) -> bool
     requires { Stores r }
     ensures { result ≡ true → r ≡ NextStore.Done }
 {
-    match r {
-        NextStore::Done => true,
-        _ => false,
-    }
+    matches!(r, NextStore::Done)
 }
 
 // Writes the lines of the table, as many at a time as there is room for, and answers whether they are all written.
 fn write_lines(out: &mut File, t: &[u8]) -> io::Result<bool>
     requires { Sound t.now }
 {
-    let mut lines = file::large_buffer();
+    let mut lines = [0; BUFFER];
     let mut line = 0;
     loop {
         let r = files::store_next(t, &mut lines, line);
@@ -204,7 +192,7 @@ pub(crate) fn store_file(rt: &HostRuntime, out: File, t: &[u8], name: &[u8], pat
     requires { Sound t.now }
 {
     if let Err(e) = store_lines(rt, out, t, name, path) {
-        say::not_stored(rt, path, e);
+        say::failed(rt, Failure::NotStored, path, e);
         let _ = file::unlink(rt, name);
     }
 }

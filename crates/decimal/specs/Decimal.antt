@@ -1,5 +1,6 @@
 -- The shortest decimal of a number as ASCII digits, highest first, and the format that sends it.
 use Rattle.std.specs.Prelude.{List, [], ◌∷◌, ◌++◌, Bool, true, false, cond, ◌&&◌, ℕ, zero, suc, ◌+◌, ◌-◌, ◌*◌, ◌/◌, ◌%◌, leb, ltb}
+use Rattle.std.specs.List.{list_all}
 use Rattle.wire.specs.Codec.{Codec, guard, as_type, all}
 use Rattle.wire.specs.Field.{limited}
 
@@ -24,8 +25,7 @@ unfoldable pub is_digit : ℕ → Bool
 is_digit b = leb 0x30 b && leb b 0x39
 
 unfoldable pub are_digits : List ℕ → Bool
-are_digits [] = true
-are_digits (d ∷ ds) = is_digit d && are_digits ds
+are_digits ds = list_all is_digit ds
 
 -- at least one digit, and no zero in front of another
 unfoldable pub is_shortest : List ℕ → Bool

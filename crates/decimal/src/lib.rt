@@ -3,108 +3,93 @@
 ghost use Rattle.std.specs.Prelude.{◌≡◌, true, ◌+◌, ◌≤◌, length};
 ghost use Rattle.wire.specs.Codec.{read_at};
 ghost use Rattle.wire.specs.Write.{put_at};
-ghost use Rattle.field.specs.FieldRead.{as_number};
+ghost use Rattle.field.specs.FieldRead.{as_read};
 ghost use Rattle.decimal.specs.Decimal.{decimal, digits_of, value_of, is_digit, are_digits, is_shortest};
 
-use field::{Cursor, NumberRead, SpanRead};
+use field::{Cursor, Read, Refusal};
 
 // The most digits that a decimal has, and the largest vLong.
 const DIGITS: u64 = 19;
 
 const LARGEST: u64 = 0x7fff_ffff_ffff_ffff;
 
-fn wide(b: u8) -> u64
-    ensures { result ≡ b }
-{
-    b as u64
-}
-
+// The digits of a decimal: `hexadecimal` has others. By their range, which a wrong program of must-fail changes.
+#[tactic(auto, unfolding(crate::specs::Decimal::is_digit))]
 fn is_digit(b: u8) -> bool
     ensures { result ≡ is_digit b }
 {
-    0x30 <= b && b <= 0x39
+    matches!(b, b'0'..=b'9')
 }
 
 // Is each byte a digit?
+#[tactic(auto, unfolding(crate::specs::Decimal::are_digits))]
 fn are_digits(s: &[u8]) -> bool
     ensures { result ≡ are_digits s.now }
 {
-    let mut good = true;
-    let mut i = 0;
-    while i < s.len() {
-        good = good & is_digit(s[i]);
-        i += 1;
-    }
-    good
+    s.iter().all(|b| is_digit(*b))
 }
 
 // Is there a digit, and no zero in front of another?
+#[tactic(auto, unfolding(crate::specs::Decimal::is_shortest))]
 fn is_shortest(s: &[u8]) -> bool
     ensures { result ≡ is_shortest s.now }
 {
-    if s.len() == 0 {
-        return false;
+    match s {
+        [] => false,
+        [_] => true,
+        [first, ..] => b'0' < *first,
     }
-    if s.len() == 1 {
-        return true;
-    }
-    0x30 < s[0]
 }
 
 // The number of digits that are at most 19: it fits.
+// The digits are bytes in lent room, here, in `is_shortest` and in `put_decimal`: `parse` takes a sign too, and `format!` allocates.
 fn value(s: &[u8]) -> u64
     requires s_value { are_digits s.now ≡ true }
     requires s_len_bound { length s.now ≤ 19 }
     ensures { result ≡ value_of s.now }
 {
     let mut v: u64 = 0;
-    let mut i = 0;
-    while i < s.len() {
-        v = v * 10 + (wide(s[i]) - 0x30);
-        i += 1;
+    for b in s {
+        v = v * 10 + u64::from(*b - b'0');
     }
     v
 }
 
 // A length of at most 19, and so many digits, which are judged when all are there.
-pub fn read_decimal(s: &[u8], c: Cursor) -> NumberRead
-    ensures { as_number result ≡ read_at decimal s.now c.at }
+pub fn read_decimal(s: &[u8], c: Cursor) -> Read<u64>
+    ensures { as_read result ≡ read_at decimal s.now c.at }
 {
-    let r = field::read_limited(s, c, DIGITS);
-    let SpanRead::Whole(p, next) = r else {
-        return r.length();
+    let Some((p, next)) = field::read_limited(s, c, DIGITS)? else {
+        return Ok(None);
     };
     let d = field::part(s, p);
-    if !are_digits(d) {
-        return NumberRead::Refused(8);
-    }
-    if !is_shortest(d) {
-        return NumberRead::Refused(8);
+    if !are_digits(d) || !is_shortest(d) {
+        return Err(Refusal::Field);
     }
     let v = value(d);
     if LARGEST < v {
-        return NumberRead::Refused(8);
+        return Err(Refusal::Field);
     }
-    NumberRead::Whole(v, next)
+    Ok(Some((v, next)))
 }
 
 // How many bytes a decimal takes: its length's one, and its digits.
+// The loop of `field::put::number_len` is alike, by another base and to another definition.
 pub fn decimal_len(v: u64) -> usize
     ensures { (result ≡ length (decimal.enc v)) × (result ≡ length (digits_of v) + 1) × (result ≤ 20) }
 {
-    let mut n: usize = 1;
     let mut x = v;
-    while 10 <= x {
-        if n == 19 {
+    for n in 1..19 {
+        if x < 10 {
             return n + 1;
         }
-        x = x / 10;
-        n = n + 1;
+        x /= 10;
     }
-    n + 1
+    20
 }
 
 // Writes a decimal; the digits from the last to the first.
+// A length and a digit are below 256: `try_from` would have an answer that cannot be.
 pub fn put_decimal(out: &mut [u8], at: usize, v: u64) -> usize
     ensures { (result, out.new) ≡ put_at decimal v at out.old }
 {
@@ -120,11 +105,9 @@ pub fn put_decimal(out: &mut [u8], at: usize, v: u64) -> usize
     }
     out[at] = (size - 1) as u8;
     let mut x = v;
-    let mut i = size - 1;
-    while 0 < i {
-        i = i - 1;
-        out[at + 1 + i] = (0x30 + x % 10) as u8;
-        x = x / 10;
+    for i in (0..size - 1).rev() {
+        out[at + 1 + i] = b'0' + (x % 10) as u8;
+        x /= 10;
     }
     at + size
 }

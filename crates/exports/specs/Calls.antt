@@ -1,18 +1,15 @@
 -- What the exported functions on keys, tables and calls tell.
-use Rattle.std.specs.Prelude.{◌≡◌, List, [], ◌∷◌, Bool, true, false, ℕ}
+use Rattle.std.specs.Prelude.{◌≡◌, List, [], ◌∷◌, Bool, true, false, ℕ, Result, Ok, Err}
+use Rattle.field.specs.declared.refusals.Refusal.{Refusal}
+use Rattle.field.specs.Refusal.{number_of}
 use Rattle.wire.specs.Write.{Sent}
 use Rattle.map.specs.Step.{Context}
 use Rattle.table.specs.declared.Compared.{Compared}
-use Rattle.table.specs.declared.Outcome.{Outcome}
-use Rattle.table.specs.declared.Outcome.TheVariants as o
 use Rattle.service.specs.Stream.{Call, Done, Serves}
 use Rattle.service.specs.Many.{Total, Streams}
 use Rattle.service.specs.Shares.{verdict_code}
-use Rattle.server.specs.declared.Shared.{Shared}
-use Rattle.server.specs.declared.Shared.TheVariants as sh
+use Rattle.server.specs.declared.Fed.{Fed}
 use Rattle.server.specs.Gives.{ServesMany}
-use Rattle.server.specs.declared.Served.{Served}
-use Rattle.server.specs.declared.Served.TheVariants as s
 use Rattle.server.specs.Lines.{ServesLines}
 use Rattle.stored.specs.File.{form1}
 use Rattle.stored.specs.StoreLoad.{Storing, Loaded}
@@ -44,15 +41,16 @@ pub record TellsTotal (c : Context) (input t lent out t' old new : List ℕ) (n 
   pub told : new ≡ tell (total.taken ∷ total.size ∷ total.calls ∷ []) old
   pub code : n ≡ verdict_code total.verdict
 
-abbrev pub shared_code : Shared → ℕ
-shared_code (sh.Done n) = 256
-shared_code (sh.Refused k) = k
+-- something is done, or refused by a number
+abbrev pub done_code : {A : Type 0} → Result A Refusal → ℕ
+done_code (Ok a) = 256
+done_code (Err k) = number_of k
 
 -- the same of the streams of several connections, whose numbers `ServesMany` tells
 pub record TellsMany (c : Context) (row ends t lent old out t' new : List ℕ) (n : ℕ) : Type 0 where
-  pub answer : Shared
+  pub answer : Result ℕ Refusal
   pub serves : ServesMany c row ends t lent old answer out t' new
-  pub code : n ≡ shared_code answer
+  pub code : n ≡ done_code answer
 
 abbrev pub bit : Bool → ℕ
 bit true = 1
@@ -62,21 +60,17 @@ bit false = 0
 abbrev pub keys_compared : Compared → List ℕ
 keys_compared c = bit c.equal ∷ c.pairs ∷ []
 
-abbrev pub served_code : Served → ℕ
-served_code (s.Fed f) = 256
-served_code (s.Refused k) = k
-
 -- 1 is told where the rest of a line is still to be passed over; where nothing was done, nothing is told
-abbrev pub served_told : Served → List ℕ → List ℕ
-served_told (s.Fed f) old = tell (f.taken ∷ f.size ∷ bit f.passing ∷ []) old
-served_told (s.Refused k) old = old
+abbrev pub served_told : Result Fed Refusal → List ℕ → List ℕ
+served_told (Ok f) old = tell (f.taken ∷ f.size ∷ bit f.passing ∷ []) old
+served_told (Err k) old = old
 
 -- the same of a chunk of a file of lines
 pub record TellsServed (last pass : Bool) (input t lent out t' old new : List ℕ) (n : ℕ) : Type 0 where
-  pub answer : Served
+  pub answer : Result Fed Refusal
   pub serves : ServesLines last pass input t lent answer out t'
   pub told : new ≡ served_told answer old
-  pub code : n ≡ served_code answer
+  pub code : n ≡ done_code answer
 
 -- the stored file in a list lent, and its code
 pub record TellsStored (t old new : List ℕ) (n : ℕ) : Type 0 where
@@ -84,15 +78,11 @@ pub record TellsStored (t old new : List ℕ) (n : ℕ) : Type 0 where
   pub storing : Storing form1 t old sent new
   pub code : n ≡ sent_code sent
 
-abbrev pub outcome_code : Outcome → ℕ
-outcome_code o.Done = 256
-outcome_code (o.Refused k) = k
-
 -- the table that a stored file was loaded to, and its code
 pub record TellsLoaded (file t t' : List ℕ) (n : ℕ) : Type 0 where
-  pub outcome : Outcome
+  pub outcome : Result (Unit {0}) Refusal
   pub loaded : Loaded form1 file t outcome t'
-  pub code : n ≡ outcome_code outcome
+  pub code : n ≡ done_code outcome
 
 -- the keys listed in a list lent, and the code
 pub record TellsListed (t name k : List ℕ) (most : ℕ) (old new : List ℕ) (n : ℕ) : Type 0 where

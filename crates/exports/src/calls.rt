@@ -13,72 +13,47 @@ ghost use Rattle.exports.specs.Codes.{tell, told};
 ghost use Rattle.exports.specs.Messages.{whole_request, whole_reply, whole_entry, entry_from};
 
 use crate::tell;
-use field::Cursor;
-use listing::EntryRead;
+use field::{Cursor, Refusal};
 use message::Asked;
-use reply_reader::ReplyRead;
-use request_reader::RequestRead;
-use server::Served;
 
 pub(crate) fn read_request(input: &[u8], answer: &mut [u64]) -> u64
     ensures { (result, answer.new) ≡ told whole_request (mapped request_at (request.dec input.now)) answer.old }
 {
-    let a = request_reader::read_request(input);
-    match a {
-        RequestRead::Whole(q, n) => {
+    match request_reader::read_request(input) {
+        Ok(Some((q, n))) => {
             tell::request(answer, q, n);
             256 + n as u64
         }
-        RequestRead::More => 0,
-        RequestRead::Refused(k) => k as u64,
+        Ok(None) => 0,
+        Err(refusal) => u16::from(refusal) as u64,
     }
 }
 
 pub(crate) fn read_reply(input: &[u8], version: u8, op: u8, flag: bool, answer: &mut [u64]) -> u64
     ensures { (result, answer.new) ≡ told whole_reply (mapped reply_at ((reply (asked version op flag)).dec input.now)) answer.old }
 {
-    let asked = Asked {
-        version: version,
-        op: op,
-        flag: flag,
-    };
-    let a = reply_reader::read_reply(input, asked);
-    match a {
-        ReplyRead::Whole(q, n) => {
-            tell::reply(answer, q, n);
+    match reply_reader::read_reply(input, Asked { version, op, flag }) {
+        Ok(Some((reply, n))) => {
+            tell::reply(answer, reply, n);
             256 + n as u64
         }
-        ReplyRead::Statistics(h, x, n) => {
-            tell::statistics(answer, h, x, n);
-            256 + n as u64
-        }
-        ReplyRead::Entries(h, e, n) => {
-            tell::entries(answer, h, e, n);
-            256 + n as u64
-        }
-        ReplyRead::More => 0,
-        ReplyRead::Refused(k) => k as u64,
+        Ok(None) => 0,
+        Err(refusal) => u16::from(refusal) as u64,
     }
 }
 
 pub(crate) fn next_entry(input: &[u8], at: u64, values: bool, answer: &mut [u64]) -> u64
     ensures { (result, answer.new) ≡ told whole_entry (entry_from values input.now at) answer.old }
 {
-    let from = at as usize;
-    let a = listing::next_entry(input, Cursor { at: from }, values);
-    match a {
-        EntryRead::Whole(key, value, c) => {
-            let n = c.at - from;
-            tell::entry(answer, key, value, n);
+    let at = at as usize;
+    match listing::next_entry(input, Cursor { at }, values) {
+        Ok(Some((entry, end))) => {
+            let n = end.at - at;
+            tell::entry(answer, entry, n);
             256 + n as u64
         }
-        EntryRead::End(c) => {
-            let n = c.at - from;
-            tell::end(answer, n);
-            256 + n as u64
-        }
-        EntryRead::More => 0,
-        EntryRead::Refused(k) => k as u64,
+        Ok(None) => 0,
+        Err(refusal) => u16::from(refusal) as u64,
     }
 }
 
@@ -86,10 +61,10 @@ pub(crate) fn same_key(a: &[u8], b: &[u8], answer: &mut [u64])
     ensures { answer.new ≡ tell (keys_compared (compared a.now b.now)) answer.old }
 {
     let c = table::same_key(a, b);
-    let e = tell::bit(c.equal);
-    tell::numbers(answer, &[e, c.pairs as u64]);
+    tell::numbers(answer, &[u64::from(c.equal), c.pairs as u64]);
 }
 
+// This and `serve_stream` tell the numbers of another answer each, with a contract of its own.
 pub(crate) fn serve(
     input: &[u8],
     table: &mut [u8],
@@ -101,8 +76,7 @@ pub(crate) fn serve(
 {
     let a = server::serve(input, table, second, reply);
     tell::numbers(answer, &[a.taken as u64, a.size as u64]);
-    let v = a.verdict;
-    server::verdict_code(v)
+    u64::from(a.verdict)
 }
 
 pub(crate) fn serve_stream(
@@ -116,8 +90,7 @@ pub(crate) fn serve_stream(
 {
     let a = server::serve_stream(input, table, second, reply);
     tell::numbers(answer, &[a.taken as u64, a.size as u64, a.calls as u64]);
-    let v = a.verdict;
-    server::verdict_code(v)
+    u64::from(a.verdict)
 }
 
 pub(crate) fn serve_lines(
@@ -130,13 +103,12 @@ pub(crate) fn serve_lines(
 ) -> u64
     ensures { TellsServed last passing input.now table.old out.old out.new table.new answer.old answer.new result }
 {
-    let r = server::serve_lines(input, table, out, passing, last);
-    match r {
-        Served::Fed(a) => {
-            let p = tell::bit(a.passing);
-            tell::numbers(answer, &[a.taken as u64, a.size as u64, p]);
+    match server::serve_lines(input, table, out, passing, last) {
+        Ok(a) => {
+            let passing = u64::from(a.passing);
+            tell::numbers(answer, &[a.taken as u64, a.size as u64, passing]);
             256
         }
-        Served::Refused(k) => k as u64,
+        Err(refusal) => u16::from(refusal) as u64,
     }
 }

@@ -1,30 +1,20 @@
 // The numbers of a message that the caller gives.
-ghost use Rattle.std.specs.Prelude.{◌≡◌, length, eqb};
+ghost use Rattle.std.specs.Prelude.{◌≡◌, eqb};
 ghost use Rattle.message.specs.Operation.{code_of};
 ghost use Rattle.message.specs.Reply.{bulk_operation};
-ghost use Rattle.statistics.specs.Statistics.{list_of};
 ghost use Rattle.exports.specs.Messages.{is_head, head_with, HeadFits, is_reply_head, reply_head_with, ReplyHeadFits};
 
 use field::EntryVersion;
 use message::{Head, Operation, ReplyHead};
-use statistics::Statistics;
 
 // Are they those of a request, but for the operation?
 pub(crate) fn is_head(ns: &[u64]) -> bool
     ensures { result ≡ is_head ns.now }
 {
-    if ns.len() < 10 {
-        return false;
-    }
-    if 255 < ns[1] {
-        return false;
-    }
-    if 255 < ns[2] {
-        return false;
-    }
-    ns[4] <= 255
+    ns.len() >= 10 && ns[1] <= 255 && ns[2] <= 255 && ns[4] <= 255
 }
 
+// Those that become a byte are 255 at the most, here, in `reply_head` and in `fq_write_request`: `try_from` would have an answer that cannot be.
 pub(crate) fn head(ns: &[u64], op: Operation) -> Head
     requires { HeadFits ns.now }
     ensures { result ≡ head_with ns.now op }
@@ -32,7 +22,7 @@ pub(crate) fn head(ns: &[u64], op: Operation) -> Head
     Head {
         id: ns[0],
         version: ns[1] as u8,
-        op: op,
+        op,
         flags: ns[3],
         intelligence: ns[4] as u8,
         topology: ns[5],
@@ -47,13 +37,7 @@ pub(crate) fn head(ns: &[u64], op: Operation) -> Head
 pub(crate) fn is_reply_head(ns: &[u64]) -> bool
     ensures { result ≡ is_reply_head ns.now }
 {
-    if ns.len() < 4 {
-        return false;
-    }
-    if 255 < ns[1] {
-        return false;
-    }
-    ns[2] <= 255
+    ns.len() >= 4 && ns[1] <= 255 && ns[2] <= 255
 }
 
 pub(crate) fn reply_head(ns: &[u64]) -> ReplyHead
@@ -68,30 +52,9 @@ pub(crate) fn reply_head(ns: &[u64]) -> ReplyHead
     }
 }
 
-// The nine statistics.
-pub(crate) fn statistics(ns: &[u64]) -> Statistics
-    requires { length ns.now ≡ 9 }
-    ensures { list_of result ≡ ns.now }
-{
-    Statistics {
-        time: ns[0],
-        current: ns[1],
-        total: ns[2],
-        stores: ns[3],
-        retrievals: ns[4],
-        hits: ns[5],
-        misses: ns[6],
-        removehits: ns[7],
-        removemisses: ns[8],
-    }
-}
-
 // The code of bulkGet, or of bulkGetKeys where values are not asked for.
 pub(crate) fn bulk_code(values: bool) -> u8
     ensures { (result ≡ code_of (bulk_operation values)) × (eqb result 0x19 ≡ values) }
 {
-    if values {
-        return 0x19;
-    }
-    0x1d
+    if values { 0x19 } else { 0x1d }
 }

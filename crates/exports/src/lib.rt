@@ -10,6 +10,7 @@
 // fq_serve_lines: 256 for done, or 12, 13; fq_store: 256 and the count of the file's bytes, or 13, 12; fq_load: 256 for done, or 17;
 // fq_list_keys: 256 and the count of the bytes written, or 13, 9, 12.
 // Numbers are told at the front of the list `answer`. A list that has no room for them refuses the call before anything is done: 12.
+// Callers in C have no other types: what is given, told and answered are numbers, here and in the modules, and each function has a name and a room of its own.
 mod calls;
 mod given;
 mod tell;
@@ -20,17 +21,19 @@ ghost use Rattle.message.specs.Request.{request};
 ghost use Rattle.message.specs.Reply.{asked, reply};
 ghost use Rattle.request_reader.specs.RequestRead.{request_at};
 ghost use Rattle.reply_reader.specs.ReplyRead.{reply_at};
+ghost use Rattle.field.specs.declared.refusals.Refusal.TheVariants as refusal;
 ghost use Rattle.table.specs.Memory.{Sound};
 ghost use Rattle.table.specs.Compare.{compared};
 ghost use Rattle.table.specs.Found.{Tells as Says};
 ghost use Rattle.table.specs.Change.{Left, outcome_of, made};
 ghost use Rattle.map.specs.Step.{context_of};
 ghost use Rattle.service.specs.Many as many;
-ghost use Rattle.exports.specs.Calls.{TellsDone, TellsTotal, TellsMany, TellsServed, TellsStored, TellsLoaded, TellsListed, outcome_code, keys_compared, Untold};
+ghost use Rattle.exports.specs.Calls.{TellsDone, TellsTotal, TellsMany, TellsServed, TellsStored, TellsLoaded, TellsListed, done_code, keys_compared, Untold};
 ghost use Rattle.exports.specs.Codes.{coded, tell, told, in_room, IfRoom};
 ghost use Rattle.exports.specs.Messages.{whole_request, whole_reply, whole_entry, entry_from, send_request, send_reply, send_statistics, send_entries};
 
-use message::{Asked, Found};
+use message::{Asked, Operation};
+use statistics::Statistics;
 
 // How many numbers are told: of a request and of a reply that was read, of an entry of a bulk reply, of two keys, of a call, of calls one after the
 // other, and of lines.
@@ -99,8 +102,7 @@ pub extern "C" fn fq_write_request(
     if !given::is_head(numbers) {
         return 16;
     }
-    let found = message::find(numbers[2] as u8);
-    let Found::Known(op) = found else {
+    let Ok(op) = Operation::try_from(numbers[2] as u8) else {
         return 16;
     };
     let h = given::head(numbers, op);
@@ -124,11 +126,7 @@ pub extern "C" fn fq_write_reply(
         return 16;
     }
     let h = given::reply_head(numbers);
-    let a = Asked {
-        version: version,
-        op: op,
-        flag: flag,
-    };
+    let a = Asked { version, op, flag };
     tell::sent(reply_writer::write_reply(out, a, h, value, text))
 }
 
@@ -157,10 +155,9 @@ pub extern "C" fn fq_write_entries(
 ) -> u64
     ensures { (result, out.new) ≡ coded (send_entries version values id bytes.now numbers.now out.old) }
 {
-    let op = given::bulk_code(values);
     let a = Asked {
-        version: version,
-        op: op,
+        version,
+        op: given::bulk_code(values),
         flag: false,
     };
     tell::sent(reply_writer::write_entries(out, a, id, bytes, numbers))
@@ -184,16 +181,15 @@ pub extern "C" fn fq_same_key(a: &[u8], b: &[u8], answer: &mut [u64]) -> u64
 pub extern "C" fn fq_write_statistics(out: &mut [u8], version: u8, id: u64, numbers: &[u64]) -> u64
     ensures { (result, out.new) ≡ coded (send_statistics version id numbers.now out.old) }
 {
-    if numbers.len() != 9 {
+    let Ok(nine) = <[u64; Statistics::COUNT]>::try_from(numbers) else {
         return 16;
-    }
-    let x = given::statistics(numbers);
+    };
     let a = Asked {
-        version: version,
+        version,
         op: 0x15,
         flag: false,
     };
-    tell::sent(reply_writer::write_statistics(out, a, id, x))
+    tell::sent(reply_writer::write_statistics(out, a, id, nine.into()))
 }
 
 // Whether the memory is a sound table.
@@ -207,9 +203,9 @@ pub extern "C" fn fq_is_table(table: &[u8]) -> bool
 // Makes the memory a fresh table.
 #[unsafe(no_mangle)]
 pub extern "C" fn fq_make(table: &mut [u8]) -> u64
-    ensures { (result ≡ outcome_code (outcome_of 13 (made table.old))) × Left table.old (made table.old) table.new }
+    ensures { (result ≡ done_code (outcome_of refusal.Table (made table.old))) × Left table.old (made table.old) table.new }
 {
-    tell::outcome(table::make(table))
+    tell::done(table::make(table))
 }
 
 // Serves the request at the front of the input: 256 is served. Numbers told: bytes taken, and bytes of the reply.
@@ -261,8 +257,7 @@ pub extern "C" fn fq_serve_many(
 ) -> u64
     ensures { TellsMany (context_of second) input.now ends.now table.old reply.old answer.old reply.new table.new answer.new result }
 {
-    let a = server::serve_many(input, ends, table, second, reply, answer);
-    tell::shared(a)
+    tell::done(server::serve_many(input, ends, table, second, reply, answer))
 }
 
 // Serves the lines of a chunk of a file: 256 is served. Numbers told: bytes taken, bytes of the output, and 1 where the rest of a line is still to be
@@ -297,7 +292,7 @@ pub extern "C" fn fq_store(table: &[u8], out: &mut [u8]) -> u64
 pub extern "C" fn fq_load(file: &[u8], table: &mut [u8]) -> u64
     ensures { TellsLoaded file.now table.old table.new result }
 {
-    tell::outcome(stored::load(file, table))
+    tell::done(stored::load(file, table))
 }
 
 // Lists the keys that stand at the latest second served and are not before a key, in their order and `most` at the most, as the body of a bulkGetKeys reply.

@@ -1,5 +1,5 @@
 -- What the readers' answers say of the bytes that they were given.
-use Rattle.std.specs.Prelude.{List, cond, ◌&&◌, ℕ, ◌-◌, length, eqb, leb}
+use Rattle.std.specs.Prelude.{List, cond, ◌&&◌, ℕ, ◌-◌, length, eqb, leb, Option, None, Some, Result, Ok, Err}
 use Rattle.wire.specs.Codec.{Read, whole, more, refused, after, Codec, byte, guard}
 use Rattle.wire.specs.Number.{number}
 use Rattle.wire.specs.Field.{limited}
@@ -8,16 +8,11 @@ use Rattle.text.specs.Text.{is_text}
 use Rattle.field.specs.declared.Span.{Span}
 use Rattle.field.specs.declared.Kind.{Kind}
 use Rattle.field.specs.declared.Kind.TheVariants.{VInt, VLong}
-use Rattle.field.specs.declared.ByteRead.{ByteRead}
-use Rattle.field.specs.declared.ByteRead.TheVariants as b
-use Rattle.field.specs.declared.NumberRead.{NumberRead}
-use Rattle.field.specs.declared.NumberRead.TheVariants as n
-use Rattle.field.specs.declared.VersionRead.{VersionRead}
-use Rattle.field.specs.declared.VersionRead.TheVariants as v
-use Rattle.field.specs.declared.SecondRead.{SecondRead}
-use Rattle.field.specs.declared.SecondRead.TheVariants as d
-use Rattle.field.specs.declared.SpanRead.{SpanRead}
-use Rattle.field.specs.declared.SpanRead.TheVariants as p
+use Rattle.field.specs.declared.Cursor.{Cursor}
+use Rattle.field.specs.declared.EntryVersion.{EntryVersion}
+use Rattle.field.specs.declared.Second.{Second}
+use Rattle.field.specs.declared.refusals.Refusal.{Refusal}
+use Rattle.field.specs.Refusal.{number_of}
 
 -- the kinds of number: the greatest last byte, the count of bytes before it, the refusal of a bad one
 abbrev pub top_of : Kind → ℕ
@@ -37,8 +32,8 @@ greatest_of VInt = 0xffff_ffff
 greatest_of VLong = 0x7fff_ffff_ffff_ffff
 
 -- vInt or vLong
-abbrev pub number_of : Kind → Codec ℕ
-number_of k = number (refusal_of k) (top_of k) (most_of k) 0
+abbrev pub codec_of : Kind → Codec ℕ
+codec_of k = number (refusal_of k) (top_of k) (most_of k) 0
 
 -- "Cache name and error text: well-formed UTF-8"; text that is not is 7
 unfoldable pub limited_text : ℕ → Codec (List ℕ)
@@ -59,27 +54,27 @@ nowhere = record { start = 0; len = 0 }
 unfoldable pub span_to : List ℕ → ℕ → Span
 span_to bs n = cond (eqb (length bs) 0) nowhere (record { start = n - length bs; len = length bs })
 
-abbrev pub as_byte : ByteRead → Read ℕ
-as_byte (b.Whole x c) = whole x c.at
-as_byte b.More = more
+-- an answer of a reader that refuses nothing
+abbrev pub as_whole : {A : Type 0} → Option (A × Cursor) → Read A
+as_whole None = more
+as_whole (Some p) = whole p.0 p.1.at
 
-abbrev pub as_number : NumberRead → Read ℕ
-as_number (n.Whole x c) = whole x c.at
-as_number n.More = more
-as_number (n.Refused k) = refused k
+abbrev pub as_version : Option (EntryVersion × Cursor) → Read ℕ
+as_version None = more
+as_version (Some p) = whole p.0.0 p.1.at
 
-abbrev pub as_version : VersionRead → Read ℕ
-as_version (v.Whole x c) = whole x.0 c.at
-as_version v.More = more
+abbrev pub as_second : Option (Second × Cursor) → Read ℕ
+as_second None = more
+as_second (Some p) = whole p.0.0 p.1.at
 
-abbrev pub as_second : SecondRead → Read ℕ
-as_second (d.Whole x c) = whole x.0 c.at
-as_second d.More = more
+-- an answer of a reader, whose refusals have numbers
+abbrev pub as_read_by : {A E : Type 0} → (E → ℕ) → Result (Option (A × Cursor)) E → Read A
+as_read_by number (Ok None) = more
+as_read_by number (Ok (Some p)) = whole p.0 p.1.at
+as_read_by number (Err e) = refused (number e)
 
-abbrev pub as_span : SpanRead → Read Span
-as_span (p.Whole x c) = whole x c.at
-as_span p.More = more
-as_span (p.Refused k) = refused k
+abbrev pub as_read : {A : Type 0} → Result (Option (A × Cursor)) Refusal → Read A
+as_read r = as_read_by number_of r
 
 -- what stops the reading of a field stops the reading of what it begins
 abbrev pub stopped : {A B : Type 0} → Read A → Read B

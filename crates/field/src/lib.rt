@@ -1,13 +1,19 @@
 #![tactic(auto)]
 // The readers of a field, for any bytes and any place, and the module of its writers.
 pub mod put;
+mod refusals;
 
-ghost use Rattle.std.specs.Prelude.{◌≡◌, take, drop};
+ghost use Rattle.std.specs.Prelude.{◌≡◌, ℕ, take, drop};
 ghost use Rattle.wire.specs.Codec.{read_at, byte, mapped};
-ghost use Rattle.wire.specs.Field.{entry_version, second, limited};
-ghost use Rattle.field.specs.FieldRead.{as_byte, as_number, as_version, as_second, as_span, number_of, most_of, top_of, refusal_of, limited_text, between, part_of, span_to, stopped};
+ghost use Rattle.wire.specs.Field.{big_endian, entry_version, second, limited};
+ghost use Rattle.field.specs.FieldRead.{as_read, as_read_by, as_whole, as_version, as_second, codec_of, most_of, top_of, refusal_of, greatest_of, limited_text, between, part_of, span_to};
+ghost use Rattle.field.specs.Refusal.{number_of};
+
+pub use refusals::Refusal;
 
 // A place in the bytes that are read.
+// It does not hold the bytes: each contract would then also say that the next cursor holds the same ones. So bytes and cursor go apart, here and in the crates
+// above.
 #[derive(Clone, Copy)]
 pub struct Cursor {
     pub at: usize,
@@ -21,6 +27,7 @@ pub struct Span {
 }
 
 // The version of an entry: a serial number.
+// It and `Second` are two structs of a number, as the papers name them, so that neither is taken for the other.
 #[derive(Clone, Copy)]
 pub struct EntryVersion(pub u64);
 
@@ -35,65 +42,48 @@ pub enum Kind {
     VLong,
 }
 
-// What each reader finds: the value with the place behind it, more needed, or a refusal by its number.
-#[derive(Clone, Copy)]
-pub enum ByteRead {
-    Whole(u8, Cursor),
-    More,
-}
+// What a reader finds: the value with the place behind it; nothing, where more bytes are needed; or the refusal.
+pub type Read<T> = Result<Option<(T, Cursor)>, Refusal>;
 
-#[derive(Clone, Copy)]
-pub enum NumberRead {
-    Whole(u64, Cursor),
-    More,
-    Refused(u8),
-}
-
-#[derive(Clone, Copy)]
-pub enum VersionRead {
-    Whole(EntryVersion, Cursor),
-    More,
-}
-
-#[derive(Clone, Copy)]
-pub enum SecondRead {
-    Whole(Second, Cursor),
-    More,
-}
-
-#[derive(Clone, Copy)]
-pub enum SpanRead {
-    Whole(Span, Cursor),
-    More,
-    Refused(u8),
-}
-
-// How many bytes a number of the kind may have before its last possible one.
-fn most(k: Kind) -> u64
-    ensures { result ≡ most_of k }
-{
-    match k {
-        Kind::VInt => 4,
-        Kind::VLong => 8,
+// A match for each constant: the kind is a value, which callers hand on, so its constants are not those of a type.
+impl Kind {
+    // How many bytes a number of the kind may have before its last possible one.
+    fn most(self) -> u64
+        ensures { result ≡ most_of self }
+    {
+        match self {
+            Kind::VInt => 4,
+            Kind::VLong => 8,
+        }
     }
-}
 
-// The greatest last possible byte.
-fn top(k: Kind) -> u64
-    ensures { result ≡ top_of k }
-{
-    match k {
-        Kind::VInt => 0x0f,
-        Kind::VLong => 0x7f,
+    // The greatest last possible byte.
+    fn top(self) -> u64
+        ensures { result ≡ top_of self }
+    {
+        match self {
+            Kind::VInt => 0x0f,
+            Kind::VLong => 0x7f,
+        }
     }
-}
 
-fn refusal(k: Kind) -> u8
-    ensures { result ≡ refusal_of k }
-{
-    match k {
-        Kind::VInt => 5,
-        Kind::VLong => 2,
+    fn refusal(self) -> Refusal
+        ensures { number_of result ≡ refusal_of self }
+    {
+        match self {
+            Kind::VInt => Refusal::Number,
+            Kind::VLong => Refusal::MessageId,
+        }
+    }
+
+    // The greatest number of the kind.
+    fn greatest(self) -> u64
+        ensures { result ≡ greatest_of self }
+    {
+        match self {
+            Kind::VInt => 0xffff_ffff,
+            Kind::VLong => 0x7fff_ffff_ffff_ffff,
+        }
     }
 }
 
@@ -114,19 +104,6 @@ impl Cursor {
     }
 }
 
-impl SpanRead {
-    // The length of a part that was read.
-    pub fn length(self) -> NumberRead
-        ensures { as_number result ≡ mapped (λ p n. p.len) (as_span self) }
-    {
-        match self {
-            SpanRead::Whole(p, c) => NumberRead::Whole(p.len as u64, c),
-            SpanRead::More => NumberRead::More,
-            SpanRead::Refused(k) => NumberRead::Refused(k),
-        }
-    }
-}
-
 // A part of the bytes.
 pub fn part(s: &[u8], p: Span) -> &[u8]
     ensures { result.now ≡ part_of s.now p }
@@ -135,146 +112,116 @@ pub fn part(s: &[u8], p: Span) -> &[u8]
     c.part(s, p.len)
 }
 
-pub fn read_byte(s: &[u8], c: Cursor) -> ByteRead
-    ensures { as_byte result ≡ read_at byte s.now c.at }
+pub fn read_byte(s: &[u8], c: Cursor) -> Option<(u8, Cursor)>
+    ensures { as_whole result ≡ read_at byte s.now c.at }
 {
-    let at = c.at;
-    if at < s.len() {
-        ByteRead::Whole(s[at], Cursor { at: at + 1 })
-    } else {
-        ByteRead::More
-    }
+    let b = s.get(c.at)?;
+    Some((*b, Cursor { at: c.at + 1 }))
 }
 
-// A byte from `low` to `high`; another is refused.
-pub fn read_between(s: &[u8], c: Cursor, low: u8, high: u8, refusal: u8) -> NumberRead
-    ensures { as_number result ≡ read_at (between low high refusal) s.now c.at }
+// A byte from `low` to `high`; another is refused as the caller says, which may have a number of its own for each refusal.
+pub fn read_between<E: Drop>(
+    s: &[u8],
+    c: Cursor,
+    low: u8,
+    high: u8,
+    refusal: E,
+) -> Result<Option<(u8, Cursor)>, E>
+    ensures { (number : E → ℕ) → as_read_by number result ≡ read_at (between low high (number refusal)) s.now c.at }
 {
-    let r = read_byte(s, c);
-    let ByteRead::Whole(b, next) = r else {
-        return NumberRead::More;
+    let Some((b, next)) = read_byte(s, c) else {
+        return Ok(None);
     };
-    if b < low {
-        return NumberRead::Refused(refusal);
+    if b < low || high < b {
+        return Err(refusal);
     }
-    if high < b {
-        return NumberRead::Refused(refusal);
-    }
-    NumberRead::Whole(b as u64, next)
+    Ok(Some((b, next)))
 }
 
 // A number of either kind: what is left of the greatest count of bytes is counted down.
-pub fn read_number(s: &[u8], c: Cursor, k: Kind) -> NumberRead
-    ensures { as_number result ≡ read_at (number_of k) s.now c.at }
+pub fn read_number(s: &[u8], c: Cursor, k: Kind) -> Read<u64>
+    ensures { as_read result ≡ read_at (codec_of k) s.now c.at }
 {
-    let last = top(k);
-    let bad = refusal(k);
-    let mut left = most(k);
-    let mut i = c.at;
+    let last = k.top();
+    let mut left = k.most();
     let mut low: u64 = 0;
     let mut p: u64 = 1;
     let mut acc: u64 = 0;
-    while i < s.len() {
+    for i in c.at..s.len() {
         let b = s[i] as u64;
         if b < low {
-            return NumberRead::Refused(bad);
+            return Err(k.refusal());
         }
         if left == 0 {
             if b <= last {
-                return NumberRead::Whole(acc + p * b, Cursor { at: i + 1 });
+                return Ok(Some((acc + p * b, Cursor { at: i + 1 })));
             }
-            return NumberRead::Refused(bad);
+            return Err(k.refusal());
         }
         if b < 128 {
-            return NumberRead::Whole(acc + p * b, Cursor { at: i + 1 });
+            return Ok(Some((acc + p * b, Cursor { at: i + 1 })));
         }
-        acc = acc + p * (b - 128);
-        p = p * 128;
-        left = left - 1;
+        acc += p * (b - 128);
+        p *= 128;
+        left -= 1;
         low = 1;
-        i = i + 1;
     }
-    NumberRead::More
+    Ok(None)
 }
 
-pub fn read_version(s: &[u8], c: Cursor) -> VersionRead
+// Eight bytes as a number, highest first.
+fn read_eight(s: &[u8], c: Cursor) -> Option<(u64, Cursor)>
+    ensures { as_whole result ≡ read_at (big_endian 8) s.now c.at }
+{
+    let bytes = s.get(c.at..)?.first_chunk::<8>()?;
+    Some((u64::from_be_bytes(*bytes), Cursor { at: c.at + 8 }))
+}
+
+// This and `read_second` are one line each over `read_eight`, with a type and a contract of their own.
+pub fn read_version(s: &[u8], c: Cursor) -> Option<(EntryVersion, Cursor)>
     ensures { as_version result ≡ read_at entry_version s.now c.at }
 {
-    let mut j = c.at;
-    let mut n: u64 = 0;
-    let mut v: u64 = 0;
-    while n < 8 {
-        if s.len() <= j {
-            return VersionRead::More;
-        }
-        v = v * 256 + s[j] as u64;
-        j = j + 1;
-        n = n + 1;
-    }
-    VersionRead::Whole(EntryVersion(v), Cursor { at: j })
+    let (n, next) = read_eight(s, c)?;
+    Some((EntryVersion(n), next))
 }
 
-// The same eight bytes as those of a version.
-pub fn read_second(s: &[u8], c: Cursor) -> SecondRead
+pub fn read_second(s: &[u8], c: Cursor) -> Option<(Second, Cursor)>
     ensures { as_second result ≡ read_at second s.now c.at }
 {
-    let r = read_version(s, c);
-    match r {
-        VersionRead::Whole(v, next) => SecondRead::Whole(Second(v.0), next),
-        VersionRead::More => SecondRead::More,
-    }
+    let (n, next) = read_eight(s, c)?;
+    Some((Second(n), next))
 }
 
 // A length of at most `lim`, and so many bytes.
-pub fn read_limited(s: &[u8], c: Cursor, lim: u64) -> SpanRead
-    ensures { as_span result ≡ mapped span_to (read_at (limited lim) s.now c.at) }
+pub fn read_limited(s: &[u8], c: Cursor, lim: u64) -> Read<Span>
+    ensures { as_read result ≡ mapped span_to (read_at (limited lim) s.now c.at) }
 {
-    let r = read_number(s, c, Kind::VInt);
-    let NumberRead::Whole(n, next) = r else {
-        return stop_number(r);
+    let Some((n, next)) = read_number(s, c, Kind::VInt)? else {
+        return Ok(None);
     };
     if lim < n {
-        return SpanRead::Refused(6);
+        return Err(Refusal::Length);
     }
     let at = next.at;
     let len = n as usize;
     if len == 0 {
-        return SpanRead::Whole(Span { start: 0, len: 0 }, next);
+        return Ok(Some((Span { start: 0, len: 0 }, next)));
     }
     if s.len() - at < len {
-        return SpanRead::More;
+        return Ok(None);
     }
-    SpanRead::Whole(
-        Span {
-            start: at,
-            len: len,
-        },
-        Cursor { at: at + len },
-    )
+    Ok(Some((Span { start: at, len }, Cursor { at: at + len })))
 }
 
 // The same of a text, which is judged when all its bytes are there.
-pub fn read_text(s: &[u8], c: Cursor, lim: u64) -> SpanRead
-    ensures { as_span result ≡ mapped span_to (read_at (limited_text lim) s.now c.at) }
+pub fn read_text(s: &[u8], c: Cursor, lim: u64) -> Read<Span>
+    ensures { as_read result ≡ mapped span_to (read_at (limited_text lim) s.now c.at) }
 {
-    let r = read_limited(s, c, lim);
-    let SpanRead::Whole(p, _) = r else {
-        return r;
+    let Some((p, next)) = read_limited(s, c, lim)? else {
+        return Ok(None);
     };
-    if text::is_text(part(s, p)) {
-        r
-    } else {
-        SpanRead::Refused(7)
+    if !text::is_text(part(s, p)) {
+        return Err(Refusal::Text);
     }
-}
-
-// What a number that is not whole makes of the field that it begins.
-fn stop_number(r: NumberRead) -> SpanRead
-    ensures { as_span result ≡ stopped (as_number r) }
-{
-    match r {
-        NumberRead::Whole(_, _) => SpanRead::More,
-        NumberRead::More => SpanRead::More,
-        NumberRead::Refused(k) => SpanRead::Refused(k),
-    }
+    Ok(Some((p, next)))
 }

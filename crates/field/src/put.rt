@@ -3,9 +3,9 @@
 ghost use Rattle.std.specs.Prelude.{◌≡◌, ◌+◌, ◌≤◌, ◌<◌, length};
 ghost use Rattle.wire.specs.Codec.{byte, raw};
 ghost use Rattle.wire.specs.Number.{v_long};
-ghost use Rattle.wire.specs.Field.{entry_version, second, limited};
+ghost use Rattle.wire.specs.Field.{big_endian, entry_version, second, limited};
 ghost use Rattle.wire.specs.Write.{Wrote, Room, put_at};
-ghost use Rattle.field.specs.FieldRead.{number_of, greatest_of, limited_text};
+ghost use Rattle.field.specs.FieldRead.{codec_of, limited_text};
 
 use crate::{EntryVersion, Kind, Second};
 
@@ -21,21 +21,22 @@ pub fn put_byte(out: &mut [u8], at: usize, b: u8) -> usize
 }
 
 // How many bytes a number takes, of either kind.
+// The loop of `decimal::decimal_len` is alike, by another base: no definition has the lengths of both, which a shared function would have to say.
 pub fn number_len(v: u64) -> usize
     ensures { (result ≡ length (v_long.enc v)) × (result ≤ 9) }
 {
-    let mut n: usize = 1;
     let mut x = v;
-    while 128 <= x {
-        if n == 9 {
+    for n in 1..9 {
+        if x < 128 {
             return n;
         }
-        x = x / 128;
-        n = n + 1;
+        x /= 128;
     }
-    n
+    9
 }
 
+// A `while`, since what is left of the number tells the end, and not the place. Each byte is below 256: `try_from` would have an answer that cannot be.
+// The clause `room` speaks of this writer's own codec. The inner writers of other crates have theirs: a type that held the fact would be one for each.
 fn write_number(out: &mut [u8], at: usize, v: u64) -> usize
     requires v_bound { v < 0x8000_0000_0000_0000 }
     requires room { Room v_long v at out.old }
@@ -45,27 +46,17 @@ fn write_number(out: &mut [u8], at: usize, v: u64) -> usize
     let mut x = v;
     while 128 <= x {
         out[i] = (128 + x % 128) as u8;
-        x = x / 128;
-        i = i + 1;
+        x /= 128;
+        i += 1;
     }
     out[i] = x as u8;
     i + 1
 }
 
-// The greatest number of a kind.
-fn greatest(k: Kind) -> u64
-    ensures { result ≡ greatest_of k }
-{
-    match k {
-        Kind::VInt => 0xffff_ffff,
-        Kind::VLong => 0x7fff_ffff_ffff_ffff,
-    }
-}
-
 pub fn put_number(out: &mut [u8], at: usize, v: u64, k: Kind) -> usize
-    ensures { (result, out.new) ≡ put_at (number_of k) v at out.old }
+    ensures { (result, out.new) ≡ put_at (codec_of k) v at out.old }
 {
-    if greatest(k) < v {
+    if k.greatest() < v {
         return at;
     }
     if out.len() <= at {
@@ -77,31 +68,24 @@ pub fn put_number(out: &mut [u8], at: usize, v: u64, k: Kind) -> usize
     write_number(out, at, v)
 }
 
-// Eight bytes, highest first: they are written from the last to the first.
+// A number as eight bytes, highest first.
+fn put_eight(out: &mut [u8], at: usize, v: u64) -> usize
+    ensures { (result, out.new) ≡ put_at (big_endian 8) v at out.old }
+{
+    put_raw(out, at, &v.to_be_bytes())
+}
+
+// This and `put_second` are one line each over `put_eight`, with a type and a contract of their own.
 pub fn put_version(out: &mut [u8], at: usize, v: EntryVersion) -> usize
     ensures { (result, out.new) ≡ put_at entry_version v.0 at out.old }
 {
-    if out.len() <= at {
-        return at;
-    }
-    if out.len() - at < 8 {
-        return at;
-    }
-    let mut x = v.0;
-    let mut i: usize = 8;
-    while 0 < i {
-        i = i - 1;
-        out[at + i] = (x % 256) as u8;
-        x = x / 256;
-    }
-    at + 8
+    put_eight(out, at, v.0)
 }
 
-// The same eight bytes as those of a version.
 pub fn put_second(out: &mut [u8], at: usize, s: Second) -> usize
     ensures { (result, out.new) ≡ put_at second s.0 at out.old }
 {
-    put_version(out, at, EntryVersion(s.0))
+    put_eight(out, at, s.0)
 }
 
 // Bytes as they are.

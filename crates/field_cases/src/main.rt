@@ -3,70 +3,55 @@
 ghost use Rattle.std.specs.Prelude.{◌≡◌, ◌≤◌, length, IfOk};
 ghost use Rattle.field_cases.specs.Counts.{IsPrefixLen};
 
-use field::{Cursor, Kind, NumberRead, SpanRead, VersionRead};
+use field::{Cursor, EntryVersion, Kind, Refusal, Span};
 use message::Request;
 use std::io;
 use std::io::Read;
 
-// The value of a hexadecimal digit; of any other byte 0.
-fn digit(b: u8) -> u8
-    ensures { result ≤ 15 }
-{
-    match b {
-        b'0'..=b'9' => b - b'0',
-        b'a'..=b'f' => b - b'a' + 10,
-        _ => 0,
-    }
-}
-
-// Puts the bytes that the digits of s spell at the start of out, and answers how many there are.
+// Puts the bytes that the digits of s spell at the start of out, and answers how many there are. A byte that is no digit counts as 0.
+// `hexadecimal::decode` refuses such a byte, and more bytes than there is room for.
 fn decode(s: &[u8], out: &mut [u8]) -> usize
     ensures { IsPrefixLen result out.new }
 {
-    let mut n = 0;
-    while n < out.len() {
-        if s.len() / 2 <= n {
-            return n;
-        }
-        out[n] = digit(s[2 * n]) * 16 + digit(s[2 * n + 1]);
-        n += 1;
+    let n = out.len().min(s.len() / 2);
+    for i in 0..n {
+        out[i] = hexadecimal::value(s[2 * i]) * 16 + hexadecimal::value(s[2 * i + 1]);
     }
     n
 }
 
+// What is printed, here and below, are lines of this program's own, which no type's `Display` says.
 fn tell(rt: &impl Print, s: &[u8]) -> io::Result<()> {
     rt.write_all(s)
 }
 
 // The end of a whole answer: the place behind the field.
 fn tell_end(rt: &impl Print, c: Cursor) -> io::Result<()> {
-    let at = c.at;
-    print!(rt; " {at}")
+    print!(rt; " {}", c.at)
 }
 
-fn tell_refusal(rt: &impl Print, k: u8) -> io::Result<()> {
-    print!(rt; "refused {k}")
+fn tell_refusal(rt: &impl Print, refusal: Refusal) -> io::Result<()> {
+    print!(rt; "refused {}", u16::from(refusal))
 }
 
-fn tell_number(rt: &impl Print, r: NumberRead) -> io::Result<()> {
+fn tell_number(rt: &impl Print, r: field::Read<u64>) -> io::Result<()> {
     match r {
-        NumberRead::Whole(v, c) => {
+        Ok(Some((v, c))) => {
             print!(rt; "whole {v}")?;
             tell_end(rt, c)
         }
-        NumberRead::More => tell(rt, b"more"),
-        NumberRead::Refused(k) => tell_refusal(rt, k),
+        Ok(None) => tell(rt, b"more"),
+        Err(refusal) => tell_refusal(rt, refusal),
     }
 }
 
-fn tell_version(rt: &impl Print, r: VersionRead) -> io::Result<()> {
+fn tell_version(rt: &impl Print, r: Option<(EntryVersion, Cursor)>) -> io::Result<()> {
     match r {
-        VersionRead::Whole(v, c) => {
-            let number = v.0;
-            print!(rt; "whole {number}")?;
+        Some((v, c)) => {
+            print!(rt; "whole {}", v.0)?;
             tell_end(rt, c)
         }
-        VersionRead::More => tell(rt, b"more"),
+        None => tell(rt, b"more"),
     }
 }
 
@@ -77,27 +62,31 @@ fn tell_bytes(rt: &impl Print, s: &[u8]) -> io::Result<()> {
     Ok(())
 }
 
-fn tell_span(rt: &impl Print, s: &[u8], r: SpanRead) -> io::Result<()> {
+fn tell_span(rt: &impl Print, s: &[u8], r: field::Read<Span>) -> io::Result<()> {
     match r {
-        SpanRead::Whole(p, c) => {
+        Ok(Some((p, c))) => {
             tell(rt, b"whole ")?;
             tell_bytes(rt, field::part(s, p))?;
             tell_end(rt, c)
         }
-        SpanRead::More => tell(rt, b"more"),
-        SpanRead::Refused(k) => tell_refusal(rt, k),
+        Ok(None) => tell(rt, b"more"),
+        Err(refusal) => tell_refusal(rt, refusal),
     }
 }
 
 fn tell_text(rt: &impl Print, s: &[u8]) -> io::Result<()> {
-    if text::is_text(s) {
-        tell(rt, b"text")
-    } else {
-        tell(rt, b"no text")
-    }
+    tell(
+        rt,
+        if text::is_text(s) {
+            b"text"
+        } else {
+            b"no text"
+        },
+    )
 }
 
 // One case: the field that the letter stands for, read at the start of s.
+// Each letter has another reader, and what it answers is told by its type.
 fn run(rt: &impl Print, letter: u8, s: &[u8]) -> io::Result<()> {
     let c = Cursor { at: 0 };
     match letter {
@@ -113,18 +102,12 @@ fn run(rt: &impl Print, letter: u8, s: &[u8]) -> io::Result<()> {
     tell(rt, b"\n")
 }
 
-// Room for the bytes of a case. The `ensures` gives only the length, which lending the array as a slice needs.
-fn buffer() -> [u8; 4096]
-    ensures { 4096 ≡ length result }
-{
-    [0; 4096]
-}
-
+// The room, here and in `main`, is of a fixed size, since nothing is allocated.
 fn run_line(rt: &impl Print, line: &[u8]) -> io::Result<()> {
     if line.len() == 0 {
         return Ok(());
     }
-    let mut bytes = buffer();
+    let mut bytes = [0; 4096];
     let n = decode(&line[1..], &mut bytes);
     run(rt, line[0], &bytes[..n])
 }
@@ -136,14 +119,8 @@ fn run_lines(rt: &impl Print, s: &[u8]) -> io::Result<()> {
     Ok(())
 }
 
-// Room for all cases.
-fn large_buffer() -> [u8; 65536]
-    ensures { 65536 ≡ length result }
-{
-    [0; 65536]
-}
-
 // Reads until buf is full or the input ends, and answers how many bytes there are.
+// No `read_exact`: an input that ends early is whole. The step of the loop is what a read gives.
 fn read_full(from: &mut impl Read, buf: &mut [u8]) -> io::Result<usize>
     ensures { IfOk result (λ n. IsPrefixLen n buf.new) }
 {
@@ -159,7 +136,7 @@ fn read_full(from: &mut impl Read, buf: &mut [u8]) -> io::Result<usize>
 }
 
 fn main(rt: HostRuntime) -> io::Result<()> {
-    let mut input = large_buffer();
+    let mut input = [0; 65536];
     let n = read_full(&mut rt.stdin(), &mut input)?;
     run_lines(&rt, &input[..n])
 }

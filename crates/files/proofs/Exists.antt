@@ -42,7 +42,9 @@ use Rattle.service.specs.Serve.{error_pieces, on_step, on_read}
 use Rattle.service.specs.Stream.{Becomes}
 use Rattle.service.proofs.Decides.{dec_sound}
 use Rattle.server.specs.declared.Fed.{Fed}
-use Rattle.server.specs.declared.Served.TheVariants as served
+use Rattle.std.specs.Prelude as std
+use Rattle.field.specs.declared.refusals.Refusal.{Refusal}
+use Rattle.field.specs.declared.refusals.Refusal.TheVariants as refusal
 use Rattle.server.specs.Lines.{fed_of, TurnsDone}
 use Rattle.files.specs.declared.Window.{Window}
 use Rattle.files.specs.declared.NextServe.TheVariants as next
@@ -169,19 +171,19 @@ module _ (buf t out : List ℕ) (s : Window) where
   same : Same buf t out buf t out
   same = record { buffer = refl; table = refl; list = refl }
 
-  refused : (k : ℕ) → Refuses buf t out s k buf t out → Answers buf t out s
+  refused : (k : Refusal) → Refuses buf t out s k buf t out → Answers buf t out s
   refused k x = record { answer = next.Refused k; buffer = buf; table = t; output = out; does = x }
 
   astray : (Lies buf s → ⊥) → Answers buf t out s
   astray n = record { answer = next.Astray; buffer = buf; table = t; output = out; does = record { outside = n; same = same } }
 
   -- something is given: it is to be written
-  loud : {f : Fed} {out' t' : List ℕ} → Ready buf t out s → TurnsDone s.ended s.carried (inside buf s) t out (served.Fed f) out' t' → (f.size ≡ 0 → ⊥) → Answers buf t out s
+  loud : {f : Fed} {out' t' : List ℕ} → Ready buf t out s → TurnsDone s.ended s.carried (inside buf s) t out (std.Ok f) out' t' → (f.size ≡ 0 → ⊥) → Answers buf t out s
   loud {f} {out'} {t'} r u n =
       record { answer = next.Write f.size (at (s.from + f.taken) s.held f.passing s.ended); buffer = buf; table = t'; output = out'; does = writes r u n }
 
   -- nothing is given: it is the end, or more is to be read
-  quiet : {f : Fed} {out' t' : List ℕ} → Ready buf t out s → (b : Bool) → s.ended ≡ b → TurnsDone s.ended s.carried (inside buf s) t out (served.Fed f) out' t' → f.size ≡ 0 → Answers buf t out s
+  quiet : {f : Fed} {out' t' : List ℕ} → Ready buf t out s → (b : Bool) → s.ended ≡ b → TurnsDone s.ended s.carried (inside buf s) t out (std.Ok f) out' t' → f.size ≡ 0 → Answers buf t out s
   quiet {out' = out'} {t'} r true e u z = record { answer = next.Done; buffer = buf; table = t'; output = out'; does = ends r u z e }
   quiet {f} {out'} {t'} r false e u z =
       let n : ℕ = s.held - (s.from + f.taken) in
@@ -193,7 +195,7 @@ module _ (buf t out : List ℕ) (s : Window) where
       let e = turns_exist (suc (length (inside buf s))) s.ended s.carried (inside buf s) (state_of t) (length out) (record { table = d.table; order = d.layout.order }) (omega arith) in
       let x : Turn = e.turn in
       let m = leaves t x.next e.fits.fit in
-      let u : TurnsDone s.ended s.carried (inside buf s) t out (served.Fed (fed_of x)) (sets out 0 x.text) m.0 =
+      let u : TurnsDone s.ended s.carried (inside buf s) t out (std.Ok (fed_of x)) (sets out 0 x.text) m.0 =
       record { turn = x; turns = e.turns; answer = refl; fits = e.fits.short; list = refl; table = m.1 } in
       ⊎_elim
       (λ h. loud r u (λ z. omega arith))
@@ -203,13 +205,13 @@ module _ (buf t out : List ℕ) (s : Window) where
   with_lies : Lies buf s → Answers buf t out s
   with_lies i =
       ⊎_elim
-      (λ l. ⊎_elim (λ h. refused 12 (record { why = inl (refl, inr h); lies = i; same = same })) (λ h. test l h (dec_sound t)) (lt-or_ge (length out) line_room))
-      (λ l. refused 12 (record { why = inl (refl, inl l); lies = i; same = same }))
+      (λ l. ⊎_elim (λ h. refused refusal.Room (record { why = inl (refl, inr h); lies = i; same = same })) (λ h. test l h (dec_sound t)) (lt-or_ge (length out) line_room))
+      (λ l. refused refusal.Room (record { why = inl (refl, inl l); lies = i; same = same }))
       (lt-or_ge longest (length buf))
     where
       test : longest < length buf → line_room ≤ length out → Dec (Sound t) → Answers buf t out s
       test l h (yes e) = serve (record { lies = i; long = l; room = h; sound = e })
-      test l h (no e) = refused 13 (record { why = inr (refl, l, h, e); lies = i; same = same })
+      test l h (no e) = refused refusal.Table (record { why = inr (refl, l, h, e); lies = i; same = same })
 
   pub answers : Answers buf t out s
   answers =

@@ -15,8 +15,9 @@ use Rattle.service.specs.Line.{longest, state_left}
 use Rattle.service.specs.Turns.{line_room}
 use Rattle.server.specs.Lines.{Checked, Unserved, fed_of, TurnsDone, ServesLines}
 use Rattle.server.specs.declared.Fed.{Fed}
-use Rattle.server.specs.declared.Served.{Served}
-use Rattle.server.specs.declared.Served.TheVariants as served
+use Rattle.std.specs.Prelude as std
+use Rattle.field.specs.declared.refusals.Refusal.{Refusal}
+use Rattle.field.specs.declared.refusals.Refusal.TheVariants as refusal
 use Rattle.wire.specs.Write.{part}
 use Rattle.table.specs.Memory.{state_of, Sound}
 use Rattle.table.specs.Found.{Tells}
@@ -28,34 +29,34 @@ use Rattle.files.proofs.TurnsLaws.{turns-within, turns-end, rest-short}
 use Rattle.files.proofs.WindowLaws.{inside-long, inside-behind}
 
 -- `serve_lines` was called with the bytes in the window
-pub record Called (buf t out : List ℕ) (s : Window) (r : Served) (out' t' : List ℕ) : Type 0 where
+pub record Called (buf t out : List ℕ) (s : Window) (r : std.Result Fed Refusal) (out' t' : List ℕ) : Type 0 where
   pub lies : Lies buf s
   pub long : longest < length buf
   pub lines : ServesLines s.ended s.carried (inside buf s) t out r out' t'
 
-module _ {buf t out out' t' : List ℕ} {s : Window} {r : Served} (g : Called buf t out s r out' t') where
+module _ {buf t out out' t' : List ℕ} {s : Window} {r : std.Result Fed Refusal} (g : Called buf t out s r out' t') where
   -- the cases of its answer
-  cases : {A : Type 0} (still : (k : ℕ) → Unserved (served.Refused k) r out t out' t' → Refuses buf t out s k buf t' out' → A)
+  cases : {A : Type 0} (still : (k : Refusal) → Unserved (std.Err k) r out t out' t' → Refuses buf t out s k buf t' out' → A)
       → (Ready buf t out s → TurnsDone s.ended s.carried (inside buf s) t out r out' t' → A) → A
   cases {A} still ready = go (ltb (length out) line_room) g.lines.ok refl g.lines.tells g.lines.checked
     where
       go : (x y : Bool) → ltb (length out) line_room ≡ x → Tells y (Sound t)
-          → Checked x y (λ k. Unserved (served.Refused k) r out t out' t') (TurnsDone s.ended s.carried (inside buf s) t out r out' t') → A
+          → Checked x y (λ k. Unserved (std.Err k) r out t out' t') (TurnsDone s.ended s.carried (inside buf s) t out r out' t') → A
       go true y e q u =
-          still 12 u (record { why = inl (refl, inr (ltb-true (length out) line_room e)); lies = g.lies; same = record { buffer = refl; table = u.table; list = u.list } })
+          still refusal.Room u (record { why = inl (refl, inr (ltb-true (length out) line_room e)); lies = g.lies; same = record { buffer = refl; table = u.table; list = u.list } })
       go false false e q u =
-          still 13 u
+          still refusal.Table u
           (record { why = inr (refl, g.long, ltb-false (length out) line_room e, refuted q refl); lies = g.lies; same = record { buffer = refl; table = u.table; list = u.list } })
       go false true e q u = ready (record { lies = g.lies; long = g.long; room = ltb-false (length out) line_room e; sound = q.0 refl }) u
 
-  pub refuses : (k : ℕ) → r ≡ served.Refused k → Refuses buf t out s k buf t' out'
+  pub refuses : (k : Refusal) → r ≡ std.Err k → Refuses buf t out s k buf t' out'
   refuses k e =
       cases (λ n u x. let z : n ≡ k = cc (e, u.refused) in rw z at x) (λ _ u. never (cc (e, u.answer)))
 
-  pub serving : (f : Fed) → r ≡ served.Fed f → Ready buf t out s × TurnsDone s.ended s.carried (inside buf s) t out (served.Fed f) out' t'
+  pub serving : (f : Fed) → r ≡ std.Ok f → Ready buf t out s × TurnsDone s.ended s.carried (inside buf s) t out (std.Ok f) out' t'
   serving f e = cases (λ n u x. never (cc (e, u.refused))) (λ y u. (y, rw e at u))
 
-module _ {buf t out out' t' : List ℕ} {s : Window} {f : Fed} (r : Ready buf t out s) (u : TurnsDone s.ended s.carried (inside buf s) t out (served.Fed f) out' t') where
+module _ {buf t out out' t' : List ℕ} {s : Window} {f : Fed} (r : Ready buf t out s) (u : TurnsDone s.ended s.carried (inside buf s) t out (std.Ok f) out' t') where
   is : f ≡ fed_of u.turn
   is = cc u.answer
 

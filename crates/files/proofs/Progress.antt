@@ -9,6 +9,8 @@ use lib.ListN.{length, take, drop, length-drop, length-append, take-append-drop}
 use lib.Seq.{length-sets, length-take-le, take_at, sets, sets-eq}
 use lib.Dec.{eqb}
 use borrow.Author.Tests.{eqb-true, ne_eqb}
+use Rattle.field.specs.declared.refusals.Refusal.{Refusal}
+use Rattle.field.specs.declared.refusals.Refusal.TheVariants as refusal
 use Rattle.wire.proofs.Laws.{never}
 use Rattle.hexadecimal.proofs.HexLaws.{length_none}
 use Rattle.service.specs.Line.{longest}
@@ -83,10 +85,10 @@ cut c file {buf} {buf'} {s} {s'} {n} x =
     }
 
 -- what is ready is not refused
-pub never-refused : {buf t out buf' t' out' : List ℕ} {s : Window} {k : ℕ} → Ready buf t out s → Refuses buf t out s k buf' t' out' → ⊥
+pub never-refused : {buf t out buf' t' out' : List ℕ} {s : Window} {k : Refusal} → Ready buf t out s → Refuses buf t out s k buf' t' out' → ⊥
 never-refused {buf} {t} {out} {k = k} r x = go x.why
   where
-    go : ((k ≡ 12) × ((length buf ≤ longest) ⊎ (length out < line_room))) ⊎ ((k ≡ 13) × (longest < length buf) × (line_room ≤ length out) × (Sound t → ⊥)) → ⊥
+    go : ((k ≡ refusal.Room) × ((length buf ≤ longest) ⊎ (length out < line_room))) ⊎ ((k ≡ refusal.Table) × (longest < length buf) × (line_room ≤ length out) × (Sound t → ⊥)) → ⊥
     go (inl (_, inl h)) = omega (arith, r.long)
     go (inl (_, inr h)) = omega (arith, r.room)
     go (inr (_, _, _, e)) = e r.sound

@@ -10,6 +10,8 @@ use native.Mathlib.Numerals.{add-one}
 use lib.ListN.{length, take, drop, get_or, length-append, drop_of_length-le}
 use lib.Seq.{sets, length-sets, drop-cons, split_at}
 use borrow.Author.Tests.{lt-ltb}
+use Rattle.field.specs.declared.refusals.Refusal.{Refusal}
+use Rattle.field.specs.declared.refusals.Refusal.TheVariants as refusal
 use Rattle.wire.specs.Codec.{Valid}
 use Rattle.wire.specs.Write.{laid}
 use Rattle.wire.proofs.WriteLaws.{laid_done, sets_append}
@@ -124,10 +126,10 @@ unfolding file_from
 whole-stored r = stored-from r
 
 -- what is ready is not refused
-pub never-refused : {t out out' : List ℕ} {k : ℕ} → StoreReady t out → StoreRefuses t out k out' → ⊥
+pub never-refused : {t out out' : List ℕ} {k : Refusal} → StoreReady t out → StoreRefuses t out k out' → ⊥
 never-refused {t} {out} {k = k} r x = go x.why
   where
-    go : ((k ≡ 12) × (length out < store_room)) ⊎ ((k ≡ 13) × (store_room ≤ length out) × (Sound t → ⊥)) → ⊥
+    go : ((k ≡ refusal.Room) × (length out < store_room)) ⊎ ((k ≡ refusal.Table) × (store_room ≤ length out) × (Sound t → ⊥)) → ⊥
     go (inl (_, e)) = omega (arith, r.room)
     go (inr (_, _, e)) = e r.sound
 

@@ -10,6 +10,8 @@ use Rattle.files.specs.declared.Window.{Window}
 use Rattle.files.specs.declared.NextLoad.{NextLoad}
 use Rattle.files.specs.declared.NextLoad.TheVariants as load
 use Rattle.files.specs.Window.{inside, Lies, Moves, arrived, Brings}
+use Rattle.field.specs.declared.refusals.Refusal.{Refusal}
+use Rattle.field.specs.declared.refusals.Refusal.TheVariants as refusal
 
 -- the longest line of a stored table, its line end not counted: 339 bytes in digits
 abbrev pub longest_stored : ℕ
@@ -56,8 +58,8 @@ pub record LoadsNone (buf t : List ℕ) (s : Window) (n : ℕ) (buf' t' : List �
   pub buffer : buf' ≡ buf
 
 -- the buffer is too short for a line: nothing was changed
-pub record TooShort (buf t : List ℕ) (s : Window) (k : ℕ) (buf' t' : List ℕ) : Type 0 where
-  pub number : k ≡ 12
+pub record TooShort (buf t : List ℕ) (s : Window) (k : Refusal) (buf' t' : List ℕ) : Type 0 where
+  pub number : k ≡ refusal.Room
   pub lies : Lies buf s
   pub short : length buf ≤ longest_stored
   pub buffer : buf' ≡ buf

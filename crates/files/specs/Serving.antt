@@ -10,6 +10,8 @@ use Rattle.files.specs.declared.Window.{Window}
 use Rattle.files.specs.declared.NextServe.{NextServe}
 use Rattle.files.specs.declared.NextServe.TheVariants as next
 use Rattle.files.specs.Window.{inside, Lies, behind, Moves, arrived, Brings}
+use Rattle.field.specs.declared.refusals.Refusal.{Refusal}
+use Rattle.field.specs.declared.refusals.Refusal.TheVariants as refusal
 
 -- what serving asks for: a buffer longer than the longest line, room for a line given, and a sound table
 pub record Ready (buf t out : List ℕ) (s : Window) : Type 0 where
@@ -59,8 +61,8 @@ pub record Same (buf t out buf' t' out' : List ℕ) : Type 0 where
   pub list : out' ≡ out
 
 -- "12" where a buffer is too short, else "13" where the table is not sound
-pub record Refuses (buf t out : List ℕ) (s : Window) (k : ℕ) (buf' t' out' : List ℕ) : Type 0 where
-  pub why : ((k ≡ 12) × ((length buf ≤ longest) ⊎ (length out < line_room))) ⊎ ((k ≡ 13) × (longest < length buf) × (line_room ≤ length out) × (Sound t → ⊥))
+pub record Refuses (buf t out : List ℕ) (s : Window) (k : Refusal) (buf' t' out' : List ℕ) : Type 0 where
+  pub why : ((k ≡ refusal.Room) × ((length buf ≤ longest) ⊎ (length out < line_room))) ⊎ ((k ≡ refusal.Table) × (longest < length buf) × (line_room ≤ length out) × (Sound t → ⊥))
   pub lies : Lies buf s
   pub same : Same buf t out buf' t' out'
 

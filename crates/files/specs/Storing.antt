@@ -7,6 +7,8 @@ use Rattle.table.specs.Memory.{state_of, Sound}
 use Rattle.stored.specs.File.{form1, entry_lines, file}
 use Rattle.files.specs.declared.NextStore.{NextStore}
 use Rattle.files.specs.declared.NextStore.TheVariants as store
+use Rattle.field.specs.declared.refusals.Refusal.{Refusal}
+use Rattle.field.specs.declared.refusals.Refusal.TheVariants as refusal
 
 -- the room for the longest line of a stored table, with its line end
 abbrev pub store_room : ℕ
@@ -39,8 +41,8 @@ pub record StoreEnds (t out : List ℕ) (i : ℕ) (out' : List ℕ) : Type 0 whe
   pub list : out' ≡ out
 
 -- "12" where there is no room for a line, else "13" where the table is not sound
-pub record StoreRefuses (t out : List ℕ) (k : ℕ) (out' : List ℕ) : Type 0 where
-  pub why : ((k ≡ 12) × (length out < store_room)) ⊎ ((k ≡ 13) × (store_room ≤ length out) × (Sound t → ⊥))
+pub record StoreRefuses (t out : List ℕ) (k : Refusal) (out' : List ℕ) : Type 0 where
+  pub why : ((k ≡ refusal.Room) × (length out < store_room)) ⊎ ((k ≡ refusal.Table) × (store_room ≤ length out) × (Sound t → ⊥))
   pub list : out' ≡ out
 
 -- what `store_next` answers, and what it leaves of what it was lent

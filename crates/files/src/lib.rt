@@ -2,7 +2,7 @@
 // A file through a buffer, as a machine by value: it says what to write, when to read on and where to, and when all is done.
 mod buffer;
 
-ghost use Rattle.std.specs.Prelude.{◌≡◌, List, ℕ, ◌+◌, ◌≤◌, length};
+ghost use Rattle.std.specs.Prelude.{◌≡◌, Ok, List, ℕ, ◌+◌, ◌≤◌, length};
 ghost use Rattle.server.specs.Lines.{TurnsDone};
 ghost use Rattle.files.specs.Window.{begin, inside, Arrives};
 ghost use Rattle.files.specs.Serving.{Ready, ServesNext};
@@ -10,11 +10,13 @@ ghost use Rattle.table.specs.Memory.{state_of};
 ghost use Rattle.files.specs.Loading.{line_behind, LoadsNext};
 ghost use Rattle.files.specs.Storing.{StoresNext};
 
-use server::{Fed, Served};
+use field::Refusal;
+use server::Fed;
 
 // Where reading a file through a buffer stands: the bytes of the buffer from `from` up to `held` are read and not yet taken. carried: what the bytes
 // before hand to those behind; in serving, that the rest of a line is to be passed over; in loading, that the first line is loaded. ended: a read
 // brought nothing.
+// The flags are conditions of the definitions: both places hold with them and without them. The buffer is none of its fields, since the caller reads into it.
 #[derive(Clone, Copy)]
 pub struct Window {
     pub from: usize,
@@ -26,12 +28,13 @@ pub struct Window {
 // What is to be done next. Write: write so many bytes of the output, and call again. Read: read into the buffer behind the bytes held, and call
 // again with what `after_read` answers. Refused: 12 where a buffer is too short, 13 where the table is not sound. Astray: the window is none of
 // this buffer.
+// The three answers have other steps each: one type of them would have answers that cannot be. The caller does the step: nothing here asks the system.
 #[derive(Clone, Copy)]
 pub enum NextServe {
     Write(usize, Window),
     Read(Window),
     Done,
-    Refused(u8),
+    Refused(Refusal),
     Astray,
 }
 
@@ -42,7 +45,7 @@ pub enum NextLoad {
     Read(Window),
     Done,
     Broken(usize),
-    Refused(u8),
+    Refused(Refusal),
     Astray,
 }
 
@@ -57,7 +60,7 @@ impl NextLoad {
 pub enum NextStore {
     Write(usize, usize),
     Done,
-    Refused(u8),
+    Refused(Refusal),
 }
 
 impl NextStore {
@@ -101,21 +104,15 @@ pub fn after_read(s: Window, got: usize) -> Window
 pub fn serve_next(buf: &mut [u8], table: &mut [u8], out: &mut [u8], s: Window) -> NextServe
     ensures { ServesNext buf.old table.old out.old s result buf.new table.new out.new }
 {
-    let from = s.from;
-    let held = s.held;
-    if held < from {
-        return NextServe::Astray;
-    }
-    if buf.len() < held {
+    if s.held < s.from || buf.len() < s.held {
         return NextServe::Astray;
     }
     if buf.len() <= Fed::LONGEST {
-        return NextServe::Refused(12);
+        return NextServe::Refused(Refusal::Room);
     }
-    let r = server::serve_lines(&buf[from..held], table, out, s.carried, s.ended);
-    match r {
-        Served::Refused(k) => NextServe::Refused(k),
-        Served::Fed(f) => go_on(buf, s, f),
+    match server::serve_lines(&buf[s.from..s.held], table, out, s.carried, s.ended) {
+        Ok(f) => go_on(buf, s, f),
+        Err(refusal) => NextServe::Refused(refusal),
     }
 }
 
@@ -123,7 +120,7 @@ pub fn serve_next(buf: &mut [u8], table: &mut [u8], out: &mut [u8], s: Window) -
 fn go_on(buf: &mut [u8], s: Window, f: Fed) -> NextServe
     requires taken_bound { s.from + f.taken ≤ s.held }
     requires held_in_bounds { s.held ≤ length buf.old }
-    ensures { (t out out' t' : List ℕ) → Ready buf.old t out s → TurnsDone s.ended s.carried (inside buf.old s) t out (Served.Fed f) out' t' → ServesNext buf.old t out s result buf.new t' out' }
+    ensures { (t out out' t' : List ℕ) → Ready buf.old t out s → TurnsDone s.ended s.carried (inside buf.old s) t out (Ok f) out' t' → ServesNext buf.old t out s result buf.new t' out' }
 {
     let at = s.from + f.taken;
     if f.size != 0 {
@@ -150,6 +147,7 @@ fn go_on(buf: &mut [u8], s: Window, f: Fed) -> NextServe
 }
 
 // The file stores no table: its first line that is not good is the one behind those loaded.
+// `begun` is a condition of the definition `line_behind`.
 fn broken(table: &[u8], begun: bool) -> NextLoad
     ensures { result ≡ NextLoad.Broken (line_behind begun (state_of table.now)) }
 {
@@ -172,7 +170,7 @@ pub fn load_next(buf: &mut [u8], table: &mut [u8], s: Window) -> NextLoad
         return NextLoad::Astray;
     }
     if buf.len() <= NextLoad::LONGEST {
-        return NextLoad::Refused(12);
+        return NextLoad::Refused(Refusal::Room);
     }
     let p = stored::load_lines(&buf[from..held], table, s.carried);
     if !p.good {
@@ -201,14 +199,15 @@ pub fn load_next(buf: &mut [u8], table: &mut [u8], s: Window) -> NextLoad
 }
 
 // Writes lines of the stored table from a line on, as long as there is room for one, and says what is to be done next. The first line has the number 0.
+// No range: the line at which the room ends is answered.
 pub fn store_next(table: &[u8], out: &mut [u8], line: usize) -> NextStore
     ensures { StoresNext table.now out.old line result out.new }
 {
     if out.len() < NextStore::ROOM {
-        return NextStore::Refused(12);
+        return NextStore::Refused(Refusal::Room);
     }
     if !soundness::is_table(table) {
-        return NextStore::Refused(13);
+        return NextStore::Refused(Refusal::Table);
     }
     let count = table::count(table);
     if count < line {

@@ -8,7 +8,6 @@ use lib.Dec.{leb}
 use borrow.Author.Tests.{leb-true, le-leb, lt-leb, lt-ltb, le-ltb}
 use Rattle.wire.proofs.Laws.{both, and}
 use Rattle.hexadecimal.specs.Hex.{digit_of, is_digit, digit_value}
-use Rattle.hexadecimal.specs.Number.{value_of}
 
 pub data Range (b : ℕ) : Type 0 where
   decimal : 0x30 ≤ b → b ≤ 0x39 → Range b
@@ -22,11 +21,11 @@ digit-range b e = go (leb b 0x39) refl e
     go true p q = decimal (leb-true 0x30 b q) (leb-true b 0x39 p)
     go false p q = let w = both (leb 0x61 b) (leb b 0x66) q in letter (leb-true 0x61 b w.0) (leb-true b 0x66 w.1)
 
-pub value-decimal : (b : ℕ) → b ≤ 0x39 → digit_value b ≡ b - 0x30
+value-decimal : (b : ℕ) → b ≤ 0x39 → digit_value b ≡ b - 0x30
 unfolding digit_value
 value-decimal b h = rw (le-leb b 0x39 h)
 
-pub value-letter : (b : ℕ) → 0x39 < b → digit_value b ≡ b - 0x57
+value-letter : (b : ℕ) → 0x39 < b → digit_value b ≡ b - 0x57
 unfolding digit_value
 value-letter b h = rw (lt-leb b 0x39 h)
 
@@ -38,23 +37,9 @@ pub of-letter : (n : ℕ) → 10 ≤ n → digit_of n ≡ 0x57 + n
 unfolding digit_of
 of-letter n h = rw (le-ltb n 10 h)
 
-pub digit_low : (b : ℕ) → is_digit b ≡ true → 0x30 ≤ b
-digit_low b e = go (digit-range b e)
-  where
-    go : Range b → 0x30 ≤ b
-    go (decimal l h) = l
-    go (letter l h) = omega arith
-
-pub digit-high : (b : ℕ) → is_digit b ≡ true → 0x39 < b → 0x61 ≤ b
-digit-high b e g = go (digit-range b e)
-  where
-    go : Range b → 0x61 ≤ b
-    go (decimal l h) = absurd (omega arith)
-    go (letter l h) = l
-
 -- a digit stands for a number below 16, and is that number's digit
-pub value-below : (b : ℕ) → is_digit b ≡ true → digit_value b < 16
-value-below b e = go (digit-range b e)
+pub value_below : (b : ℕ) → is_digit b ≡ true → digit_value b < 16
+value_below b e = go (digit-range b e)
   where
     go : Range b → digit_value b < 16
     go (decimal l h) = omega (arith, value-decimal b h)
@@ -83,12 +68,3 @@ of-value n l = go (dec_lt n 10)
     go : Dec (n < 10) → digit_value (digit_of n) ≡ n
     go (yes h) = rw (of-decimal n h, value-decimal (0x30 + n) (omega arith)) (omega arith)
     go (no h) = rw (of-letter n (omega arith), value-letter (0x57 + n) (omega arith)) (omega arith)
-
--- the number of a byte, digit or not
-pub value-digit : (b : ℕ) → is_digit b ≡ true → value_of b ≡ digit_value b
-unfolding value_of
-value-digit b e = rw e
-
-pub value-other : (b : ℕ) → is_digit b ≡ false → value_of b ≡ 0
-unfolding value_of
-value-other b e = rw e

@@ -10,7 +10,7 @@ use Rattle.wire.specs.Codec.{Bytes}
 use Rattle.wire.proofs.Laws.{never, both, and}
 use Rattle.wire.proofs.Basics.{passed}
 use Rattle.hexadecimal.specs.Hex.{digit_of, is_digit, digit_value, to_hex, line, onto, from_hex}
-use Rattle.hexadecimal.proofs.Digits.{value-below, digit-back, of-digit, of-value}
+use Rattle.hexadecimal.proofs.Digits.{value_below, digit-back, of-digit, of-value}
 
 pub length_none : (s : List ℕ) → length s ≡ 0 → s ≡ []
 length_none [] e = refl
@@ -49,14 +49,14 @@ module _ (a b : ℕ) (s r : List ℕ) (p : is_digit a ≡ true) (q : is_digit b 
   pair_same : a ∷ b ∷ s ≡ to_hex ((digit_value a * 16 + digit_value b) ∷ r)
   unfolding to_hex
   pair_same =
-      let l = value-below a p in
-      let m = value-below b q in
+      let l = value_below a p in
+      let m = value_below b q in
       let d : (digit_value a * 16 + digit_value b) / 16 ≡ digit_value a = omega arith in
       let e : (digit_value a * 16 + digit_value b) % 16 ≡ digit_value b = omega arith in
       rw (d, e, digit-back a p, digit-back b q, ← i.same)
 
   pair-bytes : Bytes ((digit_value a * 16 + digit_value b) ∷ r)
-  pair-bytes zero = omega (arith, value-below a p, value-below b q)
+  pair-bytes zero = omega (arith, value_below a p, value_below b q)
   pair-bytes (suc n) = i.bytes n
 
   pair_reads : Reads (a ∷ b ∷ s) ((digit_value a * 16 + digit_value b) ∷ r)

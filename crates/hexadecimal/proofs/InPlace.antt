@@ -6,7 +6,7 @@ use native.Mathlib.Nat.{add-zero}
 use native.Mathlib.Decide.{dec_lt}
 use native.Mathlib.Omega.{arith}
 use lib.ListN.{length, take, drop, set, length-append, length-take, length-drop, drop_of_length-le, take-append-drop}
-use lib.Seq.{sets, length-sets, length-take-le, drop-drop, drop-set-add, take-set-le, take-take, take_all, take_at}
+use lib.Seq.{sets, length-sets, length-take-le, drop-drop, drop-set-add, take-set-le, take-take}
 use Rattle.wire.specs.Write.{laid}
 use Rattle.wire.proofs.WriteLaws.{sets_append, sets_after, sets_over, sets_part, laid-short, laid_done, laid_none}
 use Rattle.hexadecimal.specs.Hex.{digit_of, to_hex, line}
@@ -33,18 +33,6 @@ part-part l zero m n h = take-take m n l (omega arith)
 part-part l (suc j) m zero h = absurd (omega arith)
 part-part [] (suc j) m (suc n) h = refl
 part-part (x ∷ l) (suc j) m (suc n) h = part-part l j m n (omega arith)
-
--- the front of a copy of m bytes
-pub copied : (l z : List ℕ) (from m : ℕ) → from + m ≤ length l → {some : List ℕ}
-    → some ≡ take (length (take (from + m - from) (drop from l))) (take (from + m - from) (drop from l)) ++ drop (length (take (from + m - from) (drop from l))) z
-    → (take m some ≡ part l from m) × (m ≡ length (take m some))
-copied l z from m h {some} e =
-    let k : from + m - from ≡ m = omega arith in
-    let n : length (part l from m) ≡ m = length-take-le m (drop from l) (omega (arith, length-drop from l)) in
-    let x : take m (part l from m) ≡ part l from m = take_all m (part l from m) (omega arith) in
-    let f : some ≡ part l from m ++ drop m z = e ∙ rw (k, n, x) in
-    let y : take m some ≡ part l from m = ap (take m) f ∙ take_at (part l from m) (drop m z) m n in
-    (y, sym (ap length y ∙ n))
 
 hex_append : (a b : List ℕ) → to_hex (a ++ b) ≡ to_hex a ++ to_hex b
 unfolding to_hex

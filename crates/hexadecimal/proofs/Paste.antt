@@ -1,16 +1,17 @@
 -- Bytes written one after another at a place, the answers of `decode`, and the loop of `encode`. Assumes nothing.
 use mathlib.Core.Path.{◌≡◌, refl, sym, ◌∙◌}
-use mathlib.Core.List.{List, ◌++◌}
+use mathlib.Core.List.{List, [], ◌++◌, append-nil}
 use mathlib.Core.Option.{none, some}
 use Prim.Native.Nat.{ℕ, suc, ◌+◌, ◌*◌, ◌/◌, ◌%◌, ◌≤◌, ◌<◌}
 use native.Mathlib.Nat.{zero-add}
 use native.Mathlib.Omega.{arith}
-use lib.ListN.{length, get_or, take, drop, set, length-set}
-use lib.Seq.{sets, sets-eq, paste, paste-zero, paste-suc, take-length}
+use lib.ListN.{length, get_or, take, drop, set, length-set, length-take, drop_of_length-le}
+use lib.Seq.{sets, sets-eq, paste, paste-suc, take-length}
 use borrow.Author.Tests.{le-leb, lt-leb}
 use Rattle.hexadecimal.specs.Hex.{digit_of, to_hex, from_hex}
 use Rattle.hexadecimal.specs.Coding.{decoded}
-use Rattle.hexadecimal.specs.declared.Decoded.TheVariants.{Bytes, Bad, Short}
+use Rattle.hexadecimal.specs.declared.DecodeError.TheVariants.{Digits, Room}
+use Rattle.std.specs.Prelude.{Ok, Err}
 use Rattle.hexadecimal.proofs.HexLaws.{hex_length}
 use Rattle.hexadecimal.proofs.Pairs.{hex_high, hex_low}
 
@@ -21,9 +22,6 @@ pub record Pasted (bs old : List ℕ) (at : ℕ) (new : List ℕ) (n : ℕ) : Ty
   pub long : length new ≡ length old
 
 module _ (bs old : List ℕ) (at : ℕ) where
-  pub paste_begin : Pasted bs old at old 0
-  paste_begin = record { within = omega arith; list = paste-zero old at bs; long = refl }
-
   pub paste_on : {new : List ℕ} (n k v m : ℕ) → at + length bs ≤ length old → n < length bs → k ≡ at + n → v ≡ get_or bs n 0 → m ≡ suc n
       → Pasted bs old at new n → Pasted bs old at (set new k v) m
   paste_on {new} n k v m r h p q e w =
@@ -33,23 +31,26 @@ module _ (bs old : List ℕ) (at : ℕ) where
         long = length-set new k v ∙ w.long;
       }
 
-  pub paste_end : {new : List ℕ} (n : ℕ) → n ≡ length bs → Pasted bs old at new n → new ≡ take at old ++ bs ++ drop (at + length bs) old
+  paste_end : {new : List ℕ} (n : ℕ) → n ≡ length bs → Pasted bs old at new n → new ≡ take at old ++ bs ++ drop (at + length bs) old
   paste_end n e w = w.list ∙ rw (e, take-length bs)
 
 -- the answers of `decode`
 module _ (s old : List ℕ) where
-  pub decode_bad : from_hex s ≡ none → (Bad, old) ≡ decoded s old
+  pub decode_bad : from_hex s ≡ none → (Err Digits, old) ≡ decoded s old
   unfolding decoded
   decode_bad e = rw e
 
-  pub decode_short : {bs : List ℕ} → from_hex s ≡ some bs → length old < length bs → (Short, old) ≡ decoded s old
+  pub decode_short : {bs : List ℕ} → from_hex s ≡ some bs → length old < length bs → (Err Room, old) ≡ decoded s old
   unfolding decoded
   decode_short {bs} e h = rw (e, lt-leb (length bs) (length old) h)
 
-  pub decode_done : {bs new : List ℕ} (n i : ℕ) → from_hex s ≡ some bs → length bs ≤ length old → n ≡ length bs → i ≡ length bs → Pasted bs old 0 new i
-      → (Bytes n, new) ≡ decoded s old
+  pub decode_done : {bs items : List ℕ} (n i : ℕ) → from_hex s ≡ some bs → length bs ≤ length old → n ≡ length bs → i ≡ length bs → Pasted bs (take n old) 0 items i
+      → (Ok n, items ++ drop n old) ≡ decoded s old
   unfolding decoded
-  decode_done {bs} n i e h p q w = rw (e, le-leb (length bs) (length old) h, paste_end bs old 0 i q w, p, zero-add)
+  decode_done {bs} {items} n i e h p q w =
+      let z : drop (length bs) (take n old) ≡ [] = drop_of_length-le (take n old) {i = length bs} (omega (arith, length-take n old)) in
+      let x : items ≡ bs = paste_end bs (take n old) 0 i q w ∙ rw (zero-add, z) (append-nil bs) in
+      rw (e, le-leb (length bs) (length old) h, x, p)
 
 -- a turn of the loop of `encode`, and its end
 module _ (s old : List ℕ) (at : ℕ) where

@@ -1,42 +1,58 @@
 -- The answers of `number`. Assumes nothing.
 use mathlib.Core.Path.{◌≡◌, refl, sym, ap, ◌∙◌}
 use mathlib.Core.List.{List}
-use mathlib.Core.Bool.{true, false}
 use mathlib.Core.Option.{Option, none, some}
-use Prim.Native.Nat.{ℕ, ◌+◌, ◌*◌}
+use Prim.Native.Nat.{ℕ, ◌*◌}
 use native.Mathlib.Omega.{arith}
-use lib.ListN.{length, get_or}
+use lib.ListN.{length, take}
+use lib.Seq.{length-take-le, take_all}
 use borrow.Author.Tests.{eq-eqb}
+use Rattle.std.specs.Prelude.{Result, Ok, Err}
+use Rattle.std.specs.Int.{w32, from_be_bytes}
 use Rattle.wire.specs.Codec.{whole}
 use Rattle.wire.specs.Field.{big_endian, big_at}
 use Rattle.wire.proofs.At.{at_front}
 use Rattle.wire.proofs.FieldLaws.{big_laws, big_length, big_read}
-use Rattle.hexadecimal.specs.Number.{are_digits, from_digits}
-use Rattle.hexadecimal.proofs.HexLaws.{hex_length}
-use Rattle.hexadecimal.proofs.Pairs.{pairs, pairs_length, from-digits, from-other}
+use Rattle.hexadecimal.specs.declared.DecodeError.{DecodeError}
+use Rattle.hexadecimal.specs.declared.DecodeError.TheVariants.{Digits, Room}
+use Rattle.hexadecimal.specs.Hex.{from_hex}
+use Rattle.hexadecimal.specs.Coding.{decoded}
+use Rattle.hexadecimal.specs.Number.{from_digits}
+use Rattle.hexadecimal.proofs.HexLaws.{hex_length, to-from}
 use Rattle.hexadecimal.proofs.Values.{digits_read}
+use Rattle.hexadecimal.proofs.Decodes.{Decodes, decodes}
 
--- another number of digits, or a byte that is none
-pub second-size : (s : List ℕ) → (length s ≡ 8 → ⊥) → none ≡ from_digits (big_endian 4) s
-second-size s h = go (from_digits (big_endian 4) s) refl
+-- digits of more or fewer bytes than four
+other_size : (s bs : List ℕ) → from_hex s ≡ some bs → (length bs ≡ 4 → ⊥) → none ≡ from_digits (big_endian 4) s
+other_size s bs e h = go (from_digits (big_endian 4) s) refl
   where
     go : (o : Option ℕ) → from_digits (big_endian 4) s ≡ o → none ≡ o
-    go none e = refl
-    go (some n) e = absurd (h (ap length (digits_read (big_endian 4) (big_laws 4) s n e).same ∙ hex_length _ ∙ ap (λ (k : ℕ). 2 * k) (big_length 4 n)))
+    go none p = refl
+    go (some n) p =
+        let l : length s ≡ 2 * 4 = ap length (digits_read (big_endian 4) (big_laws 4) s n p).same ∙ hex_length _ ∙ ap (λ (k : ℕ). 2 * k) (big_length 4 n) in
+        let k : length s ≡ 2 * length bs = ap length (to-from s bs e).0 ∙ hex_length bs in
+        absurd (h (omega arith))
 
-pub second-other : (s : List ℕ) → are_digits s ≡ false → none ≡ from_digits (big_endian 4) s
+-- four bytes are decoded, or there is no number
+pub number-none : (s old new : List ℕ) (r : Result ℕ DecodeError) → length old ≡ 4 → (r, new) ≡ decoded s old → (r ≡ Ok 4 → ⊥) → none ≡ from_digits (big_endian 4) s
 unfolding from_digits
-second-other s e = rw (from-other s e)
+number-none s old new r l e h = go r (decodes s old r new e) h
+  where
+    go : (r : Result ℕ DecodeError) → Decodes old r new (from_hex s) → (r ≡ Ok 4 → ⊥) → none ≡ from_digits (big_endian 4) s
+    go (Ok n) d h =
+        let k : length (take n new) ≡ n = length-take-le n new d.1 in
+        other_size s (take n new) d.0 (λ q. h (ap (λ (m : ℕ). Ok m) (sym k ∙ q)))
+    go (Err Digits) d h = rw d
+    go (Err Room) d h = other_size s d.0 d.1.0 (λ q. omega (arith, d.1.1))
 
-four : (s : List ℕ) → big_at 4 s 0 ≡ ((get_or s 0 0 * 256 + get_or s 1 0) * 256 + get_or s 2 0) * 256 + get_or s 3 0
+four : (s : List ℕ) → big_at 4 s 0 ≡ from_be_bytes w32 s
 unfolding big_at
 four s = omega arith
 
-pub second-done : (s : List ℕ) (a b c d : ℕ) → are_digits s ≡ true → length s ≡ 8
-    → a ≡ get_or (pairs s) 0 0 → b ≡ get_or (pairs s) 1 0 → c ≡ get_or (pairs s) 2 0 → d ≡ get_or (pairs s) 3 0
-    → some (((a * 256 + b) * 256 + c) * 256 + d) ≡ from_digits (big_endian 4) s
+pub number-some : (s old new : List ℕ) → length new ≡ 4 → (Ok 4, new) ≡ decoded s old → some (from_be_bytes w32 new) ≡ from_digits (big_endian 4) s
 unfolding from_digits
-second-done s a b c d e h p q r t =
-    let l : length (pairs s) ≡ 4 = omega (arith, pairs_length s) in
-    let w : (big_endian 4).dec (pairs s) ≡ whole (big_at 4 (pairs s) 0) 4 = sym (at_front (big_endian 4) (pairs s)) ∙ big_read (pairs s) 0 4 (omega arith) in
-    rw (from-digits s e (omega arith), w, eq-eqb 4 (length (pairs s)) (sym l), four, p, q, r, t)
+number-some s old new l e =
+    let d = decodes s old (Ok 4) new e in
+    let t : take 4 new ≡ new = take_all 4 new (omega arith) in
+    let w : (big_endian 4).dec new ≡ whole (big_at 4 new 0) 4 = sym (at_front (big_endian 4) new) ∙ big_read new 0 4 (omega arith) in
+    rw (d.0, t, w, eq-eqb 4 (length new) (sym l), four)

@@ -11,22 +11,16 @@ ghost use Rattle.hexadecimal.specs.Coding.{decoded};
 ghost use Rattle.wire.specs.Field.{big_endian};
 ghost use Rattle.hexadecimal.specs.Number.{value_of, are_digits, from_digits, as_number};
 
-// What decoding finds: so many bytes, digits that are none or odd in number, or too little room.
-#[derive(Clone, Copy)]
-pub enum Decoded {
-    Bytes(usize),
-    Bad,
-    Short,
+// Why nothing is decoded: the digits are none or odd in number, or there is too little room for their bytes.
+#[derive(Clone, Copy, PartialEq, Eq, Debug, Drop)]
+pub enum DecodeError {
+    Digits,
+    Room,
 }
 
-// What reading a second finds: its number, or something else than eight digits.
-#[derive(Clone, Copy)]
-pub enum NumberRead {
-    Value(u32),
-    Bad,
-}
-
-// Is the byte a digit, 0 to 9 or a to f?
+// Is the byte a digit, 0 to 9 or a to f? By two tests, since with `matches!` on its ranges `number` takes more than twice as long.
+// `decimal` has other digits.
+#[tactic(auto, unfolding(crate::specs::Hex::is_digit))]
 pub fn is_digit(b: u8) -> bool
     ensures { result ≡ is_digit b }
 {
@@ -37,6 +31,8 @@ pub fn is_digit(b: u8) -> bool
 }
 
 // The number of a digit.
+// No `to_digit` and `from_digit`, here and in `digit`: they take capital letters too, and are of `char`.
+#[tactic(auto, unfolding(crate::specs::Hex::is_digit, crate::specs::Hex::digit_value))]
 fn digit_value(b: u8) -> u8
     requires { is_digit b ≡ true }
     ensures { result ≡ digit_value b }
@@ -48,6 +44,7 @@ fn digit_value(b: u8) -> u8
 }
 
 // The number of a digit, and 0 for any other byte.
+#[tactic(auto, unfolding(crate::specs::Number::value_of))]
 pub fn value(b: u8) -> u8
     ensures { result ≡ value_of b }
 {
@@ -58,6 +55,7 @@ pub fn value(b: u8) -> u8
 }
 
 // The digit of a number below 16.
+#[tactic(auto, unfolding(crate::specs::Hex::digit_of))]
 fn digit(n: u8) -> u8
     requires { n < 16 }
     ensures { result ≡ digit_of n }
@@ -68,20 +66,20 @@ fn digit(n: u8) -> u8
     0x57 + n
 }
 
-// Is each byte a digit? The loop has no way out before its end.
+// Is each byte a digit? A loop with no way out before its end, since `all` takes five times as long in `decode`.
+#[tactic(auto, using(std::proofs::lemmas::List::at_drop_more, std::proofs::lemmas::List::at_drop_all), unfolding(crate::specs::Number::are_digits))]
 pub fn are_digits(s: &[u8]) -> bool
     ensures { result ≡ are_digits s.now }
 {
     let mut good = true;
-    let mut i = 0;
-    while i < s.len() {
-        good = good & is_digit(s[i]);
-        i += 1;
+    for b in s {
+        good &= is_digit(*b);
     }
     good
 }
 
 // The byte of the pair of digits with the number i.
+#[tactic(auto, using(crate::proofs::Digits::value_below, crate::proofs::Pairs::digit_at))]
 fn pair(s: &[u8], i: usize) -> u8
     requires i_in_bounds { i < length s.now / 2 }
     requires s_value { are_digits s.now ≡ true }
@@ -92,26 +90,21 @@ fn pair(s: &[u8], i: usize) -> u8
     high * 16 + low
 }
 
-// The bytes of digits. The digits are judged first, then the room; a refusal leaves `out` as it was.
-pub fn decode(s: &[u8], out: &mut [u8]) -> Decoded
+// The bytes of digits, and how many they are. The digits are judged first, then the room; a refusal leaves `out` as it was.
+pub fn decode(s: &[u8], out: &mut [u8]) -> Result<usize, DecodeError>
     ensures { (result, out.new) ≡ decoded s.now out.old }
 {
-    if s.len() % 2 == 1 {
-        return Decoded::Bad;
-    }
-    if !are_digits(s) {
-        return Decoded::Bad;
+    if s.len() % 2 == 1 || !are_digits(s) {
+        return Err(DecodeError::Digits);
     }
     let n = s.len() / 2;
     if out.len() < n {
-        return Decoded::Short;
+        return Err(DecodeError::Room);
     }
-    let mut i = 0;
-    while i < n {
-        out[i] = pair(s, i);
-        i += 1;
+    for (i, b) in out[..n].iter_mut().enumerate() {
+        *b = pair(s, i);
     }
-    Decoded::Bytes(n)
+    Ok(n)
 }
 
 // The digits of bytes, at a place.
@@ -119,16 +112,15 @@ fn encode(s: &[u8], out: &mut [u8], at: usize)
     requires { at + 2 * length s.now ≤ length out.old }
     ensures { out.new ≡ sets out.old at (to_hex s.now) }
 {
-    let mut i = 0;
-    while i < s.len() {
-        let b = s[i];
+    for (i, b) in s.iter().enumerate() {
         out[at + 2 * i] = digit(b / 16);
         out[at + 2 * i + 1] = digit(b % 16);
-        i += 1;
     }
 }
 
 // The digits of m bytes that stand at a place, at another one: a copy of the bytes is spelt, so that the two may overlap.
+// The copy has room of a fixed size, since nothing is allocated. Start and number of both parts are told, since no two slices of one list can be lent where
+// they overlap.
 fn encode_part(out: &mut [u8], from: usize, m: usize, to: usize)
     requires m_bound { m ≤ 64 }
     requires m_in_bounds { from + m ≤ length out.old }
@@ -138,16 +130,6 @@ fn encode_part(out: &mut [u8], from: usize, m: usize, to: usize)
     let mut some = [0u8; 64];
     some[..m].copy_from_slice(&out[from..from + m]);
     encode(&some[..m], out, to);
-}
-
-// At most 64 of so many bytes.
-fn least(n: usize) -> usize
-    ensures { (result ≤ 64) × (result ≤ n) × (0 < n → 0 < result) }
-{
-    if n < 64 {
-        return n;
-    }
-    64
 }
 
 // The n bytes at a place become their digits there, which are twice as many, and the place behind them is answered. They are written
@@ -161,9 +143,10 @@ pub fn spread(out: &mut [u8], at: usize, n: usize) -> usize
     if (out.len() - at) / 2 < n {
         return at;
     }
+    // A loop by hand: a block is read and written in one list, so no iterator may lend its blocks.
     let mut i = n;
     while 0 < i {
-        let m = least(i);
+        let m = i.min(64);
         i -= m;
         encode_part(out, at + i, m, at + 2 * i);
     }
@@ -187,18 +170,12 @@ pub fn make_line(out: &mut [u8], at: usize, n: usize) -> usize
 }
 
 // Eight digits as a number, highest first.
-pub fn number(s: &[u8]) -> NumberRead
+pub fn number(s: &[u8]) -> Option<u32>
     ensures { as_number result ≡ from_digits (big_endian 4) s.now }
 {
-    if s.len() != 8 {
-        return NumberRead::Bad;
-    }
-    if !are_digits(s) {
-        return NumberRead::Bad;
-    }
-    let a = pair(s, 0) as u32;
-    let b = pair(s, 1) as u32;
-    let c = pair(s, 2) as u32;
-    let d = pair(s, 3) as u32;
-    NumberRead::Value(((a * 256 + b) * 256 + c) * 256 + d)
+    let mut bytes = [0u8; 4];
+    let Ok(4) = decode(s, &mut bytes) else {
+        return None;
+    };
+    Some(u32::from_be_bytes(bytes))
 }

@@ -6,12 +6,8 @@ ghost use Rattle.hexadecimal.specs.Scan.{index_of};
 pub fn find(s: &[u8], from: usize, b: u8) -> usize
     ensures { result ≡ from + index_of b (drop from s.now) }
 {
-    let mut i = from;
-    while i < s.len() {
-        if s[i] == b {
-            return i;
-        }
-        i += 1;
-    }
-    i
+    let Some(rest) = s.get(from..) else {
+        return from;
+    };
+    from + rest.iter().position(|x| *x == b).unwrap_or(rest.len())
 }

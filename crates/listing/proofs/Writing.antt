@@ -16,7 +16,7 @@ use Rattle.wire.specs.Write.{Room, Wrote, put_at}
 use Rattle.wire.proofs.Laws.{never, and, and_false, seq-valid, type_valid, bytes-part}
 use Rattle.wire.proofs.FieldLaws.{limited-good, limited-long, limited_length}
 use Rattle.wire.proofs.ListedEnc.{item-enc}
-use Rattle.wire.proofs.ListedWrite.{wrote-item, Measured, measured_none, measured_bad, measured_on, measured_all}
+use Rattle.wire.proofs.ListedWrite.{wrote-item, Measured, measured_bad, measured_on, measured_all}
 use Rattle.wire.proofs.UptoLaws.{length_upto, get_or_upto}
 use Rattle.wire.proofs.WriteLaws.{put-wrote, wrote-seq, wrote_type}
 use Rattle.field.specs.FieldRead.{part_of}
@@ -156,9 +156,6 @@ abbrev pub Judged : List ℕ → ℕ → Type 0
 Judged numbers i = (bytes : List ℕ) → Bytes bytes → (size : ℕ) × Measured (item_of true) 128 (listed_in bytes numbers) i size
 
 module _ (numbers : List ℕ) where
-  pub judged-none : Judged numbers 0
-  judged-none bytes b = (1, measured_none (item_of true) 128 (listed_in bytes numbers))
-
   pub judged-on : length numbers / 4 ≤ 128 → (i : ℕ) → i < length numbers / 4 → (span_at numbers (i * 4)).len ≤ key_limit → (span_at numbers (i * 4 + 2)).len ≤ value_limit
       → Judged numbers i → Judged numbers (i + 1)
   judged-on few i l h g j bytes b =

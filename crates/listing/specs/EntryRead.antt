@@ -1,19 +1,26 @@
 -- What the readers of a bulk reply's entries answer.
-use Rattle.std.specs.Prelude.{List, ℕ, ◌+◌, length}
+use Rattle.std.specs.Prelude.{List, ℕ, ◌+◌, length, Result, None, Some}
+use Rattle.std.specs.Prelude as rust
 use Rattle.std.proofs.Math.Option.{Option, none, some}
-use Rattle.wire.specs.Codec.{Read, whole, more, refused}
+use Rattle.wire.specs.Codec.{Read, whole, after}
 use Rattle.wire.specs.Field.{limited}
-use Rattle.field.specs.FieldRead.{part_of, span_to}
+use Rattle.field.specs.FieldRead.{as_read, part_of, span_to}
+use Rattle.field.specs.declared.Cursor.{Cursor}
 use Rattle.field.specs.declared.Span.{Span}
+use Rattle.field.specs.declared.refusals.Refusal.{Refusal}
 use Rattle.message.specs.Arguments.{key_limit}
-use Rattle.listing.specs.declared.EntryRead.{EntryRead}
-use Rattle.listing.specs.declared.EntryRead.TheVariants as e
+use Rattle.listing.specs.declared.Entry.{Entry}
 
-abbrev pub as_entry : EntryRead → Read (Option (Span × Span))
-as_entry (e.Whole k v c) = whole (some (k, v)) c.at
-as_entry (e.End c) = whole none c.at
-as_entry e.More = more
-as_entry (e.Refused k) = refused k
+-- an entry, and an entry or the end of the list
+abbrev pub as_pair : Result (rust.Option (Entry × Cursor)) Refusal → Read (Span × Span)
+as_pair r = after (as_read r) (λ x n. whole (x.key, x.value) n)
+
+abbrev pub spans_of : rust.Option Entry → Option (Span × Span)
+spans_of None = none
+spans_of (Some x) = some (x.key, x.value)
+
+abbrev pub as_entry : Result (rust.Option (rust.Option Entry × Cursor)) Refusal → Read (Option (Span × Span))
+as_entry r = after (as_read r) (λ o n. whole (spans_of o) n)
 
 -- where the key and the value of an entry stand, whose key's length stands at a place, and which ends at n
 unfoldable pub pair_at : ℕ → List ℕ × List ℕ → ℕ → Span × Span
@@ -28,10 +35,3 @@ item_at at (some p) n = some (pair_at (at + 1) p n)
 abbrev pub item_in : List ℕ → Option (Span × Span) → Option (List ℕ × List ℕ)
 item_in s none = none
 item_in s (some p) = some (part_of s p.0, part_of s p.1)
-
--- the end of a list behind so many entries; what else is no entry stops it
-abbrev pub count_of : ℕ → Read (Option (Span × Span)) → Read ℕ
-count_of n (whole none j) = whole n j
-count_of n (whole (some p) j) = more
-count_of n more = more
-count_of n (refused k) = refused k

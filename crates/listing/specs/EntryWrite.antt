@@ -1,13 +1,12 @@
 -- Entries that numbers name in bytes that are lent, and how many bytes they take.
-use Rattle.std.specs.Prelude.{List, true, cond, ℕ, ◌+◌, ◌*◌, ◌/◌, length, get_or}
+use Rattle.std.specs.Prelude.{List, true, cond, ℕ, ◌+◌, ◌*◌, ◌/◌, length, get_or, None, Some}
+use Rattle.std.specs.Prelude as rust
 use Rattle.std.proofs.Math.Option.{Option, none, some}
 use Rattle.wire.specs.Codec.{Codec, Valid, Bytes}
 use Rattle.wire.specs.Upto.{upto}
 use Rattle.field.specs.FieldRead.{part_of}
 use Rattle.field.specs.declared.Span.{Span}
 use Rattle.message.specs.Listing.{listing}
-use Rattle.listing.specs.declared.Size.{Size}
-use Rattle.listing.specs.declared.Size.TheVariants as z
 
 -- two numbers name a part: its start and its length
 abbrev pub span_at : List ℕ → ℕ → Span
@@ -29,6 +28,6 @@ Short numbers = (bytes : List ℕ) → Bytes bytes → Valid (listing true) (lis
 unfoldable pub length_of : {A : Type 0} → Codec A → A → Option ℕ
 length_of c a = cond (c.ok a) (some (length (c.enc a))) none
 
-abbrev pub as_size : Size → Option ℕ
-as_size (z.Bytes n) = some n
-as_size z.Broken = none
+abbrev pub as_size : rust.Option ℕ → Option ℕ
+as_size None = none
+as_size (Some n) = some n

@@ -3,122 +3,89 @@
 pub mod put;
 
 ghost use Rattle.std.specs.Prelude.{◌≡◌, cond, length, eqb};
-ghost use Rattle.std.proofs.Math.Option.{some};
 ghost use Rattle.wire.specs.Codec.{read_at, after, mapped, whole, refused};
 ghost use Rattle.wire.specs.Listed.{more_byte, item};
-ghost use Rattle.field.specs.FieldRead.{as_number, as_span, stopped};
+ghost use Rattle.field.specs.FieldRead.{as_read};
 ghost use Rattle.message.specs.Listing.{item_of, listing};
-ghost use Rattle.listing.specs.EntryRead.{as_entry, pair_at, item_at, count_of};
+ghost use Rattle.listing.specs.EntryRead.{as_pair, as_entry, pair_at, item_at};
 
-use field::{ByteRead, Cursor, NumberRead, Span, SpanRead};
+use field::{Cursor, Read, Refusal, Span};
 use message::Request;
 
-// What reading one finds: where its key and its value stand, with the place behind it; the end of the list, with the place behind it; more
-// needed; or a refusal by its number.
+// An entry: where its key and its value stand.
 #[derive(Clone, Copy)]
-pub enum EntryRead {
-    Whole(Span, Span, Cursor),
-    End(Cursor),
-    More,
-    Refused(u8),
-}
-
-// How many bytes entries take, or that they have no written form.
-#[derive(Clone, Copy)]
-pub enum Size {
-    Bytes(usize),
-    Broken,
+pub struct Entry {
+    pub key: Span,
+    pub value: Span,
 }
 
 // The greatest number of entries.
 pub const MOST: u64 = 128;
 
-// What a part that is not whole makes of its entry.
-fn stop(r: SpanRead) -> EntryRead
-    ensures { as_entry result ≡ stopped (as_span r) }
-{
-    match r {
-        SpanRead::Whole(_, _) => EntryRead::More,
-        SpanRead::More => EntryRead::More,
-        SpanRead::Refused(k) => EntryRead::Refused(k),
-    }
-}
-
 // The entry behind its more byte.
-fn read_pair(s: &[u8], c: Cursor, values: bool) -> EntryRead
-    ensures { as_entry result ≡ mapped (λ p n. some (pair_at c.at p n)) (read_at (item_of values) s.now c.at) }
+// `values` is the flag of the definition `listing`: whether a value stands behind each key. It chooses no step but that one, here and in the writers.
+fn read_pair(s: &[u8], c: Cursor, values: bool) -> Read<Entry>
+    ensures { as_pair result ≡ mapped (λ p n. pair_at c.at p n) (read_at (item_of values) s.now c.at) }
 {
-    let k = field::read_limited(s, c, Request::KEY);
-    let SpanRead::Whole(key, next) = k else {
-        return stop(k);
+    let Some((key, next)) = field::read_limited(s, c, Request::KEY)? else {
+        return Ok(None);
     };
     if !values {
-        return EntryRead::Whole(key, Span { start: 0, len: 0 }, next);
+        let value = Span { start: 0, len: 0 };
+        return Ok(Some((Entry { key, value }, next)));
     }
-    let v = field::read_limited(s, next, Request::VALUE);
-    let SpanRead::Whole(value, end) = v else {
-        return stop(v);
+    let Some((value, end)) = field::read_limited(s, next, Request::VALUE)? else {
+        return Ok(None);
     };
-    EntryRead::Whole(key, value, end)
+    Ok(Some((Entry { key, value }, end)))
 }
 
-// The entry at the cursor, or the end of the list.
-pub fn next_entry(s: &[u8], c: Cursor, values: bool) -> EntryRead
+// The entry at the cursor, or none at the end of the list.
+pub fn next_entry(s: &[u8], c: Cursor, values: bool) -> Read<Option<Entry>>
     ensures { as_entry result ≡ mapped (item_at c.at) (read_at (item (item_of values)) s.now c.at) }
 {
-    let r = field::read_byte(s, c);
-    let ByteRead::Whole(b, next) = r else {
-        return EntryRead::More;
+    let Some((b, next)) = field::read_byte(s, c) else {
+        return Ok(None);
     };
     if b == 0 {
-        return EntryRead::End(next);
+        return Ok(Some((None, next)));
     }
     if b != 1 {
-        return EntryRead::Refused(8);
+        return Err(Refusal::Field);
     }
-    read_pair(s, next, values)
-}
-
-// What an answer that is no entry makes of the list, before which n entries were read.
-fn ended(r: EntryRead, n: u64) -> NumberRead
-    ensures { as_number result ≡ count_of n (as_entry r) }
-{
-    match r {
-        EntryRead::Whole(_, _, _) => NumberRead::More,
-        EntryRead::End(c) => NumberRead::Whole(n, c),
-        EntryRead::More => NumberRead::More,
-        EntryRead::Refused(k) => NumberRead::Refused(k),
-    }
+    let Some((entry, end)) = read_pair(s, next, values)? else {
+        return Ok(None);
+    };
+    Ok(Some((Some(entry), end)))
 }
 
 // The end of a list of the greatest number of entries.
-fn read_end(s: &[u8], c: Cursor) -> NumberRead
-    ensures { as_number result ≡ after (read_at more_byte s.now c.at) (λ b j. cond (eqb b 0) (whole 128 j) (refused 6)) }
+fn read_end(s: &[u8], c: Cursor) -> Read<u64>
+    ensures { as_read result ≡ after (read_at more_byte s.now c.at) (λ b j. cond (eqb b 0) (whole 128 j) (refused 6)) }
 {
-    let r = field::read_byte(s, c);
-    let ByteRead::Whole(b, next) = r else {
-        return NumberRead::More;
+    let Some((b, next)) = field::read_byte(s, c) else {
+        return Ok(None);
     };
     match b {
-        0 => NumberRead::Whole(MOST, next),
-        1 => NumberRead::Refused(6),
-        _ => NumberRead::Refused(8),
+        0 => Ok(Some((MOST, next))),
+        1 => Err(Refusal::Length),
+        _ => Err(Refusal::Field),
     }
 }
 
 // The entries at the cursor: how many there are, and the place behind their end.
-pub fn read_entries(s: &[u8], c: Cursor, values: bool) -> NumberRead
-    ensures { as_number result ≡ mapped (λ xs n. length xs) (read_at (listing values) s.now c.at) }
+pub fn read_entries(s: &[u8], c: Cursor, values: bool) -> Read<u64>
+    ensures { as_read result ≡ mapped (λ xs n. length xs) (read_at (listing values) s.now c.at) }
 {
-    let mut n: u64 = 0;
-    let mut at = c.at;
-    while n < MOST {
-        let r = next_entry(s, Cursor { at: at }, values);
-        let EntryRead::Whole(_, _, next) = r else {
-            return ended(r, n);
+    let mut here = c;
+    for n in 0..MOST {
+        let Some((entry, next)) = next_entry(s, here, values)? else {
+            return Ok(None);
         };
-        at = next.at;
-        n += 1;
+        if entry.is_none() {
+            return Ok(Some((n, next)));
+        }
+        here = next;
     }
-    read_end(s, Cursor { at: at })
+    read_end(s, here)
 }

@@ -1,5 +1,5 @@
 // The writers of entries. Numbers name each entry in bytes that the caller lends, four for each: the start and the length of its key, and those
-// of its value, which is empty where values are not asked for.
+// of its value, which is empty where values are not asked for. They stay numbers in a row, as the C function `fq_write_entries` is given them.
 ghost use Rattle.std.specs.Prelude.{◌≡◌, true, ◌+◌, ◌≤◌, ◌<◌, length};
 ghost use Rattle.std.proofs.Math.Option.{some};
 ghost use Rattle.wire.specs.Codec.{Valid};
@@ -8,7 +8,7 @@ ghost use Rattle.wire.specs.Write.{Room, Wrote, put_at};
 ghost use Rattle.message.specs.Listing.{item_of, listing};
 ghost use Rattle.listing.specs.EntryWrite.{span_at, listed_in, Short, length_of, as_size};
 
-use crate::{MOST, Size};
+use crate::MOST;
 use field::{Span, put};
 use message::Request;
 
@@ -27,50 +27,45 @@ fn span_at(numbers: &[u64], i: usize) -> Span
 }
 
 // How many bytes an entry takes behind its more byte.
-fn entry_len(key: &[u8], value: &[u8], values: bool) -> Size
+fn entry_len(key: &[u8], value: &[u8], values: bool) -> Option<usize>
     ensures { as_size result ≡ length_of (item_of values) (key.now, value.now) }
 {
     let k = key.len();
     if Request::KEY < k as u64 {
-        return Size::Broken;
+        return None;
     }
     let v = value.len();
     if !values {
         if v != 0 {
-            return Size::Broken;
+            return None;
         }
-        return Size::Bytes(put::number_len(k as u64) + k);
+        return Some(put::number_len(k as u64) + k);
     }
     if Request::VALUE < v as u64 {
-        return Size::Broken;
+        return None;
     }
-    Size::Bytes(put::number_len(k as u64) + k + (put::number_len(v as u64) + v))
+    Some(put::number_len(k as u64) + k + (put::number_len(v as u64) + v))
 }
 
 // How many bytes entries take with their end.
-pub fn entries_len(bytes: &[u8], numbers: &[u64], values: bool) -> Size
+pub fn entries_len(bytes: &[u8], numbers: &[u64], values: bool) -> Option<usize>
     ensures { as_size result ≡ length_of (listing values) (listed_in bytes.now numbers.now) }
 {
     let n = numbers.len() / 4;
     if MOST < n as u64 {
-        return Size::Broken;
+        return None;
     }
     let mut size: usize = 1;
-    let mut i = 0;
-    while i < n {
+    for i in 0..n {
         let key = field::part(bytes, span_at(numbers, i * 4));
         let value = field::part(bytes, span_at(numbers, i * 4 + 2));
-        let e = entry_len(key, value, values);
-        let Size::Bytes(more) = e else {
-            return Size::Broken;
-        };
-        size += more + 1;
-        i += 1;
+        size += entry_len(key, value, values)? + 1;
     }
-    Size::Bytes(size)
+    Some(size)
 }
 
 // An entry behind its more byte.
+// The clauses `valid` and `room` speak of each function's own codec: a type that held them would be one for each.
 fn put_entry(out: &mut [u8], at: usize, key: &[u8], value: &[u8], values: bool) -> usize
     requires valid { Valid (item_of values) (key.now, value.now) }
     requires room { Room (item (item_of values)) (some (key.now, value.now)) at out.old }
@@ -85,6 +80,7 @@ fn put_entry(out: &mut [u8], at: usize, key: &[u8], value: &[u8], values: bool) 
 }
 
 // Entries and their end.
+// `server` writes the entries of a table by their rows, with no numbers in a row.
 fn put_all(out: &mut [u8], at: usize, bytes: &[u8], numbers: &[u64], values: bool) -> usize
     requires valid { Valid (listing values) (listed_in bytes.now numbers.now) }
     requires room { Room (listing values) (listed_in bytes.now numbers.now) at out.old }
@@ -92,12 +88,10 @@ fn put_all(out: &mut [u8], at: usize, bytes: &[u8], numbers: &[u64], values: boo
 {
     let n = numbers.len() / 4;
     let mut here = at;
-    let mut i = 0;
-    while i < n {
+    for i in 0..n {
         let key = field::part(bytes, span_at(numbers, i * 4));
         let value = field::part(bytes, span_at(numbers, i * 4 + 2));
         here = put_entry(out, here, key, value, values);
-        i += 1;
     }
     put::put_byte(out, here, 0)
 }
@@ -110,17 +104,12 @@ fn all_short(numbers: &[u64]) -> bool
     if MOST < n as u64 {
         return false;
     }
-    let mut i = 0;
-    while i < n {
+    for i in 0..n {
         let key = span_at(numbers, i * 4);
         let value = span_at(numbers, i * 4 + 2);
-        if Request::KEY < key.len as u64 {
+        if Request::KEY < key.len as u64 || Request::VALUE < value.len as u64 {
             return false;
         }
-        if Request::VALUE < value.len as u64 {
-            return false;
-        }
-        i += 1;
     }
     true
 }
@@ -129,16 +118,7 @@ fn all_short(numbers: &[u64]) -> bool
 fn is_sure(len: usize, at: usize, numbers: &[u64], values: bool) -> bool
     ensures { result ≡ true → (values ≡ true) × ((at + 41_473 ≤ len) × Short numbers.now) }
 {
-    if !values {
-        return false;
-    }
-    if len < LONGEST {
-        return false;
-    }
-    if len - LONGEST < at {
-        return false;
-    }
-    all_short(numbers)
+    values && LONGEST <= len && at <= len - LONGEST && all_short(numbers)
 }
 
 // Writes entries and their end at `at`, and answers the place behind them; where they have no written form or there is no room, it writes nothing.
@@ -148,8 +128,7 @@ pub fn put_entries(out: &mut [u8], at: usize, bytes: &[u8], numbers: &[u64], val
     if is_sure(out.len(), at, numbers, values) {
         return put_all(out, at, bytes, numbers, values);
     }
-    let s = entries_len(bytes, numbers, values);
-    let Size::Bytes(size) = s else {
+    let Some(size) = entries_len(bytes, numbers, values) else {
         return at;
     };
     if out.len() < at {

@@ -13,7 +13,7 @@ use Rattle.message.specs.declared.Operation.TheVariants.{Put, Get, PutIfAbsent, 
 use Rattle.message.specs.Arguments.{is_empty}
 use Rattle.message.specs.Request.{Request}
 use Rattle.message.specs.ReplyTable as m
-use Rattle.message.specs.ReplyTable.{Body, table, body_at, is_allowed, allowed, has_old, status_with_old, reply_status}
+use Rattle.message.specs.ReplyTable.{Body, table, body_at, allowed, has_old, status_with_old, reply_status}
 use Rattle.message.specs.Payload.{form_of}
 use Rattle.message.proofs.Editions.{old_statuses_is}
 use Rattle.map.specs.State.{Entry, State}

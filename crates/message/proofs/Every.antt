@@ -2,23 +2,19 @@
 use mathlib.Core.Path.{◌≡◌, refl, subst}
 use mathlib.Core.List.{List, [], ◌∷◌}
 use mathlib.Core.Logic.{◌⊎◌, inl, inr}
-use mathlib.Core.Bool.{Bool, true, false, not, ◌&&◌, ◌||◌}
+use mathlib.Core.Bool.{Bool, true, ◌&&◌}
 use mathlib.Core.Option.{Option}
 use Prim.Native.Nat.{ℕ, ◌+◌, ◌<◌}
 use native.Mathlib.Omega.{arith}
 use lib.Dec.{eqb, ltb}
 use borrow.Author.Tests.{ne_eqb, ltb-true}
-use types.Run.{OneOf, miss}
-use mir.Val.{has_key}
-use denote.Enum.Declared.{tag_of}
-use Rattle.wire.proofs.Laws.{never, both}
+use Rattle.wire.proofs.Laws.{both}
 use Rattle.wire.proofs.Basics.{pick}
 use Rattle.message.specs.declared.Operation.{Operation}
 use Rattle.message.specs.declared.Operation.TheVariants.{Put, Get, PutIfAbsent, Replace, ReplaceIfUnmodified, Remove, RemoveIfUnmodified, ContainsKey, GetWithVersion, Clear, Stats, Ping, BulkGet, BulkGetKeys}
 use Rattle.message.specs.Operation.{code_of}
 use Rattle.message.specs.ReplyTable.{Body, nothing, table, body_at, allowed}
 use Rattle.message.specs.Reply.{statuses_of}
-use Rattle.message.specs.contracts.Operation as code
 
 abbrev pub operations : List Operation
 operations = Put ∷ Get ∷ PutIfAbsent ∷ Replace ∷ ReplaceIfUnmodified ∷ Remove ∷ RemoveIfUnmodified ∷ ContainsKey ∷ GetWithVersion ∷ Clear ∷ Stats ∷ Ping ∷ BulkGet ∷ BulkGetKeys ∷ []
@@ -55,16 +51,6 @@ one test (x ∷ os) o h (inr i) = one test os o (both (test x) (pass test os) h)
 
 pub every : (test : Operation → Bool) → pass test operations ≡ true → (o : Operation) → test o ≡ true
 every test h o = one test operations o h (listed o)
-
--- and of those that an arm of a match is for
-pub every_of : (tags : List ℕ) (test : Operation → Bool) → pass (λ o. test o || not (has_key tags (tag_of code.the_type o))) operations ≡ true
-    → (o : Operation) → OneOf tags (tag_of code.the_type o) → test o ≡ true
-every_of tags test h o k = go (test o) (has_key tags (tag_of code.the_type o)) refl (every (λ o. test o || not (has_key tags (tag_of code.the_type o))) h o)
-  where
-    go : (b t : Bool) → has_key tags (tag_of code.the_type o) ≡ t → (b || not t) ≡ true → b ≡ true
-    go true t e q = refl
-    go false true e q = never (cc)
-    go false false e q = absurd (miss tags (tag_of code.the_type o) (rw e tt) k)
 
 -- each body of a list passes a test: so does that of any status
 abbrev pub bodies : (Body → Bool) → List (ℕ × Body) → Bool

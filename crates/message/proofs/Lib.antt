@@ -12,3 +12,4 @@ pub mod ReplySize
 pub mod ErrorLaws
 pub mod Refusals
 pub mod ListingLaws
+pub mod Codes

@@ -1,10 +1,10 @@
 -- The served operations (document 01, 'What is built'; document 02, C-13).
 use Rattle.std.proofs.Math.Option.{Option, none, some}
-use Rattle.std.specs.Prelude.{Bool, true, false, cond, ℕ, eqb}
+use Rattle.std.specs.Prelude.{Bool, true, false, cond, ℕ, eqb, Result, Ok, Err}
 use Rattle.message.specs.declared.Operation.{Operation}
 use Rattle.message.specs.declared.Operation.TheVariants.{Put, Get, PutIfAbsent, Replace, ReplaceIfUnmodified, Remove, RemoveIfUnmodified, ContainsKey, GetWithVersion, Clear, Stats, Ping, BulkGet, BulkGetKeys}
-use Rattle.message.specs.declared.Found.{Found}
-use Rattle.message.specs.declared.Found.TheVariants as f
+use Rattle.field.specs.declared.refusals.Refusal.{Refusal}
+use Rattle.field.specs.declared.refusals.Refusal.TheVariants as r
 
 abbrev pub code_of : Operation → ℕ
 code_of Put = 0x01
@@ -40,9 +40,10 @@ find_code n =
     (cond (eqb n 0x19) (some BulkGet)
     (cond (eqb n 0x1d) (some BulkGetKeys) none)))))))))))))
 
-abbrev pub as_found : Found → Option Operation
-as_found (f.Known o) = some o
-as_found f.Unknown = none
+-- the answer of one who looks for it
+abbrev pub found_by : Option Operation → Result Operation Refusal
+found_by none = Err r.Operation
+found_by (some o) = Ok o
 
 abbrev pub is_known : Option Operation → Bool
 is_known none = false

@@ -1,8 +1,9 @@
 -- What a writer's answer says.
+use Rattle.std.specs.Prelude.{ℕ, Result, Ok, Err}
 use Rattle.wire.specs.Write as wire
-use Rattle.message.specs.declared.Sent.{Sent}
-use Rattle.message.specs.declared.Sent.TheVariants as s
+use Rattle.field.specs.declared.refusals.Refusal.{Refusal}
+use Rattle.field.specs.Refusal.{number_of}
 
-abbrev pub as_sent : Sent → wire.Sent
-as_sent (s.Written n) = wire.written n
-as_sent (s.Refused k) = wire.kept k
+abbrev pub as_sent : Result ℕ Refusal → wire.Sent
+as_sent (Ok n) = wire.written n
+as_sent (Err k) = wire.kept (number_of k)

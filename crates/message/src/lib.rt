@@ -2,11 +2,11 @@
 // The messages of the protocol: their types, and the limits that belong to them. Their formats are in specs/, the formats' laws in proofs/.
 ghost use Rattle.std.specs.Prelude.{◌≡◌};
 ghost use Rattle.field.specs.FieldRead.{part_of};
-ghost use Rattle.message.specs.Operation.{code_of, as_found, find_code};
+ghost use Rattle.message.specs.Operation.{code_of, found_by, find_code};
 ghost use Rattle.message.specs.Arguments.{name_limit, key_limit, value_limit};
 ghost use Rattle.message.specs.Payload.{text_limit};
 
-use field::{EntryVersion, Span};
+use field::{EntryVersion, Refusal, Span};
 
 #[derive(Clone, Copy)]
 pub enum Operation {
@@ -28,6 +28,8 @@ pub enum Operation {
 
 // The numbers of a request. A number that the operation does not send is 0. `bulk` is the number of entries that bulkGet asks for, and the scope of
 // bulkGetKeys.
+// In `Head`, `Asked` and `ReplyHead` a version, a code of an operation and a status are any byte: the readers and the writers judge them, and refuse those that
+// are not served, awaited or allowed.
 #[derive(Clone, Copy)]
 pub struct Head {
     pub id: u64,
@@ -52,6 +54,7 @@ pub struct Request {
 }
 
 // What was asked: the version, the operation's code, and whether flag 0x0001 was set.
+// The flag is one of the three numbers that were asked; no other field is there or not by it.
 #[derive(Clone, Copy)]
 pub struct Asked {
     pub version: u8,
@@ -96,13 +99,6 @@ pub struct Limits {
     pub value: u64,
 }
 
-// What the writer of a message answers: how many bytes it wrote, or the refusal for which it wrote none.
-#[derive(Clone, Copy)]
-pub enum Sent {
-    Written(usize),
-    Refused(u8),
-}
-
 impl Request {
     pub const NAME: u64 = 32;
 
@@ -122,25 +118,23 @@ impl Request {
     }
 
     // The name, the key and the value, as parts of the bytes that the request was read from.
+    // These and those of `Reply` are one line each over `field::part`, with the promise of their own part.
     pub fn name_in(self, s: &[u8]) -> &[u8]
         ensures { result.now ≡ part_of s.now self.name }
     {
-        let p = self.name;
-        field::part(s, p)
+        field::part(s, self.name)
     }
 
     pub fn key_in(self, s: &[u8]) -> &[u8]
         ensures { result.now ≡ part_of s.now self.key }
     {
-        let p = self.key;
-        field::part(s, p)
+        field::part(s, self.key)
     }
 
     pub fn value_in(self, s: &[u8]) -> &[u8]
         ensures { result.now ≡ part_of s.now self.value }
     {
-        let p = self.value;
-        field::part(s, p)
+        field::part(s, self.value)
     }
 }
 
@@ -159,65 +153,64 @@ impl Reply {
     pub fn value_in(self, s: &[u8]) -> &[u8]
         ensures { result.now ≡ part_of s.now self.value }
     {
-        let v = self.value;
-        field::part(s, v)
+        field::part(s, self.value)
     }
 
     pub fn text_in(self, s: &[u8]) -> &[u8]
         ensures { result.now ≡ part_of s.now self.text }
     {
-        let p = self.text;
-        field::part(s, p)
+        field::part(s, self.text)
     }
 }
 
 // The code of an operation in a request.
-pub fn code(op: Operation) -> u8
-    ensures { result ≡ code_of op }
-{
-    match op {
-        Operation::Put => 0x01,
-        Operation::Get => 0x03,
-        Operation::PutIfAbsent => 0x05,
-        Operation::Replace => 0x07,
-        Operation::ReplaceIfUnmodified => 0x09,
-        Operation::Remove => 0x0b,
-        Operation::RemoveIfUnmodified => 0x0d,
-        Operation::ContainsKey => 0x0f,
-        Operation::GetWithVersion => 0x11,
-        Operation::Clear => 0x13,
-        Operation::Stats => 0x15,
-        Operation::Ping => 0x17,
-        Operation::BulkGet => 0x19,
-        Operation::BulkGetKeys => 0x1d,
+impl From<Operation> for u8 {
+    ghost from_gives = { λ op n. n ≡ code_of op };
+
+    fn from(op: Operation) -> u8 {
+        match op {
+            Operation::Put => 0x01,
+            Operation::Get => 0x03,
+            Operation::PutIfAbsent => 0x05,
+            Operation::Replace => 0x07,
+            Operation::ReplaceIfUnmodified => 0x09,
+            Operation::Remove => 0x0b,
+            Operation::RemoveIfUnmodified => 0x0d,
+            Operation::ContainsKey => 0x0f,
+            Operation::GetWithVersion => 0x11,
+            Operation::Clear => 0x13,
+            Operation::Stats => 0x15,
+            Operation::Ping => 0x17,
+            Operation::BulkGet => 0x19,
+            Operation::BulkGetKeys => 0x1d,
+        }
     }
 }
 
 // What a code stands for. "Every other code is refused, known to the protocol or not."
-#[derive(Clone, Copy)]
-pub enum Found {
-    Known(Operation),
-    Unknown,
-}
+impl TryFrom<u8> for Operation {
+    type Error = Refusal;
 
-pub fn find(code: u8) -> Found
-    ensures { as_found result ≡ find_code code }
-{
-    match code {
-        0x01 => Found::Known(Operation::Put),
-        0x03 => Found::Known(Operation::Get),
-        0x05 => Found::Known(Operation::PutIfAbsent),
-        0x07 => Found::Known(Operation::Replace),
-        0x09 => Found::Known(Operation::ReplaceIfUnmodified),
-        0x0b => Found::Known(Operation::Remove),
-        0x0d => Found::Known(Operation::RemoveIfUnmodified),
-        0x0f => Found::Known(Operation::ContainsKey),
-        0x11 => Found::Known(Operation::GetWithVersion),
-        0x13 => Found::Known(Operation::Clear),
-        0x15 => Found::Known(Operation::Stats),
-        0x17 => Found::Known(Operation::Ping),
-        0x19 => Found::Known(Operation::BulkGet),
-        0x1d => Found::Known(Operation::BulkGetKeys),
-        _ => Found::Unknown,
+    ghost try_from_gives = { λ code r. r ≡ found_by (find_code code) };
+
+    #[tactic(auto, unfolding(crate::specs::Operation::find_code))]
+    fn try_from(code: u8) -> Result<Operation, Refusal> {
+        match code {
+            0x01 => Ok(Operation::Put),
+            0x03 => Ok(Operation::Get),
+            0x05 => Ok(Operation::PutIfAbsent),
+            0x07 => Ok(Operation::Replace),
+            0x09 => Ok(Operation::ReplaceIfUnmodified),
+            0x0b => Ok(Operation::Remove),
+            0x0d => Ok(Operation::RemoveIfUnmodified),
+            0x0f => Ok(Operation::ContainsKey),
+            0x11 => Ok(Operation::GetWithVersion),
+            0x13 => Ok(Operation::Clear),
+            0x15 => Ok(Operation::Stats),
+            0x17 => Ok(Operation::Ping),
+            0x19 => Ok(Operation::BulkGet),
+            0x1d => Ok(Operation::BulkGetKeys),
+            _ => Err(Refusal::Operation),
+        }
     }
 }

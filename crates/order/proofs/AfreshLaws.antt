@@ -8,8 +8,8 @@ use Rattle.wire.specs.Each.{Each}
 use Rattle.map.specs.State.{State}
 use Rattle.map.specs.Step.{Context}
 use Rattle.table.specs.Memory.{Sound}
-use Rattle.table.specs.declared.Outcome.{Outcome}
-use Rattle.table.specs.declared.Outcome.TheVariants.{Done as Loads, Refused}
+use Rattle.std.specs.Prelude.{Result, Ok, Err}
+use Rattle.field.specs.declared.refusals.Refusal.{Refusal}
 use Rattle.table.proofs.ByKey.{order-entries}
 use Rattle.service.specs.Stream.{Call, Done, effect_of, Becomes, Run, run_end, run_call}
 use Rattle.service.specs.Many.{Total, Streams, waits, last, then}
@@ -25,9 +25,9 @@ becomes_sound : {t u : List ℕ} (o : Option State) → Becomes t o u → Sound 
 becomes_sound none b s = subst Sound (sym b) s
 becomes_sound (some st) b s = b.1
 
-loaded-sound : (file : List ℕ) {t u : List ℕ} (o : Outcome) → Loaded form1 file t o u → Sound t → Sound u
-loaded-sound file Loads l s = l.1
-loaded-sound file (Refused k) l s = subst Sound (sym l.1) s
+loaded-sound : (file : List ℕ) {t u : List ℕ} (o : Result (Unit {0}) Refusal) → Loaded form1 file t o u → Sound t → Sound u
+loaded-sound file (Ok x) l s = l.1
+loaded-sound file (Err k) l s = subst Sound (sym l.1) s
 
 transition_sound : {t u : List ℕ} → Transition t u → Sound t → Sound u
 transition_sound (call {input = input} {t = t} {c = c} x) s = becomes_sound (effect_of x.ok input t c).next x.does.table s

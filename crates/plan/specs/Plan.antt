@@ -1,6 +1,9 @@
 -- What the code plans, by the meaning of it.
-use Rattle.std.specs.Prelude.{◌≡◌, List, Bool, true, false, cond, ◌&&◌, ◌⊎◌, ℕ, length, leb, ltb}
+use Rattle.std.specs.Prelude.{◌≡◌, List, Bool, true, false, cond, ◌&&◌, ◌⊎◌, ℕ, length, leb, ltb, Some, None, Result, Ok, Err}
+use Rattle.std.specs.Prelude as code
 use Rattle.std.proofs.Math.Option.{Option, none, some}
+use Rattle.field.specs.Refusal.{number_of}
+use Rattle.field.specs.declared.refusals.Refusal.{Refusal}
 use Rattle.map.specs.State.{Entry, State, with_entries, find, has_key}
 use Rattle.map.specs.Deadline.{expired, standing}
 use Rattle.map.specs.Plan as map
@@ -8,14 +11,10 @@ use Rattle.map.specs.Step.{most_keys, last_version, is_none}
 use Rattle.table.specs.Memory.{state_of}
 use Rattle.table.specs.Sweep.{is_due}
 use Rattle.table.specs.Found.{entry_at, FoundIs}
-use Rattle.table.specs.declared.Found.TheVariants as f
 use Rattle.plan.specs.declared.Held.{Held}
-use Rattle.plan.specs.declared.Held.TheVariants as h
 use Rattle.plan.specs.declared.Change.{Change}
 use Rattle.plan.specs.declared.Change.TheVariants as c
 use Rattle.plan.specs.declared.Plan.{Plan}
-use Rattle.plan.specs.declared.Judged.{Judged}
-use Rattle.plan.specs.declared.Judged.TheVariants as j
 
 abbrev pub as_change : Change → map.Change
 as_change c.Keep = map.keep
@@ -27,19 +26,19 @@ abbrev pub as_plan : Plan → map.Plan
 as_plan p = record { status = p.status; change = as_change p.change }
 
 -- the row of the table that has the key, with the version of its entry, or that none has it
-abbrev pub Holds : List ℕ → List ℕ → Held → Type 0
-Holds t k (h.Row i v) = FoundIs t k (f.At i) × (v.0 ≡ (entry_at t i).version)
-Holds t k h.Absent = FoundIs t k f.Absent
+abbrev pub Holds : List ℕ → List ℕ → code.Option Held → Type 0
+Holds t k (Some h) = FoundIs t k (Some h.row) × (h.version.0 ≡ (entry_at t h.row).version)
+Holds t k None = FoundIs t k None
 
 -- the same of what stands at a second: an entry that has expired counts as absent
-abbrev pub HoldsAt : ℕ → List ℕ → List ℕ → Held → Type 0
-HoldsAt now t k (h.Row i v) = Holds t k (h.Row i v) × (expired now (entry_at t i) ≡ false)
-HoldsAt now t k h.Absent = Holds t k h.Absent ⊎ ((i : ℕ) × FoundIs t k (f.At i) × (expired now (entry_at t i) ≡ true))
+abbrev pub HoldsAt : ℕ → List ℕ → List ℕ → code.Option Held → Type 0
+HoldsAt now t k (Some h) = Holds t k (Some h) × (expired now (entry_at t h.row) ≡ false)
+HoldsAt now t k None = Holds t k None ⊎ ((i : ℕ) × FoundIs t k (Some i) × (expired now (entry_at t i) ≡ true))
 
 -- the version held
-abbrev pub held_version : Held → Option ℕ
-held_version (h.Row i v) = some v.0
-held_version h.Absent = none
+abbrev pub held_version : code.Option Held → Option ℕ
+held_version (Some h) = some h.version.0
+held_version None = none
 
 -- the entry that has the key
 abbrev pub held_at : List ℕ → List ℕ → Option Entry
@@ -68,6 +67,6 @@ refusal_of st o map.empty = none
 refusal_of st o map.store = cond (is_full st o) (some 10) (cond (ltb st.last last_version) none (some 11))
 
 -- the number of the refusal, or none
-abbrev pub as_judged : Judged → Option ℕ
-as_judged j.Free = none
-as_judged (j.Refused k) = some k
+abbrev pub as_judged : Result Unit Refusal → Option ℕ
+as_judged (Ok u) = none
+as_judged (Err r) = some (number_of r)

@@ -4,15 +4,15 @@ ghost use Rattle.std.specs.Prelude.{◌≡◌};
 ghost use Rattle.map.specs.Plan as map;
 ghost use Rattle.plan.specs.Plan.{as_plan, as_change, as_judged, HoldsAt, held_version, judged_at, is_full, refusal_of};
 
-use field::{EntryVersion, Second};
+use field::{EntryVersion, Refusal, Second};
 use message::Operation;
-use table::{Found, Table};
+use table::Table;
 
-// The row that has the key, with the version of its entry, or that none has it.
+// The row that has a key, with the version of its entry.
 #[derive(Clone, Copy)]
-pub enum Held {
-    Row(usize, EntryVersion),
-    Absent,
+pub struct Held {
+    pub row: usize,
+    pub version: EntryVersion,
 }
 
 // What becomes of the entries.
@@ -24,33 +24,29 @@ pub enum Change {
     Empty,
 }
 
+// The status is its number in the reply table, by which `rules` looks it up and a `ReplyHead` has it.
 #[derive(Clone, Copy)]
 pub struct Plan {
     pub status: u8,
     pub change: Change,
 }
 
-// Whether a change may be made, or the refusal for which it may not.
-#[derive(Clone, Copy)]
-pub enum Judged {
-    Free,
-    Refused(u8),
-}
-
 // The row that has the key, with its version, if its entry stands at a second. Keys differ, so no other row has the key.
-pub fn held_in(t: &[u8], key: &[u8], second: Second) -> Held
+// Memory and second are lent to each function by itself, as to those of `table`: memory of any length is taken.
+pub fn held_in(t: &[u8], key: &[u8], second: Second) -> Option<Held>
     ensures { HoldsAt second.0 t.now key.now result }
 {
-    let f = table::find(t, key);
-    let Found::At(i) = f else {
-        return Held::Absent;
-    };
-    if !table::stands(t, i, second) {
-        return Held::Absent;
+    let row = table::find(t, key)?;
+    if !table::stands(t, row, second) {
+        return None;
     }
-    Held::Row(i, table::version_at(t, i))
+    Some(Held {
+        row: row,
+        version: table::version_at(t, row),
+    })
 }
 
+#[tactic(auto, unfolding(map::specs::Plan::plans))]
 fn planned(status: u8, change: Change) -> Plan
     ensures { as_plan result ≡ map.plans status (as_change change) }
 {
@@ -61,33 +57,33 @@ fn planned(status: u8, change: Change) -> Plan
 }
 
 // One plan where the key is held, and another where it is not.
-fn if_held(held: Held, present: Plan, absent: Plan) -> Plan
+fn if_held(held: Option<Held>, present: Plan, absent: Plan) -> Plan
     ensures { as_plan result ≡ map.if_held (held_version held) (as_plan present) (as_plan absent) }
 {
     match held {
-        Held::Row(_, _) => present,
-        Held::Absent => absent,
+        Some(_) => present,
+        None => absent,
     }
 }
 
 // The plan of an operation that asks for a version: the change where the version held is the same one.
-fn if_same(held: Held, asked: EntryVersion, change: Change) -> Plan
+fn if_same(held: Option<Held>, asked: EntryVersion, change: Change) -> Plan
     ensures { as_plan result ≡ map.if_same (held_version held) asked.0 (as_change change) }
 {
-    match held {
-        Held::Row(_, version) => {
-            if version.0 == asked.0 {
-                planned(0x00, change)
-            } else {
-                planned(0x01, Change::Keep)
-            }
-        }
-        Held::Absent => planned(0x02, Change::Keep),
+    let Some(held) = held else {
+        return planned(0x02, Change::Keep);
+    };
+    if held.version.0 == asked.0 {
+        planned(0x00, change)
+    } else {
+        planned(0x01, Change::Keep)
     }
 }
 
 // The reply table: the status, and what becomes of the entries.
-pub fn plan_of(op: Operation, asked: EntryVersion, held: Held) -> Plan
+// A match: each operation has a plan of its own, and none is a step that is run here.
+#[tactic(auto, unfolding(map::specs::Plan::plan))]
+pub fn plan_of(op: Operation, asked: EntryVersion, held: Option<Held>) -> Plan
     ensures { as_plan result ≡ map.plan op asked.0 (held_version held) }
 {
     let stored = planned(0x00, Change::Store);
@@ -112,12 +108,12 @@ pub fn plan_of(op: Operation, asked: EntryVersion, held: Held) -> Plan
 }
 
 // Whether a key would be added and 128 entries stand at a second. Deadlines are looked at only where so many are held and one may have come.
-fn is_full(t: &[u8], held: Held, second: Second) -> bool
+fn is_full(t: &[u8], held: Option<Held>, second: Second) -> bool
     ensures { result ≡ is_full (judged_at second.0 t.now) (held_version held) }
 {
-    let Held::Absent = held else {
+    if held.is_some() {
         return false;
-    };
+    }
     if table::count(t) < Table::KEYS {
         return false;
     }
@@ -127,18 +123,23 @@ fn is_full(t: &[u8], held: Held, second: Second) -> bool
     Table::KEYS <= table::standing(t, second)
 }
 
-// The refusal of a change at a second: 10 where it adds a key to a table of which 128 entries stand, 11 where no version is left for it.
-pub fn refusal_of(t: &[u8], change: Change, held: Held, second: Second) -> Judged
+// Whether a change may be made at a second: it is refused where it adds a key to a table of which 128 entries stand, and where no version is left for it.
+pub fn refusal_of(
+    t: &[u8],
+    change: Change,
+    held: Option<Held>,
+    second: Second,
+) -> Result<(), Refusal>
     ensures { as_judged result ≡ refusal_of (judged_at second.0 t.now) (held_version held) (as_change change) }
 {
     let Change::Store = change else {
-        return Judged::Free;
+        return Ok(());
     };
     if is_full(t, held, second) {
-        return Judged::Refused(10);
+        return Err(Refusal::Full);
     }
     if Table::LAST_VERSION <= table::last(t).0 {
-        return Judged::Refused(11);
+        return Err(Refusal::Versions);
     }
-    Judged::Free
+    Ok(())
 }

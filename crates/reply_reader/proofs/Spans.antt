@@ -22,7 +22,9 @@ use Rattle.message.specs.Payload.{text_limit, Payload, no_body, value_body, vers
 use Rattle.message.specs.Reply.{Reply, fields, message, is_awaited, statuses_of, Awaited, known, refused, awaited, reply_to, reply}
 use Rattle.message.proofs.ListingLaws.{listing_laws}
 use Rattle.reply_reader.specs.ReplyRead.{as_reply, reply_at, bulk_of, listed_of, entries_at, entries_in, answered}
-use Rattle.reply_reader.specs.declared.ReplyRead.{ReplyRead}
+use Rattle.reply_reader.specs.declared.AnyReply.{AnyReply}
+use Rattle.std.specs.Prelude as std
+use Rattle.field.specs.declared.refusals.Refusal.{Refusal}
 use Rattle.reply_reader.proofs.BulkLaws.{bulk-form, reads-back, span_here}
 
 -- a value that passed a test
@@ -136,6 +138,6 @@ module _ (s : List ℕ) (b : Bytes s) where
   entries-steps a m n values e k = rw k (rw k at (shown a.flag (awaited a) m n e).steps)
 
   -- what reading finds, by the reader's answer
-  pub reply-in : (a : Asked) (r x : ReplyRead) → as_reply r ≡ mapped reply_at ((reply a).dec s) → r ≡ x → (reply a).dec s ≡ after (as_reply x) (λ q n. whole (answered s q) n)
+  pub reply-in : (a : Asked) (r x : std.Result (std.Option (AnyReply × ℕ)) Refusal) → as_reply r ≡ mapped reply_at ((reply a).dec s) → r ≡ x → (reply a).dec s ≡ after (as_reply x) (λ q n. whole (answered s q) n)
   unfolding mapped reply
   reply-in a r x e p = sym (rw (← p, e) (mapped-back ((reply a).dec s) reply_at (λ q n. answered s q) (λ m n h. (shown a.flag (awaited a) m n h).same)))

@@ -1,4 +1,5 @@
 -- What the reader answers of a reply: its numbers, where its value, its text and its entries stand in the bytes, and its statistics.
+use Rattle.std.specs.Prelude as std
 use Rattle.std.specs.Prelude.{List, [], Bool, true, false, cond, ℕ, ◌-◌, length, eqb}
 use Rattle.std.proofs.Math.Option.{Option, none, some}
 use Rattle.wire.specs.Codec.{Read, whole, more, refused}
@@ -13,8 +14,10 @@ use Rattle.message.specs.declared.Form.TheVariants as form
 use Rattle.message.specs.declared.ReplyHead.{ReplyHead}
 use Rattle.message.specs.declared.Reply as code
 use Rattle.reply_reader.specs.declared.Entries.{Entries}
-use Rattle.reply_reader.specs.declared.ReplyRead.{ReplyRead}
-use Rattle.reply_reader.specs.declared.ReplyRead.TheVariants as r
+use Rattle.reply_reader.specs.declared.AnyReply.{AnyReply}
+use Rattle.reply_reader.specs.declared.AnyReply.TheVariants as r
+use Rattle.field.specs.declared.refusals.Refusal.{Refusal}
+use Rattle.field.specs.Refusal.{number_of}
 
 -- numbers and places; the statistics, which are none but in a stats reply; and the entries, which stand nowhere but in a bulk reply
 abbrev pub Answer : Type 0
@@ -37,12 +40,15 @@ with_statistics a ns = (record { head = a; value = nowhere; text = nowhere }, (n
 abbrev pub with_entries : ReplyHead → Entries → Answer
 with_entries a e = (record { head = a; value = nowhere; text = nowhere }, ([], e))
 
-abbrev pub as_reply : ReplyRead → Read Answer
-as_reply (r.Whole x n) = whole (x, ([], unlisted)) n
-as_reply (r.Statistics a x n) = whole (with_statistics a (list_of x)) n
-as_reply (r.Entries a e n) = whole (with_entries a e) n
-as_reply r.More = more
-as_reply (r.Refused k) = refused k
+abbrev pub answer_of : AnyReply → Answer
+answer_of (r.Plain x) = (x, ([], unlisted))
+answer_of (r.Statistics a x) = with_statistics a (list_of x)
+answer_of (r.Entries a e) = with_entries a e
+
+abbrev pub as_reply : std.Result (std.Option (AnyReply × ℕ)) Refusal → Read Answer
+as_reply (std.Ok std.None) = more
+as_reply (std.Ok (std.Some p)) = whole (answer_of p.0) p.1
+as_reply (std.Err k) = refused (number_of k)
 
 abbrev pub head_with : ReplyHead → (entry : ℕ) → ReplyHead
 head_with a e = record { id = a.id; op = a.op; status = a.status; entry = record { 0 = e } }

@@ -1,144 +1,104 @@
 // The writer of a reply whose operation and status were judged: it judges the rest, then measures, and then writes.
-ghost use Rattle.std.specs.Prelude.{◌≡◌, ◌&&◌, ◌+◌, ◌≤◌, length, eqb, leb};
+ghost use Rattle.std.specs.Prelude.{◌≡◌, ◌&&◌, ◌≤◌, eqb, IfSome};
 ghost use Rattle.wire.specs.Codec.{Valid};
 ghost use Rattle.wire.specs.Field.{limited};
 ghost use Rattle.wire.specs.Write.{Room, Wrote, send};
 ghost use Rattle.field.specs.FieldRead.{limited_text};
 ghost use Rattle.message.specs.Sent.{as_sent};
 ghost use Rattle.message.specs.Arguments.{is_empty};
-ghost use Rattle.message.specs.Reply.{reply_of};
 ghost use Rattle.message.specs.Payload.{fields_of};
-ghost use Rattle.reply_writer.specs.Frame.{framed, payload_of};
+ghost use Rattle.reply_writer.specs.Frame.{framed};
+ghost use Rattle.reply_writer.specs.Answer.{size_of, size_in, payload_in, reply_in};
 
-use field::{Kind, put};
-use message::{Form, Reply, ReplyHead, Sent};
+use crate::header;
+use field::{Refusal, put};
+use message::{Form, Reply, ReplyHead};
+
+// A reply to write: its numbers, the form of its body, and its value and its text, which are empty where the form does not send them.
+#[derive(Clone, Copy)]
+pub(crate) struct Answer<'a> {
+    pub head: ReplyHead,
+    pub form: Form,
+    pub value: &'a [u8],
+    pub text: &'a [u8],
+}
 
 // Is a number 0, and are there no bytes?
 fn is_absent(v: u64, s: &[u8]) -> bool
     ensures { result ≡ (eqb v 0 && is_empty s.now) }
 {
-    v == 0 && s.len() == 0
+    v == 0 && s.is_empty()
 }
 
-// Is a number at most a limit, and a vInt?
-fn is_size(n: u64, lim: u64) -> bool
-    ensures { result ≡ (leb n lim && leb n 0xffff_ffff) }
+// How many bytes a length and so many bytes take, and so for a text: none, where they have no written form.
+fn limited_len(s: &[u8], lim: u64) -> Option<usize>
+    ensures size { result ≡ size_of (limited lim) s.now }
+    ensures bound { IfSome result (λ n. n ≤ 0x1_0000_0008) }
 {
-    n <= lim && n <= 0xffff_ffff
-}
-
-// Can bytes be sent, and can a text?
-fn is_limited(s: &[u8], lim: u64) -> bool
-    ensures { result ≡ (limited lim).ok s.now }
-{
-    is_size(s.len() as u64, lim)
-}
-
-fn is_limited_text(s: &[u8], lim: u64) -> bool
-    ensures { result ≡ (limited_text lim).ok s.now }
-{
-    text::is_text(s) && is_limited(s, lim)
-}
-
-// Does a body have its fields, and no other? There are no statistics here, so that a body of statistics lacks them, and no entries, so that a list of
-// entries is empty.
-fn keeps_body(a: ReplyHead, f: Form, value: &[u8], text: &[u8]) -> bool
-    ensures { result ≡ (fields_of f).ok (payload_of a value.now text.now) }
-{
-    let e = a.entry;
-    let v = e.0;
-    match f {
-        Form::Nothing => is_absent(v, value) && text.len() == 0,
-        Form::Value(lim) => is_absent(v, text) && is_limited(value, lim),
-        Form::Versioned => text.len() == 0 && is_limited(value, Reply::VALUE),
-        Form::Text => is_absent(v, value) && is_limited_text(text, Reply::TEXT),
-        Form::Statistics => false,
-        Form::Listed(_) => is_absent(v, value) && text.len() == 0,
+    let n = s.len() as u64;
+    if n <= lim && n <= 0xffff_ffff {
+        Some(put::number_len(n) + s.len())
+    } else {
+        None
     }
 }
 
-fn keeps_rules(a: ReplyHead, f: Form, value: &[u8], text: &[u8]) -> bool
-    ensures { result ≡ (framed (fields_of f)).ok (reply_of a value.now text.now) }
+#[tactic(auto, unfolding(field::specs::FieldRead::limited_text, wire::specs::Codec::guard))]
+fn text_len(s: &[u8], lim: u64) -> Option<usize>
+    ensures { result ≡ size_of (limited_text lim) s.now }
 {
-    if 0x7fff_ffff_ffff_ffff < a.id {
-        return false;
-    }
-    keeps_body(a, f, value, text)
-}
-
-// Where the body ends that begins at `at`, behind a header.
-fn body_end(at: usize, a: ReplyHead, f: Form, value: &[u8], text: &[u8]) -> usize
-    requires at_bound { at ≤ 13 }
-    requires valid { Valid (fields_of f) (payload_of a value.now text.now) }
-    ensures { result ≡ at + length ((fields_of f).enc (payload_of a value.now text.now)) }
-{
-    match f {
-        Form::Nothing => at,
-        Form::Value(_) => at + put::number_len(value.len() as u64) + value.len(),
-        Form::Versioned => at + 8 + put::number_len(value.len() as u64) + value.len(),
-        Form::Text => at + put::number_len(text.len() as u64) + text.len(),
-        Form::Statistics => at,
-        Form::Listed(_) => at + 1,
+    if text::is_text(s) {
+        limited_len(s, lim)
+    } else {
+        None
     }
 }
 
-// How many bytes a reply takes: magic, operation, status and marker are one each.
-fn length_of(a: ReplyHead, f: Form, value: &[u8], text: &[u8]) -> usize
-    requires { Valid (framed (fields_of f)) (reply_of a value.now text.now) }
-    ensures { result ≡ length ((framed (fields_of f)).enc (reply_of a value.now text.now)) }
-{
-    let id = a.id;
-    body_end(4 + put::number_len(id), a, f, value, text)
-}
-
-fn put_body(out: &mut [u8], at: usize, a: ReplyHead, f: Form, value: &[u8], text: &[u8]) -> usize
-    requires valid { Valid (fields_of f) (payload_of a value.now text.now) }
-    requires room { Room (fields_of f) (payload_of a value.now text.now) at out.old }
-    ensures { Wrote (fields_of f) (payload_of a value.now text.now) out.old out.new at result }
-{
-    match f {
-        Form::Nothing => at,
-        Form::Value(lim) => put::put_limited(out, at, value, lim),
-        Form::Versioned => {
-            let next = put::put_version(out, at, a.entry);
-            put::put_limited(out, next, value, Reply::VALUE)
+impl Answer<'_> {
+    // Each form has other fields: a match on it, here and in `put_body`, whose clauses `valid` and `room` speak of the codec of the form.
+    // How many bytes the body takes: none, where a field is missing, or there is another. There are no statistics here, so that a body of statistics lacks
+    // them, and no entries, so that a list of entries is a byte 0.
+    fn body_len(self) -> Option<usize>
+        ensures { result ≡ size_in self.entry }
+    {
+        let v = self.head.entry.0;
+        match self.form {
+            Form::Nothing if is_absent(v, self.value) && self.text.is_empty() => Some(0),
+            Form::Value(lim) if is_absent(v, self.text) => limited_len(self.value, lim),
+            Form::Versioned if self.text.is_empty() => {
+                Some(8 + limited_len(self.value, Reply::VALUE)?)
+            }
+            Form::Text if is_absent(v, self.value) => text_len(self.text, Reply::TEXT),
+            Form::Listed(_) if is_absent(v, self.value) && self.text.is_empty() => Some(1),
+            _ => None,
         }
-        Form::Text => put::put_text(out, at, text, Reply::TEXT),
-        Form::Statistics => at,
-        Form::Listed(_) => put::put_byte(out, at, 0),
     }
-}
 
-fn put_message(out: &mut [u8], a: ReplyHead, f: Form, value: &[u8], text: &[u8]) -> usize
-    requires valid { Valid (framed (fields_of f)) (reply_of a value.now text.now) }
-    requires room { Room (framed (fields_of f)) (reply_of a value.now text.now) 0 out.old }
-    ensures { Wrote (framed (fields_of f)) (reply_of a value.now text.now) out.old out.new 0 result }
-{
-    let id = a.id;
-    let op = a.op;
-    let status = a.status;
-    let c1 = put::put_byte(out, 0, 0xa1);
-    let c2 = put::put_number(out, c1, id, Kind::VLong);
-    let c3 = put::put_byte(out, c2, op);
-    let c4 = put::put_byte(out, c3, status);
-    let c5 = put::put_byte(out, c4, 0);
-    put_body(out, c5, a, f, value, text)
-}
+    // Writes the body, a form an arm as in `body_len`: the arms have no more in common than the fields that they name.
+    fn put_body(self, out: &mut [u8], at: usize) -> usize
+        requires valid { Valid (fields_of self.form) (payload_in self) }
+        requires room { Room (fields_of self.form) (payload_in self) at out.old }
+        ensures { Wrote (fields_of self.entry.form) (payload_in self.entry) out.old out.new at result }
+    {
+        match self.form {
+            Form::Nothing => at,
+            Form::Value(lim) => put::put_limited(out, at, self.value, lim),
+            Form::Versioned => {
+                let next = put::put_version(out, at, self.head.entry);
+                put::put_limited(out, next, self.value, Reply::VALUE)
+            }
+            Form::Text => put::put_text(out, at, self.text, Reply::TEXT),
+            Form::Statistics => at,
+            Form::Listed(_) => put::put_byte(out, at, 0),
+        }
+    }
 
-pub(crate) fn write_message(
-    out: &mut [u8],
-    a: ReplyHead,
-    f: Form,
-    value: &[u8],
-    text: &[u8],
-) -> Sent
-    ensures { (as_sent result, out.new) ≡ send (framed (fields_of f)) (reply_of a value.now text.now) out.old }
-{
-    if !keeps_rules(a, f, value, text) {
-        return Sent::Refused(16);
+    pub(crate) fn write(self, out: &mut [u8]) -> Result<usize, Refusal>
+        ensures { (as_sent result, out.new) ≡ send (framed (fields_of self.entry.form)) (reply_in self.entry) out.old }
+    {
+        let h = self.head;
+        header::judge(h.id, self.body_len(), out.len())?;
+        let at = header::put_header(out, h.id, h.op, h.status);
+        Ok(self.put_body(out, at))
     }
-    if out.len() < length_of(a, f, value, text) {
-        return Sent::Refused(12);
-    }
-    Sent::Written(put_message(out, a, f, value, text))
 }

@@ -1,42 +1,29 @@
--- What reading a request goes by, field by field, and what an answer that is not whole says. Assumes nothing.
+-- What reading a request goes by, field by field. Assumes nothing.
 use mathlib.Core.Path.{◌≡◌, refl, sym, ◌∙◌}
-use mathlib.Core.List.{List, [], ◌∷◌}
+use mathlib.Core.List.{List}
 use mathlib.Core.Bool.{Bool, true, false, cond}
-use Prim.Native.Nat.{ℕ, ◌+◌, zero-le}
+use Prim.Native.Nat.{ℕ, ◌+◌}
 use native.Mathlib.Nat.{zero-add, add-zero}
 use lib.ListN.{length}
 use lib.Dec.{leb}
-use borrow.Author.Tests.{eqb-true, le-leb}
-use types.Run.{OneOf}
-use denote.Enum.Declared.{tag_of}
-use Rattle.wire.specs.Codec.{whole, more, refused, after, mapped, Bytes, read_at, byte, empty, all}
+use borrow.Author.Tests.{eqb-true}
+use Rattle.wire.specs.Codec.{whole, refused, after, mapped, Bytes, read_at, byte, empty, all}
 use Rattle.wire.specs.Number.{v_int, v_long}
 use Rattle.wire.specs.Field.{limited}
 use Rattle.wire.proofs.Laws.{Laws, after-after, after_on, after-only, seq_laws, guard_laws, type_laws, byte_laws, guard-valid, seq-valid}
 use Rattle.wire.proofs.At.{at_front, at-seq, at-guard, at_type, at_cond, at_exact}
 use Rattle.wire.proofs.FieldLaws.{limited_laws}
 use Rattle.wire.proofs.NumberLaws.{v_int_laws, v_long_laws}
-use Rattle.field.specs.FieldRead.{limited_text, between, span_to, as_number}
-use Rattle.field.specs.declared.NumberRead.{NumberRead}
-use Rattle.field.specs.declared.NumberRead.TheVariants as n
-use Rattle.field.specs.contracts.NumberRead as number_read
-use Rattle.field.proofs.Parts.{only, at-between, not_whole, not_refused}
+use Rattle.field.specs.FieldRead.{limited_text, between, span_to}
+use Rattle.std.specs.Prelude.{Some}
+use Rattle.field.proofs.Parts.{only, at-between}
 use Rattle.message.specs.Operation.{find_code, known}
 use Rattle.message.specs.Arguments.{Shape, keyed, writes, writes_if, keyed_if, bare, bulk, shape_of, args_of, name_limit, key_limit, value_limit}
 use Rattle.message.specs.Request.{op_fits, operation, transaction, is_version, edition_at, fields, to_request, request}
 use Rattle.message.proofs.RequestLaws.{text_laws, operation_laws, transaction_laws}
-use Rattle.message.specs.Start.{start, id_found}
+use Rattle.message.specs.Start.{start}
 use Rattle.request_reader.specs.RequestRead.{request_at, front, options}
-use Rattle.request_reader.specs.Parts.{as_front, as_options, as_args, options_at, args_at, args_with, together_of, sends_of, transaction_in, part_in, int_in, entry_in, bulk_in}
-use Rattle.request_reader.specs.declared.FrontRead.{FrontRead}
-use Rattle.request_reader.specs.declared.FrontRead.TheVariants as f
-use Rattle.request_reader.specs.declared.OptionsRead.{OptionsRead}
-use Rattle.request_reader.specs.declared.OptionsRead.TheVariants as o
-use Rattle.request_reader.specs.declared.ArgsRead.{ArgsRead}
-use Rattle.request_reader.specs.declared.ArgsRead.TheVariants as a
-use Rattle.request_reader.specs.contracts.FrontRead as front_read
-use Rattle.request_reader.specs.contracts.OptionsRead as options-read
-use Rattle.request_reader.specs.contracts.ArgsRead as args_read
+use Rattle.request_reader.specs.Parts.{options_at, args_at, args_with, together_of, sends_of, transaction_in, part_in, int_in, entry_in, bulk_in}
 
 start_laws : Laws start
 unfolding start
@@ -64,20 +51,18 @@ module _ (s : List ℕ) where
   at-empty at = simp add-zero
 
   at-transaction : (t : Bool) (at : ℕ) → read_at (transaction t) s at ≡ after (transaction_in s t at) (λ b j. whole tt j)
-  unfolding transaction transaction_in
+  unfolding transaction
   at-transaction true at = simp (at_type, at-guard, at-between, after-after, at_cond, only)
   at-transaction false at = at-empty at
 
-  -- the number is judged once it is whole; one that is not sent is 0, which no greatest one is under
-  pub at-bulk : (most : ℕ) (sent : Bool) (at : ℕ) → bulk_in s most sent at ≡ after (int_in s sent at) (λ n j. cond (leb n most) (whole n j) (refused 8))
-  unfolding bulk_in int_in
-  at-bulk most true at = simp at-guard
-  at-bulk most false at = rw (le-leb 0 most zero-le)
+  -- the number is judged once it is whole
+  pub at_bulk : (most at : ℕ) → bulk_in s (Some most) at ≡ after (read_at v_int s at) (λ n j. cond (leb n most) (whole n j) (refused 8))
+  at_bulk most at = at-guard s at (λ n. leb n most) 8 v_int
 
   -- the magic and the message id
-  pub at-start : start.dec s ≡ after (read_at (between 0xa0 0xa0 1) s 0) (λ m j. read_at v_long s j)
+  pub at_start : start.dec s ≡ after (read_at (between 0xa0 0xa0 1) s 0) (λ m j. read_at v_long s j)
   unfolding start
-  at-start = sym (at_front start s) ∙ simp (at_type, at-seq, at-guard, at-between, after-after, at_cond, after-only, only)
+  at_start = sym (at_front start s) ∙ simp (at_type, at-seq, at-guard, at-between, after-after, at_cond, after-only, only)
 
   pub at_first : front.dec s
       ≡ after (start.dec s) (λ id i.
@@ -96,7 +81,7 @@ module _ (s : List ℕ) where
 
   -- the parts that hold bytes, by where those stand
   module _ (b : Bytes s) where
-    pub at-options : (v at : ℕ) → mapped (options_at at) (read_at (options v) s at)
+    pub at_options : (v at : ℕ) → mapped (options_at at) (read_at (options v) s at)
         ≡ after (mapped span_to (read_at (limited_text name_limit) s at)) (λ name i.
         after (read_at v_int s i) (λ f i.
         cond (leb f (edition_at v).flags)
@@ -105,7 +90,7 @@ module _ (s : List ℕ) where
         after (transaction_in s (edition_at v).transaction i) (λ _ j. whole (record { name = name; flags = f; intelligence = x; topology = t }) j))))
         (refused 8)))
     unfolding mapped options options_at
-    at-options v at =
+    at_options v at =
         simp (at-seq, at-guard, at-between, at-transaction, after-after, at_cond)
         (after_on (read_at (limited_text name_limit) s at) (λ bs n e. rw (at_exact (limited_text name_limit) (text_laws name_limit) s at bs n b e)))
 
@@ -114,52 +99,31 @@ module _ (s : List ℕ) where
       exact bs n e = at_exact (limited key_limit) (limited_laws key_limit) s at bs n b e
 
       -- each argument stands behind the one before, where the shape has it
-      pub at-args : (sh : Shape) → mapped (args_at at) (read_at (args_of sh) s at)
+      pub at_args : (sh : Shape) → mapped (args_at at) (read_at (args_of sh) s at)
           ≡ after (part_in s key_limit (sends_of sh).key at) (λ k i.
           after (int_in s (sends_of sh).write i) (λ l i.
           after (int_in s (sends_of sh).write i) (λ m i.
           after (entry_in s (sends_of sh).version i) (λ e i.
           after (part_in s value_limit (sends_of sh).write i) (λ v i.
-          after (bulk_in s (sends_of sh).most (sends_of sh).bulk i) (λ b n. whole (args_with k l m e v b) n))))))
-      unfolding mapped args_of args_at part_in int_in entry_in bulk_in span_to
-      at-args keyed = simp (at_type, after-after) (after_on (read_at (limited key_limit) s at) (λ bs n e. rw (exact bs n e)))
-      at-args writes = simp (at_type, at-seq, after-after) (after_on (read_at (limited key_limit) s at) (λ bs n e. rw (exact bs n e)))
-      at-args writes_if = simp (at_type, at-seq, after-after) (after_on (read_at (limited key_limit) s at) (λ bs n e. rw (exact bs n e)))
-      at-args keyed_if = simp (at_type, at-seq, after-after) (after_on (read_at (limited key_limit) s at) (λ bs n e. rw (exact bs n e)))
-      at-args bare = simp (at_type, at-empty)
-      at-args (bulk most) = simp (at_type, after-after)
+          after (bulk_in s (sends_of sh).bulk i) (λ b n. whole (args_with k l m e v b) n))))))
+      unfolding mapped args_of args_at span_to
+      at_args keyed = simp (at_type, after-after) (after_on (read_at (limited key_limit) s at) (λ bs n e. rw (exact bs n e)))
+      at_args writes = simp (at_type, at-seq, after-after) (after_on (read_at (limited key_limit) s at) (λ bs n e. rw (exact bs n e)))
+      at_args writes_if = simp (at_type, at-seq, after-after) (after_on (read_at (limited key_limit) s at) (λ bs n e. rw (exact bs n e)))
+      at_args keyed_if = simp (at_type, at-seq, after-after) (after_on (read_at (limited key_limit) s at) (λ bs n e. rw (exact bs n e)))
+      at_args bare = simp (at_type, at-empty)
+      at_args (bulk most) = simp (at_type, after-after)
 
     -- a request is its three parts
-    pub at-request : mapped request_at (request.dec s)
+    pub at_request : mapped request_at (request.dec s)
         ≡ after (front.dec s) (λ f i.
         after (mapped (options_at i) (read_at (options f.version) s i)) (λ o j.
         after (mapped (args_at j) (read_at (args_of (shape_of f.op)) s j)) (λ a n. whole (together_of f o a) n)))
     unfolding mapped request_at options_at args_at
-    at-request =
+    at_request =
         rw in_parts
         (simp after-after
         (after_on (front.dec s) (λ f i e.
         after_on (read_at (options f.version) s i) (λ o j h.
         after_on (read_at (args_of (shape_of f.op)) s j) (λ a n k.
         rw (at_exact (options f.version) (options_laws f.version) s i o j b h, at_exact front front_laws s 0 f i b (at_front front s ∙ e), zero-add))))))
-
--- answers that are not whole
-pub no_id : (r : NumberRead) → OneOf (1 ∷ 2 ∷ []) (tag_of number_read.the_type r) → 0 ≡ id_found (as_number r)
-no_id (n.Whole i m) k = not_whole k
-no_id n.More k = refl
-no_id (n.Refused e) k = refl
-
-pub front-more : (r : FrontRead) → OneOf (1 ∷ 2 ∷ []) (tag_of front_read.the_type r) → OneOf (0 ∷ 1 ∷ []) (tag_of front_read.the_type r) → as_front r ≡ more
-front-more (f.Whole x c) k l = not_whole k
-front-more f.More k l = refl
-front-more (f.Refused e) k l = not_refused l
-
-pub options-more : (r : OptionsRead) → OneOf (1 ∷ 2 ∷ []) (tag_of options-read.the_type r) → OneOf (0 ∷ 1 ∷ []) (tag_of options-read.the_type r) → as_options r ≡ more
-options-more (o.Whole x c) k l = not_whole k
-options-more o.More k l = refl
-options-more (o.Refused e) k l = not_refused l
-
-pub args_more : (r : ArgsRead) → OneOf (1 ∷ 2 ∷ []) (tag_of args_read.the_type r) → OneOf (0 ∷ 1 ∷ []) (tag_of args_read.the_type r) → as_args r ≡ more
-args_more (a.Whole x c) k l = not_whole k
-args_more a.More k l = refl
-args_more (a.Refused e) k l = not_refused l

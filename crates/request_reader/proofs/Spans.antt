@@ -15,7 +15,10 @@ use Rattle.message.specs.Arguments.{Shape, keyed, writes, writes_if, keyed_if, b
 use Rattle.message.specs.Request.{Request, request_in, request}
 use Rattle.message.proofs.RequestLaws.{text_laws}
 use Rattle.request_reader.specs.RequestRead.{as_request, front, options, Options, request_at}
-use Rattle.request_reader.specs.declared.RequestRead.{RequestRead}
+use Rattle.std.specs.Prelude.{Result}
+use Rattle.std.specs.Prelude as std
+use Rattle.field.specs.declared.refusals.Refusal.{Refusal}
+use Rattle.message.specs.declared.Request as code
 use Rattle.request_reader.proofs.Read.{front_laws, options_laws, in_parts}
 
 module _ (s : List ℕ) where
@@ -78,6 +81,6 @@ module _ (s : List ℕ) where
         (rw (g, ← o, name-part f.version x.len y.val y.len y.first, a.key, w))
 
     -- what reading finds, by the reader's answer
-    pub request-in : (r x : RequestRead) → as_request r ≡ mapped request_at (request.dec s) → r ≡ x → request.dec s ≡ after (as_request x) (λ q n. whole (request_in s q) n)
+    pub request-in : (r x : Result (std.Option (code.Request × ℕ)) Refusal) → as_request r ≡ mapped request_at (request.dec s) → r ≡ x → request.dec s ≡ after (as_request x) (λ q n. whole (request_in s q) n)
     unfolding mapped
     request-in r x e p = sym (rw (← p, e) (mapped-back (request.dec s) request_at (λ q n. request_in s q) shown))

@@ -1,6 +1,6 @@
 -- What the readers of a request's parts answer, for their contracts.
-use Rattle.std.specs.Prelude.{List, Bool, true, false, cond, ℕ, ◌+◌, length, leb}
-use Rattle.wire.specs.Codec.{Read, whole, more, refused, guard, mapped, read_at}
+use Rattle.std.specs.Prelude.{List, Bool, true, false, cond, ℕ, ◌+◌, length, leb, Option, None, Some}
+use Rattle.wire.specs.Codec.{Read, whole, guard, mapped, read_at}
 use Rattle.wire.specs.Number.{v_int}
 use Rattle.wire.specs.Field.{limited, entry_version}
 use Rattle.field.specs.FieldRead.{limited_text, between, nowhere, span_to}
@@ -9,30 +9,9 @@ use Rattle.message.specs.declared.Request.{Request}
 use Rattle.message.specs.Arguments.{Shape, keyed, writes, writes_if, keyed_if, bare, bulk, Args, name_limit, key_limit}
 use Rattle.request_reader.specs.RequestRead as a
 use Rattle.request_reader.specs.declared.Front.{Front}
-use Rattle.request_reader.specs.declared.FrontRead.{FrontRead}
-use Rattle.request_reader.specs.declared.FrontRead.TheVariants as f
 use Rattle.request_reader.specs.declared.Options.{Options}
-use Rattle.request_reader.specs.declared.OptionsRead.{OptionsRead}
-use Rattle.request_reader.specs.declared.OptionsRead.TheVariants as o
 use Rattle.request_reader.specs.declared.Sends.{Sends}
 use Rattle.request_reader.specs.declared.Args as code-args
-use Rattle.request_reader.specs.declared.ArgsRead.{ArgsRead}
-use Rattle.request_reader.specs.declared.ArgsRead.TheVariants as r
-
-abbrev pub as_front : FrontRead → Read Front
-as_front (f.Whole x c) = whole x c.at
-as_front f.More = more
-as_front (f.Refused k) = refused k
-
-abbrev pub as_options : OptionsRead → Read Options
-as_options (o.Whole x c) = whole x c.at
-as_options o.More = more
-as_options (o.Refused k) = refused k
-
-abbrev pub as_args : ArgsRead → Read code-args.Args
-as_args (r.Whole x c) = whole x c.at
-as_args r.More = more
-as_args (r.Refused k) = refused k
 
 -- the answers of parts that begin at a place and end at n
 unfoldable pub options_at : ℕ → a.Options → ℕ → Options
@@ -73,10 +52,7 @@ together_of f o a =
 
 -- which arguments each shape has
 abbrev pub sends : (key write version : Bool) → Sends
-sends k w v = record { key = k; write = w; version = v; bulk = false; most = 0 }
-
-abbrev pub sends_number : ℕ → Sends
-sends_number n = record { key = false; write = false; version = false; bulk = true; most = n }
+sends k w v = record { key = k; write = w; version = v; bulk = None }
 
 abbrev pub sends_of : Shape → Sends
 sends_of keyed = sends true false false
@@ -84,21 +60,22 @@ sends_of writes = sends true true false
 sends_of writes_if = sends true true true
 sends_of keyed_if = sends true false true
 sends_of bare = sends false false false
-sends_of (bulk most) = sends_number most
+sends_of (bulk most) = record { key = false; write = false; version = false; bulk = Some most }
 
 -- the transaction type, which is 0, where the edition has one
-unfoldable pub transaction_in : List ℕ → (has : Bool) → ℕ → Read ℕ
+abbrev pub transaction_in : List ℕ → (has : Bool) → ℕ → Read ℕ
 transaction_in s has at = cond has (read_at (between 0 0 8) s at) (whole 0 at)
 
 -- an argument that is not sent takes no bytes, and is blank: a part that stands nowhere, or 0
-unfoldable pub part_in : List ℕ → (lim : ℕ) → (sent : Bool) → ℕ → Read Span
+abbrev pub part_in : List ℕ → (lim : ℕ) → (sent : Bool) → ℕ → Read Span
 part_in s lim sent at = cond sent (mapped span_to (read_at (limited lim) s at)) (whole nowhere at)
 
-unfoldable pub int_in : List ℕ → (sent : Bool) → ℕ → Read ℕ
+abbrev pub int_in : List ℕ → (sent : Bool) → ℕ → Read ℕ
 int_in s sent at = cond sent (read_at v_int s at) (whole 0 at)
 
-unfoldable pub entry_in : List ℕ → (sent : Bool) → ℕ → Read ℕ
+abbrev pub entry_in : List ℕ → (sent : Bool) → ℕ → Read ℕ
 entry_in s sent at = cond sent (read_at entry_version s at) (whole 0 at)
 
-unfoldable pub bulk_in : List ℕ → (most : ℕ) → (sent : Bool) → ℕ → Read ℕ
-bulk_in s most sent at = cond sent (read_at (guard (λ n. leb n most) 8 v_int) s at) (whole 0 at)
+abbrev pub bulk_in : List ℕ → (most : Option ℕ) → ℕ → Read ℕ
+bulk_in s None at = whole 0 at
+bulk_in s (Some most) at = read_at (guard (λ n. leb n most) 8 v_int) s at

@@ -1,5 +1,5 @@
 -- What the reader answers of a request: its numbers, and where its name, key and value stand in the bytes.
-use Rattle.std.specs.Prelude.{List, ◌&&◌, ℕ, ◌+◌, length, leb}
+use Rattle.std.specs.Prelude.{List, ◌&&◌, ℕ, ◌+◌, length, leb, Option, None, Some, Result, Ok, Err}
 use Rattle.wire.specs.Codec.{Read, whole, more, refused, Codec, byte, guard, seq, as_type, all}
 use Rattle.wire.specs.Number.{v_int}
 use Rattle.wire.specs.Field.{limited}
@@ -10,13 +10,13 @@ use Rattle.message.specs.Arguments.{name_limit, key_limit}
 use Rattle.message.specs.Request.{Request, operation, transaction, is_version, edition_at}
 use Rattle.message.specs.Start.{start}
 use Rattle.request_reader.specs.declared.Front.{Front}
-use Rattle.request_reader.specs.declared.RequestRead.{RequestRead}
-use Rattle.request_reader.specs.declared.RequestRead.TheVariants as r
+use Rattle.field.specs.declared.refusals.Refusal.{Refusal}
+use Rattle.field.specs.Refusal.{number_of}
 
-abbrev pub as_request : RequestRead → Read code.Request
-as_request (r.Whole q n) = whole q n
-as_request r.More = more
-as_request (r.Refused k) = refused k
+abbrev pub as_request : Result (Option (code.Request × ℕ)) Refusal → Read code.Request
+as_request (Ok None) = more
+as_request (Ok (Some p)) = whole p.0 p.1
+as_request (Err k) = refused (number_of k)
 
 -- The fields of a request before its arguments, in two parts: up to the operation, ..
 unfoldable pub front : Codec Front

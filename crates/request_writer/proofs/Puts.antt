@@ -1,5 +1,5 @@
 -- Writing field after field, where the whole has a written form and there is room for it. Assumes nothing.
-use mathlib.Core.Path.{◌≡◌, refl, sym}
+use mathlib.Core.Path.{◌≡◌, refl, sym, ap, subst, ◌∙◌}
 use mathlib.Core.List.{List}
 use mathlib.Core.Bool.{Bool, true, false, ◌&&◌}
 use Prim.Native.Nat.{ℕ}
@@ -16,9 +16,10 @@ use Rattle.wire.proofs.WriteLaws.{laid_none, wrote-seq, wrote-guard, wrote_type,
 use Rattle.field.specs.FieldRead.{limited_text}
 use Rattle.message.specs.declared.Operation.{Operation}
 use Rattle.message.specs.Operation.{code_of}
-use Rattle.message.specs.Arguments.{keyed, writes, writes_if, keyed_if, bare, bulk, shape_of, Args, args_of, name_limit, key_limit, value_limit}
+use Rattle.message.specs.Arguments.{Shape, keyed, writes, writes_if, keyed_if, bare, bulk, shape_of, Args, args_of, name_limit, key_limit, value_limit}
 use Rattle.message.specs.Request.{op_fits, operation, transaction, is_version, edition_at, fields, Request, request}
-use Rattle.request_writer.specs.Parts.{Ready}
+use Rattle.request_writer.specs.Parts.{Limits, limits_of, put_sent, Ready}
+use Rattle.request_writer.proofs.Rules.{Sends, sends}
 
 -- the writer of a field
 put : {A : Type 0} (c : Codec A) {a : A} {at r : ℕ} {old new : List ℕ} → Ready c a at old → (r, new) ≡ put_at c a at old → Wrote c a old new at r
@@ -48,23 +49,23 @@ module _ {A : Type 0} {B : A → Type 0} (c : Codec A) (d : (a : A) → Codec (B
 
 -- the arguments of each shape
 module _ (a : Args) {at : ℕ} {o₀ : List ℕ} where
-  pub put_keyed : {r : ℕ} {o₁ : List ℕ} → Ready (args_of keyed) a at o₀ → (r, o₁) ≡ put_at (limited key_limit) a.key at o₀ → Wrote (args_of keyed) a o₀ o₁ at r
+  put_keyed : {r : ℕ} {o₁ : List ℕ} → Ready (args_of keyed) a at o₀ → (r, o₁) ≡ put_at (limited key_limit) a.key at o₀ → Wrote (args_of keyed) a o₀ o₁ at r
   unfolding args_of
   put_keyed x e = wrote_type _ _ _ _ (put (limited key_limit) (ready_type _ _ _ _ x) e)
 
-  pub put-keyed-if : {r₁ r₂ : ℕ} {o₁ o₂ : List ℕ} → Ready (args_of keyed_if) a at o₀ → (r₁, o₁) ≡ put_at (limited key_limit) a.key at o₀
+  put_keyed_if : {r₁ r₂ : ℕ} {o₁ o₂ : List ℕ} → Ready (args_of keyed_if) a at o₀ → (r₁, o₁) ≡ put_at (limited key_limit) a.key at o₀
       → (r₂, o₂) ≡ put_at entry_version a.entry_version r₁ o₁ → Wrote (args_of keyed_if) a o₀ o₂ at r₂
   unfolding args_of
-  put-keyed-if x e₁ e₂ =
+  put_keyed_if x e₁ e₂ =
       let y = ready_type _ _ _ _ x in
       let w = put (limited key_limit) (first _ _ y) e₁ in
       wrote_type _ _ _ _ (wrote-seq _ _ w (put entry_version (second _ _ y w) e₂))
 
-  pub put-writes : {r₁ r₂ r₃ r₄ : ℕ} {o₁ o₂ o₃ o₄ : List ℕ} → Ready (args_of writes) a at o₀ → (r₁, o₁) ≡ put_at (limited key_limit) a.key at o₀
+  put_writes : {r₁ r₂ r₃ r₄ : ℕ} {o₁ o₂ o₃ o₄ : List ℕ} → Ready (args_of writes) a at o₀ → (r₁, o₁) ≡ put_at (limited key_limit) a.key at o₀
       → (r₂, o₂) ≡ put_at v_int a.lifespan r₁ o₁ → (r₃, o₃) ≡ put_at v_int a.max_idle r₂ o₂ → (r₄, o₄) ≡ put_at (limited value_limit) a.value r₃ o₃
       → Wrote (args_of writes) a o₀ o₄ at r₄
   unfolding args_of
-  put-writes x e₁ e₂ e₃ e₄ =
+  put_writes x e₁ e₂ e₃ e₄ =
       let y = ready_type _ _ _ _ x in
       let w₁ = put (limited key_limit) (first _ _ y) e₁ in
       let y₂ = second _ _ y w₁ in
@@ -73,11 +74,11 @@ module _ (a : Args) {at : ℕ} {o₀ : List ℕ} where
       let w₃ = put v_int (first _ _ y₃) e₃ in
       wrote_type _ _ _ _ (wrote-seq _ _ w₁ (wrote-seq _ _ w₂ (wrote-seq _ _ w₃ (put (limited value_limit) (second _ _ y₃ w₃) e₄))))
 
-  pub put-writes-if : {r₁ r₂ r₃ r₄ r₅ : ℕ} {o₁ o₂ o₃ o₄ o₅ : List ℕ} → Ready (args_of writes_if) a at o₀ → (r₁, o₁) ≡ put_at (limited key_limit) a.key at o₀
+  put_writes_if : {r₁ r₂ r₃ r₄ r₅ : ℕ} {o₁ o₂ o₃ o₄ o₅ : List ℕ} → Ready (args_of writes_if) a at o₀ → (r₁, o₁) ≡ put_at (limited key_limit) a.key at o₀
       → (r₂, o₂) ≡ put_at v_int a.lifespan r₁ o₁ → (r₃, o₃) ≡ put_at v_int a.max_idle r₂ o₂ → (r₄, o₄) ≡ put_at entry_version a.entry_version r₃ o₃
       → (r₅, o₅) ≡ put_at (limited value_limit) a.value r₄ o₄ → Wrote (args_of writes_if) a o₀ o₅ at r₅
   unfolding args_of
-  put-writes-if x e₁ e₂ e₃ e₄ e₅ =
+  put_writes_if x e₁ e₂ e₃ e₄ e₅ =
       let y = ready_type _ _ _ _ x in
       let w₁ = put (limited key_limit) (first _ _ y) e₁ in
       let y₂ = second _ _ y w₁ in
@@ -88,14 +89,45 @@ module _ (a : Args) {at : ℕ} {o₀ : List ℕ} where
       let w₄ = put entry_version (first _ _ y₄) e₄ in
       wrote_type _ _ _ _ (wrote-seq _ _ w₁ (wrote-seq _ _ w₂ (wrote-seq _ _ w₃ (wrote-seq _ _ w₄ (put (limited value_limit) (second _ _ y₄ w₄) e₅)))))
 
-  pub put-bare : Ready (args_of bare) a at o₀ → Wrote (args_of bare) a o₀ o₀ at at
+  put_bare : Ready (args_of bare) a at o₀ → Wrote (args_of bare) a o₀ o₀ at at
   unfolding args_of as_type empty
-  put-bare x = record { next = sym (add-zero at); list = refl; long = refl }
+  put_bare x = record { next = sym (add-zero at); list = refl; long = refl }
 
-  pub put-bulk : (most : ℕ) {r : ℕ} {o₁ : List ℕ} → Ready (args_of (bulk most)) a at o₀ → (r, o₁) ≡ put_at v_int a.bulk at o₀
+  put_bulk : (most : ℕ) {r : ℕ} {o₁ : List ℕ} → Ready (args_of (bulk most)) a at o₀ → (r, o₁) ≡ put_at v_int a.bulk at o₀
       → Wrote (args_of (bulk most)) a o₀ o₁ at r
   unfolding args_of
-  put-bulk most x e = wrote_type _ _ _ _ (put-guard (λ n. leb n most) 8 v_int (ready_type _ _ _ _ x) e)
+  put_bulk most x e = wrote_type _ _ _ _ (put-guard (λ n. leb n most) 8 v_int (ready_type _ _ _ _ x) e)
+
+-- the arguments in their order, each where it is sent
+put_shape : (shape : Shape) (a : Args) {at r₁ r₂ r₃ r₄ r₅ r₆ : ℕ} {o₀ o₁ o₂ o₃ o₄ o₅ o₆ : List ℕ} → Sends shape → Ready (args_of shape) a at o₀
+    → (r₁, o₁) ≡ put_sent (limits_of shape).key (limited (limits_of shape).key) a.key at o₀
+    → (r₂, o₂) ≡ put_sent (limits_of shape).time v_int a.lifespan r₁ o₁
+    → (r₃, o₃) ≡ put_sent (limits_of shape).time v_int a.max_idle r₂ o₂
+    → (r₄, o₄) ≡ put_sent (limits_of shape).entry entry_version a.entry_version r₃ o₃
+    → (r₅, o₅) ≡ put_sent (limits_of shape).value (limited (limits_of shape).value) a.value r₄ o₄
+    → (r₆, o₆) ≡ put_sent (limits_of shape).bulk v_int a.bulk r₅ o₅
+    → Wrote (args_of shape) a o₀ o₆ at r₆
+put_shape keyed a t x e₁ e₂ e₃ e₄ e₅ e₆ = put_keyed a x (e₆ ∙ e₅ ∙ e₄ ∙ e₃ ∙ e₂ ∙ e₁)
+put_shape writes a t x e₁ e₂ e₃ e₄ e₅ e₆ =
+    put_writes a x e₁ e₂ e₃ (e₆ ∙ e₅ ∙ ap (λ (p : ℕ × List ℕ). put_at (limited value_limit) a.value p.0 p.1) e₄)
+put_shape writes_if a t x e₁ e₂ e₃ e₄ e₅ e₆ = put_writes_if a x e₁ e₂ e₃ e₄ (e₆ ∙ e₅)
+put_shape keyed_if a t x e₁ e₂ e₃ e₄ e₅ e₆ =
+    put_keyed_if a x e₁ (e₆ ∙ e₅ ∙ e₄ ∙ ap (λ (p : ℕ × List ℕ). put_at entry_version a.entry_version p.0 p.1) (e₃ ∙ e₂))
+put_shape bare a {at = at} {o₀ = o₀} t x e₁ e₂ e₃ e₄ e₅ e₆ = let e = e₆ ∙ e₅ ∙ e₄ ∙ e₃ ∙ e₂ ∙ e₁ in subst (λ (p : ℕ × List ℕ). Wrote (args_of bare) a o₀ p.1 at p.0) (sym e) (put_bare a x)
+put_shape (bulk most) a t x e₁ e₂ e₃ e₄ e₅ e₆ =
+    put_bulk a most x (rw t at e₆ ∙ ap (λ (p : ℕ × List ℕ). put_at v_int a.bulk p.0 p.1) (e₅ ∙ e₄ ∙ e₃ ∙ e₂ ∙ e₁))
+
+pub put_args : (o : Operation) (a : Args) (l : Limits) → l ≡ limits_of (shape_of o) → {at r₁ r₂ r₃ r₄ r₅ r₆ : ℕ} {o₀ o₁ o₂ o₃ o₄ o₅ o₆ : List ℕ}
+    → Ready (args_of (shape_of o)) a at o₀
+    → (r₁, o₁) ≡ put_sent l.key (limited l.key) a.key at o₀
+    → (r₂, o₂) ≡ put_sent l.time v_int a.lifespan r₁ o₁
+    → (r₃, o₃) ≡ put_sent l.time v_int a.max_idle r₂ o₂
+    → (r₄, o₄) ≡ put_sent l.entry entry_version a.entry_version r₃ o₃
+    → (r₅, o₅) ≡ put_sent l.value (limited l.value) a.value r₄ o₄
+    → (r₆, o₆) ≡ put_sent l.bulk v_int a.bulk r₅ o₅
+    → Wrote (args_of (shape_of o)) a o₀ o₆ at r₆
+put_args o a l e x e₁ e₂ e₃ e₄ e₅ e₆ =
+    put_shape (shape_of o) a (sends o) x (rw e at e₁) (rw e at e₂) (rw e at e₃) (rw e at e₄) (rw e at e₅) (rw e at e₆)
 
 -- the fields that are made of a byte
 put-operation : (v : ℕ) {o : Operation} {at r : ℕ} {old new : List ℕ} → Ready (operation (edition_at v)) o at old → (b : ℕ) → b ≡ code_of o → (r, new) ≡ put_at byte b at old

@@ -1,21 +1,22 @@
 -- The rules of a request: which requests have a written form. Assumes nothing.
-use mathlib.Core.Path.{◌≡◌, refl, sym}
+use mathlib.Core.Path.{◌≡◌, refl, sym, ◌∙◌}
 use mathlib.Core.Bool.{Bool, true, false, ◌&&◌}
 use Prim.Native.Nat.{ℕ, ◌≤◌, ◌<◌, ◌^◌}
 use native.Mathlib.Omega.{arith}
 use lib.ListN.{length}
 use lib.Dec.{eqb, leb}
 use borrow.Author.Tests.{leb-true, le-leb, eqb-true, eq-eqb, lt-ltb}
-use Rattle.wire.specs.Codec.{Codec, Valid, Bytes, empty, byte}
+use Rattle.wire.specs.Codec.{Valid, Bytes, empty, byte}
 use Rattle.wire.specs.Number.{v_int, v_long}
 use Rattle.wire.specs.Field.{limited}
-use Rattle.wire.proofs.Laws.{never, both, and, seq-valid, seq-good, guard-valid, guard_good, type_valid, type_good}
+use Rattle.wire.proofs.Laws.{both, and, seq-valid, seq-good, guard-valid, guard_good, type_valid, type_good}
 use Rattle.wire.proofs.NumberLaws.{valid}
 use Rattle.wire.proofs.NumberWrite.{number-good}
 use Rattle.wire.proofs.FieldLaws.{big_good, limited-valid, limited-good}
 use Rattle.text.specs.Text.{is_text}
 use Rattle.field.specs.FieldRead.{limited_text}
 use Rattle.message.specs.declared.Operation.{Operation}
+use Rattle.message.specs.declared.Operation.TheVariants as op
 use Rattle.message.specs.Operation.{code_of}
 use Rattle.message.specs.Arguments.{Shape, keyed, writes, writes_if, keyed_if, bare, bulk, shape_of, Args, args_of, is_empty, no_times, no_entry_version, no_bulk, no_value, name_limit, key_limit, value_limit}
 use Rattle.message.specs.Request.{op_fits, operation, is_version, edition_at, Request, request}
@@ -23,15 +24,8 @@ use Rattle.message.proofs.RequestLaws.{code-found}
 use Rattle.message.proofs.RequestParts.{parts, whole-request}
 use Rattle.message.proofs.Editions.{flags-small, version-small}
 use Rattle.message.proofs.Every.{every, code-small}
-use Rattle.request_writer.specs.Parts.{Limits, limits_of}
-
--- a test of a message tells its rules
-broken-by : {A : Type 0} (c : Codec A) (a : A) → (Valid c a → ⊥) → false ≡ c.ok a
-broken-by c a n = go (c.ok a) refl
-  where
-    go : (t : Bool) → c.ok a ≡ t → false ≡ t
-    go true e = absurd (n e)
-    go false e = refl
+use Rattle.std.specs.Cmp.{both_ways}
+use Rattle.request_writer.specs.Parts.{Limits, limits_of, is_within, keeps_rules}
 
 -- numbers and lists that are sent, and those that are not
 int_least : (v : ℕ) → Valid v_int v → v ≤ 0xffff_ffff
@@ -183,26 +177,100 @@ pub bulk_int : (o : Operation) → (limits_of (shape_of o)).bulk ≤ 0xffff_ffff
 unfolding shape_of
 bulk_int o = leb-true (limits_of (shape_of o)).bulk 0xffff_ffff (every (λ o. leb (limits_of (shape_of o)).bulk 0xffff_ffff) refl o)
 
--- the test of the arguments, by limits that are those of the operation's shape
-module _ (o : Operation) (a : Args) (l : Limits) (e : l ≡ limits_of (shape_of o)) where
-  pub broken-args : a.entry_version < 256 ^ 8 → (Within l a → ⊥) → false ≡ (args_of (shape_of o)).ok a
-  broken-args h n = broken-by (args_of (shape_of o)) a (λ v. n (rw e (within a (shape_of o) h v)))
+-- a number that is sent has a limit that is not 0
+abbrev pub Sends : Shape → Type 0
+Sends (bulk most) = eqb most 0 ≡ false
+Sends keyed = Unit {0}
+Sends writes = Unit {0}
+Sends writes_if = Unit {0}
+Sends keyed_if = Unit {0}
+Sends bare = Unit {0}
 
-  pub good-args : Bytes a.key → Bytes a.value → Within l a → true ≡ (args_of (shape_of o)).ok a
-  good-args bk bv w = sym (within-good a (shape_of o) (bulk_int o) bk bv (rw e at w))
+pub sends : (o : Operation) → Sends (shape_of o)
+unfolding shape_of
+sends op.Put = tt
+sends op.Get = tt
+sends op.PutIfAbsent = tt
+sends op.Replace = tt
+sends op.ReplaceIfUnmodified = tt
+sends op.Remove = tt
+sends op.RemoveIfUnmodified = tt
+sends op.ContainsKey = tt
+sends op.GetWithVersion = tt
+sends op.Clear = tt
+sends op.Stats = tt
+sends op.Ping = tt
+sends op.BulkGet = refl
+sends op.BulkGetKeys = refl
 
 -- the rules of a request, one by one
 pub record Rules (q : Request) : Type 0 where
-  pub id : q.id < 0x8000_0000_0000_0000
+  pub id : q.id ≤ 0x7fff_ffff_ffff_ffff
   pub version : is_version q.version ≡ true
   pub serves : (edition_at q.version).serves q.op ≡ true
-  pub text : is_text q.name ≡ true
-  pub name : length q.name ≤ name_limit
   pub flags : q.flags ≤ (edition_at q.version).flags
   pub low : 1 ≤ q.intelligence
   pub high : q.intelligence ≤ 3
   pub topology : q.topology ≤ 0xffff_ffff
-  pub args : Valid (args_of (shape_of q.op)) q.args
+  pub name : length q.name ≤ name_limit
+  pub text : is_text q.name ≡ true
+  pub args : Within (limits_of (shape_of q.op)) q.args
+
+-- the test of limits, and of the rules
+within-of : (l : Limits) (a : Args) → is_within l a ≡ true → Within l a
+within-of l a e =
+    let f₅ = both _ _ e in
+    let f₄ = both _ _ f₅.0 in
+    let f₃ = both _ _ f₄.0 in
+    let f₂ = both _ _ f₃.0 in
+    let f₁ = both _ _ f₂.0 in
+    record {
+      key = leb-true _ _ f₁.0;
+      lifespan = leb-true _ _ f₁.1;
+      idle = leb-true _ _ f₂.1;
+      entry = leb-true _ _ f₃.1;
+      value = leb-true _ _ f₄.1;
+      bulk = leb-true _ _ f₅.1;
+    }
+
+within-test : (l : Limits) (a : Args) → Within l a → is_within l a ≡ true
+within-test l a w =
+    and (and (and (and (and (le-leb _ _ w.key) (le-leb _ _ w.lifespan)) (le-leb _ _ w.idle)) (le-leb _ _ w.entry)) (le-leb _ _ w.value)) (le-leb _ _ w.bulk)
+
+pub rules-of : (q : Request) → keeps_rules q ≡ true → Rules q
+rules-of q e =
+    let f₉ = both _ _ e in
+    let f₈ = both _ _ f₉.0 in
+    let f₇ = both _ _ f₈.0 in
+    let f₆ = both _ _ f₇.0 in
+    let f₅ = both _ _ f₆.0 in
+    let f₄ = both _ _ f₅.0 in
+    let f₃ = both _ _ f₄.0 in
+    let f₂ = both _ _ f₃.0 in
+    let f₁ = both _ _ f₂.0 in
+    record {
+      id = leb-true _ _ f₁.0;
+      version = f₁.1;
+      serves = f₂.1;
+      flags = leb-true _ _ f₃.1;
+      low = leb-true _ _ f₄.1;
+      high = leb-true _ _ f₅.1;
+      topology = leb-true _ _ f₆.1;
+      name = leb-true _ _ f₇.1;
+      text = f₈.1;
+      args = within-of _ _ f₉.1;
+    }
+
+rules-test : (q : Request) → Rules q → keeps_rules q ≡ true
+rules-test q r =
+    and
+    (and
+    (and
+    (and (and (and (and (and (and (le-leb _ _ r.id) r.version) r.serves) (le-leb _ _ r.flags)) (le-leb _ _ r.low)) (le-leb _ _ r.high))
+    (le-leb _ _ r.topology))
+    (le-leb _ _ r.name))
+    r.text)
+    (within-test _ _ r.args)
 
 -- an operation can be sent where the version has it
 module _ (q : Request) where
@@ -218,14 +286,14 @@ module _ (q : Request) where
       type_good _ _ _ _ refl
       (guard_good (op_fits (edition_at q.version)) 4 byte (rw (code-found q.op, s)) (lt-ltb (code_of q.op) 256 (omega (arith, code-small q.op))))
 
-pub rules : (q : Request) → Valid request q → Rules q
+rules : (q : Request) → q.args.entry_version < 256 ^ 8 → Valid request q → Rules q
 unfolding limited_text v_long
-rules q v =
+rules q h v =
     let p = parts q v in
     let n = guard-valid is_text 7 (limited name_limit) q.name p.name in
     let j = both (leb 1 q.intelligence) (leb q.intelligence 3) (guard-valid _ 8 byte q.intelligence p.intelligence).0 in
     record {
-      id = (valid 2 127 8 0 q.id p.id).1;
+      id = omega (arith, (valid 2 127 8 0 q.id p.id).1);
       version = (guard-valid is_version 3 byte q.version p.version).0;
       serves = operation-serves q p.op;
       text = n.0;
@@ -234,14 +302,14 @@ rules q v =
       low = leb-true 1 q.intelligence j.0;
       high = leb-true q.intelligence 3 j.1;
       topology = int_least q.topology p.topology;
-      args = p.args;
+      args = within q.args (shape_of q.op) h p.args;
     }
 
-pub good : (q : Request) → Bytes q.name → Rules q → Valid request q
+good : (q : Request) → Bytes q.name → Bytes q.args.key → Bytes q.args.value → Rules q → Valid request q
 unfolding limited_text v_long byte
-good q b r =
+good q b bk bv r =
     whole-request q (record {
-      id = number-good 2 127 8 0 q.id (omega arith) r.id;
+      id = number-good 2 127 8 0 q.id (omega arith) (omega (arith, r.id));
       version = guard_good is_version 3 byte r.version (lt-ltb q.version 256 (version-small q.version r.version));
       op = operation-good q r.serves;
       name = guard_good is_text 7 (limited name_limit) r.text (limited-good name_limit q.name (omega arith) r.name b);
@@ -249,13 +317,11 @@ good q b r =
       intelligence =
           guard_good _ 8 byte (and (le-leb 1 q.intelligence r.low) (le-leb q.intelligence 3 r.high)) (lt-ltb q.intelligence 256 (omega (arith, r.high)));
       topology = int_good q.topology r.topology;
-      args = r.args;
+      args = within-good q.args (shape_of q.op) (bulk_int q.op) bk bv r.args;
     })
 
--- a rule that is not kept; and the last one, where all others are
-pub broken : (q : Request) → (Rules q → ⊥) → false ≡ request.ok q
-broken q n = broken-by request q (λ v. n (rules q v))
-
-pub last : (q : Request) (t : Bool) → t ≡ (args_of (shape_of q.op)).ok q.args → Bytes q.name → (Valid (args_of (shape_of q.op)) q.args → Rules q) → t ≡ request.ok q
-last q true e b f = sym (good q b (f (sym e)))
-last q false e b f = broken q (λ r. let x = r.args in never (cc))
+-- the test of the rules is that of the format, where the numbers and bytes are such
+pub judged : (q : Request) → q.args.entry_version < 256 ^ 8 → Bytes q.name → Bytes q.args.key → Bytes q.args.value → {t u : Bool} → t ≡ keeps_rules q → t ≡ u
+    → request.ok q ≡ u
+judged q h b bk bv e f =
+    sym (both_ways (keeps_rules q) (request.ok q) (λ g. good q b bk bv (rules-of q g)) (λ v. rules-test q (rules q h v))) ∙ sym e ∙ f

@@ -1,14 +1,25 @@
 // What writing a request goes by: its rules, its length, and its fields in their order.
-ghost use Rattle.std.specs.Prelude.{◌≡◌, ◌+◌, ◌≤◌, length};
+ghost use Rattle.std.specs.Prelude.{◌≡◌, true, ◌+◌, ◌≤◌, length};
 ghost use Rattle.wire.specs.Codec.{Valid};
+ghost use Rattle.wire.specs.Number.{v_int};
+ghost use Rattle.wire.specs.Field.{entry_version, limited};
 ghost use Rattle.wire.specs.Write.{Wrote, put_at};
-ghost use Rattle.message.specs.Arguments.{args_of, shape_of, writes, writes_if, keyed_if, key_limit, value_limit};
-ghost use Rattle.message.specs.Request.{request, request_of, transaction, edition_at};
-ghost use Rattle.request_writer.specs.Parts.{args_with, as_limits, limits, limits_of, size_of, args_size, Ready};
+ghost use Rattle.message.specs.Arguments.{args_of, shape_of, key_limit, value_limit};
+ghost use Rattle.message.specs.Request.{request, transaction, edition_at};
+ghost use Rattle.request_writer.specs.Parts.{args_in, request_in, as_limits, is_within, keeps_rules, limits, limits_of, size_of, args_size, sent_size, put_sent, Ready};
 
-use field::{Kind, put};
+use field::{EntryVersion, Kind, put};
 use message::{Head, Operation, Request};
 use rules::Shape;
+
+// What a request is written of: its numbers, its name, its key and its value, which are empty where the operation does not send them.
+#[derive(Clone, Copy)]
+pub(crate) struct Content<'a> {
+    pub head: Head,
+    pub name: &'a [u8],
+    pub key: &'a [u8],
+    pub value: &'a [u8],
+}
 
 // The greatest length or number of each argument: 0 where it is not sent.
 #[derive(Clone, Copy)]
@@ -20,23 +31,24 @@ pub(crate) struct Limits {
     bulk: u64,
 }
 
+// The same, a number after the other: an arm of `limits_of` is then a row.
 fn at_most(key: u64, time: u64, entry: u64, value: u64, bulk: u64) -> Limits
     ensures { as_limits result ≡ limits key time entry value bulk }
 {
     Limits {
-        key: key,
-        time: time,
-        entry: entry,
-        value: value,
-        bulk: bulk,
+        key,
+        time,
+        entry,
+        value,
+        bulk,
     }
 }
 
+// The one match on the shape: what measures and writes goes by the limits.
 fn limits_of(op: Operation) -> Limits
     ensures { as_limits result ≡ limits_of (shape_of op) }
 {
-    let shape = rules::shape_of(op);
-    match shape {
+    match rules::shape_of(op) {
         Shape::Keyed => at_most(Request::KEY, 0, 0, 0, 0),
         Shape::Writes => at_most(Request::KEY, 0xffff_ffff, 0, Request::VALUE, 0),
         Shape::WritesIf => at_most(
@@ -52,68 +64,6 @@ fn limits_of(op: Operation) -> Limits
     }
 }
 
-fn keeps_args(h: Head, key: &[u8], value: &[u8]) -> bool
-    ensures { result ≡ (args_of (shape_of h.op)).ok (args_with h key.now value.now) }
-{
-    let op = h.op;
-    let entry = h.entry;
-    let l = limits_of(op);
-    if l.key < key.len() as u64 {
-        return false;
-    }
-    if l.time < h.lifespan {
-        return false;
-    }
-    if l.time < h.idle {
-        return false;
-    }
-    if l.entry < entry.0 {
-        return false;
-    }
-    if l.value < value.len() as u64 {
-        return false;
-    }
-    if l.bulk < h.bulk {
-        return false;
-    }
-    true
-}
-
-// Does a request keep the rules?
-pub(crate) fn keeps_rules(h: Head, name: &[u8], key: &[u8], value: &[u8]) -> bool
-    ensures { result ≡ request.ok (request_of h name.now key.now value.now) }
-{
-    if 0x7fff_ffff_ffff_ffff < h.id {
-        return false;
-    }
-    if !rules::is_served(h.version) {
-        return false;
-    }
-    let op = h.op;
-    if !rules::serves(h.version, op) {
-        return false;
-    }
-    if rules::greatest_flags(h.version) < h.flags {
-        return false;
-    }
-    if h.intelligence < 1 {
-        return false;
-    }
-    if 3 < h.intelligence {
-        return false;
-    }
-    if 0xffff_ffff < h.topology {
-        return false;
-    }
-    if Request::NAME < name.len() as u64 {
-        return false;
-    }
-    if !text::is_text(name) {
-        return false;
-    }
-    keeps_args(h, key, value)
-}
-
 // How many bytes a length and so many bytes take.
 fn size(s: &[u8]) -> usize
     ensures { (result ≡ size_of s.now) × (result ≤ length s.now + 9) }
@@ -122,28 +72,16 @@ fn size(s: &[u8]) -> usize
     put::number_len(n) + s.len()
 }
 
-// How many bytes the arguments take.
-fn args_len(h: Head, key: &[u8], value: &[u8]) -> usize
-    requires key_len_bound { length key.now ≤ key_limit }
-    requires value_len_bound { length value.now ≤ value_limit }
-    ensures { (result ≡ args_size (shape_of h.op) (args_with h key.now value.now)) × (result ≤ 1000) }
+// How many bytes an argument takes: one whose limit is 0 is not sent.
+fn sent(lim: u64, n: usize) -> usize
+    ensures { (result ≡ sent_size lim n) × (result ≤ n) }
 {
-    let op = h.op;
-    let shape = rules::shape_of(op);
-    let k = size(key);
-    let times = put::number_len(h.lifespan) + put::number_len(h.idle);
-    let v = size(value);
-    match shape {
-        Shape::Keyed => k,
-        Shape::Writes => k + times + v,
-        Shape::WritesIf => k + times + 8 + v,
-        Shape::KeyedIf => k + 8,
-        Shape::Bare => 0,
-        Shape::Bulk(_) => put::number_len(h.bulk),
-    }
+    if lim == 0 { 0 } else { n }
 }
 
 // How many bytes the transaction type takes.
+// The version is a byte, here and in `put_transaction`, as in `message::Head`.
+#[tactic(auto, using(crate::proofs::Sizes::transaction_size))]
 fn transaction_len(version: u8) -> usize
     ensures { (result ≡ length ((transaction (edition_at version).transaction).enc tt)) × (result ≤ 1) }
 {
@@ -153,73 +91,8 @@ fn transaction_len(version: u8) -> usize
     0
 }
 
-// How many bytes a request takes.
-pub(crate) fn length_of(h: Head, name: &[u8], key: &[u8], value: &[u8]) -> usize
-    requires { Valid request (request_of h name.now key.now value.now) }
-    ensures { result ≡ length (request.enc (request_of h name.now key.now value.now)) }
-{
-    let id = put::number_len(h.id);
-    let n = size(name);
-    let flags = put::number_len(h.flags);
-    let topology = put::number_len(h.topology);
-    let t = transaction_len(h.version);
-    let a = args_len(h, key, value);
-    4 + id + n + flags + topology + t + a
-}
-
-fn put_keyed_if(out: &mut [u8], at: usize, h: Head, key: &[u8], value: &[u8]) -> usize
-    requires { Ready (args_of keyed_if) (args_with h key.now value.now) at out.old }
-    ensures { Wrote (args_of keyed_if) (args_with h key.now value.now) out.old out.new at result }
-{
-    let entry = h.entry;
-    let a = put::put_limited(out, at, key, Request::KEY);
-    put::put_version(out, a, entry)
-}
-
-fn put_writes(out: &mut [u8], at: usize, h: Head, key: &[u8], value: &[u8]) -> usize
-    requires { Ready (args_of writes) (args_with h key.now value.now) at out.old }
-    ensures { Wrote (args_of writes) (args_with h key.now value.now) out.old out.new at result }
-{
-    let lifespan = h.lifespan;
-    let idle = h.idle;
-    let a = put::put_limited(out, at, key, Request::KEY);
-    let b = put::put_number(out, a, lifespan, Kind::VInt);
-    let c = put::put_number(out, b, idle, Kind::VInt);
-    put::put_limited(out, c, value, Request::VALUE)
-}
-
-fn put_writes_if(out: &mut [u8], at: usize, h: Head, key: &[u8], value: &[u8]) -> usize
-    requires { Ready (args_of writes_if) (args_with h key.now value.now) at out.old }
-    ensures { Wrote (args_of writes_if) (args_with h key.now value.now) out.old out.new at result }
-{
-    let lifespan = h.lifespan;
-    let idle = h.idle;
-    let entry = h.entry;
-    let a = put::put_limited(out, at, key, Request::KEY);
-    let b = put::put_number(out, a, lifespan, Kind::VInt);
-    let c = put::put_number(out, b, idle, Kind::VInt);
-    let d = put::put_version(out, c, entry);
-    put::put_limited(out, d, value, Request::VALUE)
-}
-
-fn put_args(out: &mut [u8], at: usize, h: Head, key: &[u8], value: &[u8]) -> usize
-    requires { Ready (args_of (shape_of h.op)) (args_with h key.now value.now) at out.old }
-    ensures { Wrote (args_of (shape_of h.op)) (args_with h key.now value.now) out.old out.new at result }
-{
-    let op = h.op;
-    let bulk = h.bulk;
-    let shape = rules::shape_of(op);
-    match shape {
-        Shape::Keyed => put::put_limited(out, at, key, Request::KEY),
-        Shape::Writes => put_writes(out, at, h, key, value),
-        Shape::WritesIf => put_writes_if(out, at, h, key, value),
-        Shape::KeyedIf => put_keyed_if(out, at, h, key, value),
-        Shape::Bare => at,
-        Shape::Bulk(_) => put::put_number(out, at, bulk, Kind::VInt),
-    }
-}
-
 // The transaction type, where the version has one.
+#[tactic(auto, using(crate::proofs::Puts::put_type, crate::proofs::Puts::put_no_type))]
 fn put_transaction(out: &mut [u8], at: usize, version: u8) -> usize
     ensures { (result, out.new) ≡ put_at (transaction (edition_at version).transaction) tt at out.old }
 {
@@ -229,26 +102,128 @@ fn put_transaction(out: &mut [u8], at: usize, version: u8) -> usize
     at
 }
 
-// Writes a request that keeps the rules, and for which there is room, at the front.
-pub(crate) fn put_request(out: &mut [u8], h: Head, name: &[u8], key: &[u8], value: &[u8]) -> usize
-    requires { Ready request (request_of h name.now key.now value.now) 0 out.old }
-    ensures { Wrote request (request_of h name.now key.now value.now) out.old out.new 0 result }
+// The writers of an argument, which write it where it is sent.
+// One function for the three would take a closure at each of six calls.
+fn put_bytes(out: &mut [u8], at: usize, s: &[u8], lim: u64) -> usize
+    ensures { (result, out.new) ≡ put_sent lim (limited lim) s.now at out.old }
 {
-    let id = h.id;
-    let version = h.version;
-    let op = h.op;
-    let flags = h.flags;
-    let intelligence = h.intelligence;
-    let topology = h.topology;
-    let code = message::code(op);
-    let a = put::put_byte(out, 0, 0xa0);
-    let b = put::put_number(out, a, id, Kind::VLong);
-    let c = put::put_byte(out, b, version);
-    let d = put::put_byte(out, c, code);
-    let e = put::put_text(out, d, name, Request::NAME);
-    let f = put::put_number(out, e, flags, Kind::VInt);
-    let g = put::put_byte(out, f, intelligence);
-    let i = put::put_number(out, g, topology, Kind::VInt);
-    let j = put_transaction(out, i, version);
-    put_args(out, j, h, key, value)
+    if lim == 0 {
+        return at;
+    }
+    put::put_limited(out, at, s, lim)
+}
+
+#[tactic(auto, unfolding(wire::specs::Number::v_int))]
+fn put_count(out: &mut [u8], at: usize, n: u64, lim: u64) -> usize
+    ensures { (result, out.new) ≡ put_sent lim v_int n at out.old }
+{
+    if lim == 0 {
+        return at;
+    }
+    put::put_number(out, at, n, Kind::VInt)
+}
+
+fn put_entry(out: &mut [u8], at: usize, v: EntryVersion, lim: u64) -> usize
+    ensures { (result, out.new) ≡ put_sent lim entry_version v.0 at out.old }
+{
+    if lim == 0 {
+        return at;
+    }
+    put::put_version(out, at, v)
+}
+
+impl Content<'_> {
+    fn keeps_args(self) -> bool
+        ensures { result ≡ is_within (limits_of (shape_of self.entry.head.op)) (args_in self.entry) }
+    {
+        let h = self.head;
+        let l = limits_of(h.op);
+        self.key.len() as u64 <= l.key
+            && h.lifespan <= l.time
+            && h.idle <= l.time
+            && h.entry.0 <= l.entry
+            && self.value.len() as u64 <= l.value
+            && h.bulk <= l.bulk
+    }
+
+    // Does a request keep the rules?
+    pub(crate) fn keeps_rules(self) -> bool
+        ensures { result ≡ keeps_rules (request_in self.entry) }
+    {
+        let h = self.head;
+        h.id <= 0x7fff_ffff_ffff_ffff
+            && rules::is_served(h.version)
+            && rules::serves(h.version, h.op)
+            && h.flags <= rules::greatest_flags(h.version)
+            && 1 <= h.intelligence
+            && h.intelligence <= 3
+            && h.topology <= 0xffff_ffff
+            && self.name.len() as u64 <= Request::NAME
+            && text::is_text(self.name)
+            && self.keeps_args()
+    }
+
+    // How many bytes the arguments take.
+    fn args_len(self) -> usize
+        requires key_len_bound { length self.key.now ≤ key_limit }
+        requires value_len_bound { length self.value.now ≤ value_limit }
+        ensures { (result ≡ args_size (limits_of (shape_of self.entry.head.op)) (args_in self.entry)) × (result ≤ 1000) }
+    {
+        let h = self.head;
+        let l = limits_of(h.op);
+        let times = put::number_len(h.lifespan) + put::number_len(h.idle);
+        sent(l.key, size(self.key))
+            + sent(l.time, times)
+            + sent(l.entry, 8)
+            + sent(l.value, size(self.value))
+            + sent(l.bulk, put::number_len(h.bulk))
+    }
+
+    // How many bytes a request takes.
+    pub(crate) fn length(self) -> usize
+        requires { keeps_rules (request_in self) ≡ true }
+        ensures { result ≡ length (request.enc (request_in self.entry)) }
+    {
+        let h = self.head;
+        let id = put::number_len(h.id);
+        let n = size(self.name);
+        let flags = put::number_len(h.flags);
+        let topology = put::number_len(h.topology);
+        let t = transaction_len(h.version);
+        let a = self.args_len();
+        4 + id + n + flags + topology + t + a
+    }
+
+    // The arguments in their order, each where it is sent.
+    fn put_args(self, out: &mut [u8], at: usize) -> usize
+        requires { Ready (args_of (shape_of self.head.op)) (args_in self) at out.old }
+        ensures { Wrote (args_of (shape_of self.entry.head.op)) (args_in self.entry) out.old out.new at result }
+    {
+        let h = self.head;
+        let l = limits_of(h.op);
+        let a = put_bytes(out, at, self.key, l.key);
+        let b = put_count(out, a, h.lifespan, l.time);
+        let c = put_count(out, b, h.idle, l.time);
+        let d = put_entry(out, c, h.entry, l.entry);
+        let e = put_bytes(out, d, self.value, l.value);
+        put_count(out, e, h.bulk, l.bulk)
+    }
+
+    // Writes a request that keeps the rules, and for which there is room, at the front.
+    pub(crate) fn put(self, out: &mut [u8]) -> usize
+        requires { Ready request (request_in self) 0 out.old }
+        ensures { Wrote request (request_in self.entry) out.old out.new 0 result }
+    {
+        let h = self.head;
+        let a = put::put_byte(out, 0, 0xa0);
+        let b = put::put_number(out, a, h.id, Kind::VLong);
+        let c = put::put_byte(out, b, h.version);
+        let d = put::put_byte(out, c, u8::from(h.op));
+        let e = put::put_text(out, d, self.name, Request::NAME);
+        let f = put::put_number(out, e, h.flags, Kind::VInt);
+        let g = put::put_byte(out, f, h.intelligence);
+        let i = put::put_number(out, g, h.topology, Kind::VInt);
+        let j = put_transaction(out, i, h.version);
+        self.put_args(out, j)
+    }
 }

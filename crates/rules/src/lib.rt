@@ -1,20 +1,20 @@
 #![tactic(auto)]
 // The tables of the protocol: the served versions with their flags and operations, the arguments of each operation, and the reply table with the fields
 // of each body.
-ghost use Rattle.std.specs.Prelude.{◌≡◌, true, false, cond, ◌&&◌, eqb};
-ghost use Rattle.std.proofs.Math.Option.{none};
+// A version, an operation's code and a status are any byte here: what is not served, awaited or allowed is judged, and refused, by these functions.
+ghost use Rattle.std.specs.Prelude.{◌≡◌, ◌&&◌};
 ghost use Rattle.message.specs.Edition.{early};
 ghost use Rattle.message.specs.Arguments.{shape_of};
 ghost use Rattle.message.specs.Request.{is_version, edition_at};
-ghost use Rattle.message.specs.declared.Operation.TheVariants.{ReplaceIfUnmodified};
-ghost use Rattle.message.specs.ReplyTable.{body_at, table, errors, is_allowed, allowed, has_old, status_with_old, reply_status};
+ghost use Rattle.message.specs.ReplyTable.{body_at, table, allowed, has_old, status_with_old, reply_status};
 ghost use Rattle.message.specs.Payload.{form_of, old_form};
 ghost use Rattle.message.specs.Reply.{statuses_of, is_awaited, awaited};
 ghost use Rattle.rules.specs.Awaited.{as_awaited};
-ghost use Rattle.rules.specs.Body.{as_body};
+ghost use Rattle.rules.specs.Body.{as_allowed, as_rows};
 ghost use Rattle.rules.specs.Shape.{as_shape};
 
-use message::{Asked, Form, Found, Operation, Reply};
+use field::Refusal;
+use message::{Asked, Form, Operation, Reply};
 
 // Which arguments an operation is sent.
 #[derive(Clone, Copy)]
@@ -28,6 +28,7 @@ pub enum Shape {
     Bulk(u64),
 }
 
+#[tactic(auto, unfolding(message::specs::Arguments::shape_of))]
 pub fn shape_of(op: Operation) -> Shape
     ensures { as_shape result ≡ shape_of op }
 {
@@ -49,6 +50,7 @@ pub fn shape_of(op: Operation) -> Shape
     }
 }
 
+#[tactic(auto, unfolding(message::specs::Edition::edition_of))]
 pub fn is_served(version: u8) -> bool
     ensures { result ≡ is_version version }
 {
@@ -62,6 +64,7 @@ pub fn is_served(version: u8) -> bool
 }
 
 // The greatest flags of a version.
+#[tactic(auto, unfolding(message::specs::Edition::edition_of))]
 pub fn greatest_flags(version: u8) -> u64
     ensures { result ≡ (edition_at version).flags }
 {
@@ -78,7 +81,7 @@ pub fn greatest_flags(version: u8) -> u64
 fn is_early(op: Operation) -> bool
     ensures { result ≡ early op }
 {
-    message::code(op) != 0x1d
+    u8::from(op) != 0x1d
 }
 
 // Does a version have an operation?
@@ -100,35 +103,25 @@ pub fn has_transaction(version: u8) -> bool
 }
 
 // Does the status of a reply say whether an old value follows, by the version and whether flag 0x0001 was set?
+#[tactic(auto, using(message::proofs::Editions::old_statuses_is))]
 pub fn with_old(version: u8, flag: bool) -> bool
     ensures { result ≡ ((edition_at version).old_statuses && flag) }
 {
     version == 20 && flag
 }
 
-// What reply is awaited: that to an operation, or none, by the refusal's number.
-#[derive(Clone, Copy)]
-pub enum Awaited {
-    Known(Operation),
-    Refused(u8),
-}
-
-// "An unserved version gives the reader 3 before all else", and then an operation not served 4.
-pub fn awaited_by(a: Asked) -> Awaited
+// What reply is awaited: that to an operation. "An unserved version gives the reader 3 before all else", and then an operation not served 4.
+pub fn awaited_by(a: Asked) -> Result<Operation, Refusal>
     ensures { as_awaited a.version result ≡ awaited a }
 {
-    let version = a.version;
-    if !is_served(version) {
-        return Awaited::Refused(3);
+    if !is_served(a.version) {
+        return Err(Refusal::Version);
     }
-    let found = message::find(a.op);
-    let Found::Known(o) = found else {
-        return Awaited::Refused(4);
-    };
-    if !serves(version, o) {
-        return Awaited::Refused(4);
+    let op = Operation::try_from(a.op)?;
+    if !serves(a.version, op) {
+        return Err(Refusal::Operation);
     }
-    Awaited::Known(o)
+    Ok(op)
 }
 
 // What a reply carries behind its marker.
@@ -143,102 +136,64 @@ pub enum Body {
     Statistics,
     Entries,
     Keys,
-    NotAllowed,
 }
 
 // "The reply's code is the request's plus 1; 0x50 is the error reply."
 pub fn is_awaited(o: Operation, op: u8) -> bool
     ensures { result ≡ is_awaited o op }
 {
-    if op == message::code(o) + 1 {
-        return true;
-    }
-    op == 0x50
+    op == u8::from(o) + 1 || op == 0x50
 }
 
-// The body of a status, where 00, 01 and 02 have the bodies `a`, `b` and `c`.
-fn pick(status: u8, a: Body, b: Body, c: Body) -> Body
-    ensures { as_body result ≡ cond (eqb status 0) (as_body a) (cond (eqb status 1) (as_body b) (cond (eqb status 2) (as_body c) none)) }
+// The body of a status in rows, each a status and what follows it.
+fn body_in(status: u8, rows: &[(u8, Body)]) -> Option<Body>
+    ensures { as_allowed result ≡ body_at status (as_rows rows.now) }
 {
-    match status {
-        0x00 => a,
-        0x01 => b,
-        0x02 => c,
-        _ => Body::NotAllowed,
+    for (s, body) in rows {
+        if *s == status {
+            return Some(*body);
+        }
     }
+    None
 }
 
-// The reply table, where the status does not say whether an old value follows, ..
-fn in_table(o: Operation, status: u8) -> Body
-    ensures { as_body result ≡ body_at status (table false o) }
+// The reply table: the rows of an operation, by whether the status says that an old value follows.
+// `old` is a condition of the definition `table`, as `old` and `flag` are of `reply_status` and `old_form`: no step is handed over by it.
+fn rows_of(old: bool, o: Operation) -> &'static [(u8, Body)]
+    ensures { as_rows result.now ≡ table old o }
 {
     match o {
-        Operation::Put => pick(status, Body::Old, Body::NotAllowed, Body::NotAllowed),
-        Operation::PutIfAbsent => pick(status, Body::OldNone, Body::Old, Body::NotAllowed),
-        Operation::Replace => pick(status, Body::Old, Body::OldNone, Body::NotAllowed),
-        Operation::ReplaceIfUnmodified => pick(status, Body::Old, Body::OldNone, Body::OldNone),
-        Operation::Remove => pick(status, Body::Old, Body::NotAllowed, Body::OldNone),
-        Operation::RemoveIfUnmodified => pick(status, Body::Old, Body::OldNone, Body::OldNone),
-        Operation::Get => pick(status, Body::Value, Body::NotAllowed, Body::Nothing),
-        Operation::GetWithVersion => pick(status, Body::Versioned, Body::NotAllowed, Body::Nothing),
-        Operation::ContainsKey => pick(status, Body::Nothing, Body::NotAllowed, Body::Nothing),
-        Operation::Clear => pick(status, Body::Nothing, Body::NotAllowed, Body::NotAllowed),
-        Operation::Stats => pick(status, Body::Statistics, Body::NotAllowed, Body::NotAllowed),
-        Operation::Ping => pick(status, Body::Nothing, Body::NotAllowed, Body::NotAllowed),
-        Operation::BulkGet => pick(status, Body::Entries, Body::NotAllowed, Body::NotAllowed),
-        Operation::BulkGetKeys => pick(status, Body::Keys, Body::NotAllowed, Body::NotAllowed),
+        Operation::Put if old => &[(0x00, Body::Nothing), (0x03, Body::Value)],
+        Operation::Put => &[(0x00, Body::Old)],
+        Operation::PutIfAbsent if old => &[(0x00, Body::Nothing), (0x04, Body::Value)],
+        Operation::PutIfAbsent => &[(0x00, Body::OldNone), (0x01, Body::Old)],
+        Operation::Replace if old => &[(0x03, Body::Value), (0x01, Body::Nothing)],
+        Operation::Replace => &[(0x00, Body::Old), (0x01, Body::OldNone)],
+        Operation::Remove if old => &[(0x03, Body::Value), (0x02, Body::Nothing)],
+        Operation::Remove => &[(0x00, Body::Old), (0x02, Body::OldNone)],
+        Operation::ReplaceIfUnmodified | Operation::RemoveIfUnmodified if old => {
+            &[
+                (0x03, Body::Value),
+                (0x04, Body::Value),
+                (0x02, Body::Nothing),
+            ]
+        }
+        Operation::ReplaceIfUnmodified | Operation::RemoveIfUnmodified => {
+            &[
+                (0x00, Body::Old),
+                (0x01, Body::OldNone),
+                (0x02, Body::OldNone),
+            ]
+        }
+        Operation::Get => &[(0x00, Body::Value), (0x02, Body::Nothing)],
+        Operation::GetWithVersion => &[(0x00, Body::Versioned), (0x02, Body::Nothing)],
+        Operation::ContainsKey => &[(0x00, Body::Nothing), (0x02, Body::Nothing)],
+        Operation::Clear => &[(0x00, Body::Nothing)],
+        Operation::Stats => &[(0x00, Body::Statistics)],
+        Operation::Ping => &[(0x00, Body::Nothing)],
+        Operation::BulkGet => &[(0x00, Body::Entries)],
+        Operation::BulkGetKeys => &[(0x00, Body::Keys)],
     }
-}
-
-// The body of a status, where two of them, or three, have one.
-fn of_two(status: u8, s: u8, a: Body, t: u8, b: Body) -> Body
-    ensures { as_body result ≡ cond (eqb status s) (as_body a) (cond (eqb status t) (as_body b) none) }
-{
-    if status == s {
-        return a;
-    }
-    if status == t {
-        return b;
-    }
-    Body::NotAllowed
-}
-
-fn of_three(status: u8, s: u8, a: Body, t: u8, b: Body, u: u8, c: Body) -> Body
-    ensures { as_body result ≡ cond (eqb status s) (as_body a) (cond (eqb status t) (as_body b) (cond (eqb status u) (as_body c) none)) }
-{
-    if status == s {
-        return a;
-    }
-    of_two(status, t, b, u, c)
-}
-
-// .. and where it does.
-fn in_table_with_old(o: Operation, status: u8) -> Body
-    ensures { as_body result ≡ body_at status (table true o) }
-{
-    match o {
-        Operation::Put => of_two(status, 0x00, Body::Nothing, 0x03, Body::Value),
-        Operation::PutIfAbsent => of_two(status, 0x00, Body::Nothing, 0x04, Body::Value),
-        Operation::Replace => of_two(status, 0x03, Body::Value, 0x01, Body::Nothing),
-        Operation::ReplaceIfUnmodified => unmodified_with_old(status),
-        Operation::Remove => of_two(status, 0x03, Body::Value, 0x02, Body::Nothing),
-        Operation::RemoveIfUnmodified => unmodified_with_old(status),
-        _ => in_table(o, status),
-    }
-}
-
-fn unmodified_with_old(status: u8) -> Body
-    ensures { as_body result ≡ body_at status (table true ReplaceIfUnmodified) }
-{
-    of_three(
-        status,
-        0x03,
-        Body::Value,
-        0x04,
-        Body::Value,
-        0x02,
-        Body::Nothing,
-    )
 }
 
 // Is it an operation with an old value?
@@ -267,70 +222,44 @@ fn status_with_old(status: u8) -> u8
 }
 
 // The status of the reply, of the one planned.
+#[tactic(auto, unfolding(message::specs::ReplyTable::reply_status))]
 pub fn reply_status(old: bool, op: Operation, held: bool, status: u8) -> u8
     ensures { result ≡ reply_status old op held status }
 {
-    if !has_old(op) {
-        return status;
-    }
-    if old {
-        if held {
-            return status_with_old(status);
-        }
+    if old && held && has_old(op) {
+        return status_with_old(status);
     }
     status
 }
 
-// The statuses of an error reply.
-fn in_errors(status: u8) -> Body
-    ensures { as_body result ≡ body_at status errors }
+// The body of a status of a reply: of an error reply, or by the reply table; none where the status is not allowed.
+pub fn body_at(old: bool, o: Operation, op: u8, status: u8) -> Option<Body>
+    ensures { as_allowed result ≡ body_at status (statuses_of old o op) }
 {
-    if status < 0x81 {
-        return Body::NotAllowed;
+    if op != 0x50 {
+        return body_in(status, rows_of(old, o));
     }
-    if 0x86 < status {
-        return Body::NotAllowed;
-    }
-    Body::Text
-}
-
-pub fn body_at(old: bool, o: Operation, op: u8, status: u8) -> Body
-    ensures { as_body result ≡ body_at status (statuses_of old o op) }
-{
-    if op == 0x50 {
-        return in_errors(status);
-    }
-    if old {
-        in_table_with_old(o, status)
-    } else {
-        in_table(o, status)
+    match status {
+        0x81..=0x86 => Some(Body::Text),
+        _ => None,
     }
 }
 
-pub fn is_allowed(b: Body) -> bool
-    ensures { result ≡ is_allowed (as_body b) }
+// The fields of a body: an old value is sent only if the flag was set. Where there is none, there are no fields.
+pub fn form_of(flag: bool, b: Option<Body>) -> Form
+    ensures { result ≡ form_of flag (allowed (as_allowed b)) }
 {
     match b {
-        Body::NotAllowed => false,
-        _ => true,
-    }
-}
-
-// The fields of a body: an old value is sent only if the flag was set.
-pub fn form_of(flag: bool, b: Body) -> Form
-    ensures { result ≡ form_of flag (allowed (as_body b)) }
-{
-    match b {
-        Body::Nothing => Form::Nothing,
-        Body::Old => old_form(flag, Reply::VALUE),
-        Body::OldNone => old_form(flag, 0),
-        Body::Value => Form::Value(Reply::VALUE),
-        Body::Versioned => Form::Versioned,
-        Body::Text => Form::Text,
-        Body::Statistics => Form::Statistics,
-        Body::Entries => Form::Listed(true),
-        Body::Keys => Form::Listed(false),
-        Body::NotAllowed => Form::Nothing,
+        None => Form::Nothing,
+        Some(Body::Nothing) => Form::Nothing,
+        Some(Body::Old) => old_form(flag, Reply::VALUE),
+        Some(Body::OldNone) => old_form(flag, 0),
+        Some(Body::Value) => Form::Value(Reply::VALUE),
+        Some(Body::Versioned) => Form::Versioned,
+        Some(Body::Text) => Form::Text,
+        Some(Body::Statistics) => Form::Statistics,
+        Some(Body::Entries) => Form::Listed(true),
+        Some(Body::Keys) => Form::Listed(false),
     }
 }
 

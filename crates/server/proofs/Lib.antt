@@ -3,7 +3,6 @@ pub mod StepLaws
 pub mod StreamLaws
 pub mod PartLaws
 pub mod ManyLaws
-pub mod CallLaws
 pub mod LineLaws
 pub mod LeftLaws
 pub mod TurnLaws

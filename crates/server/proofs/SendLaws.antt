@@ -1,24 +1,23 @@
 -- Replies that fit are written, and the reply to a request is the one that the map gives. Assumes nothing.
 use mathlib.Core.Path.{◌≡◌, refl, sym, ap, ◌∙◌}
-use mathlib.Core.List.{List, [], ◌∷◌, ◌++◌, map, append-nil}
+use mathlib.Core.List.{List, [], ◌++◌, map, append-nil}
 use mathlib.Core.Bool.{Bool, true, false, cond, not, ◌||◌}
 use mathlib.Core.Option.{Option, none, some}
-use Prim.Native.Nat.{ℕ, ◌+◌, ◌≤◌, ◌<◌, min}
+use Prim.Native.Nat.{ℕ, ◌+◌, ◌≤◌, ◌<◌}
 use native.Mathlib.Nat.{zero-add}
 use native.Mathlib.Omega.{arith}
 use lib.ListN.{length, take, drop, get_or, length-take, length-map, get_or-map, get_or-eq_default}
 use lib.Seq.{sets, sets-eq, get_or-take}
 use lib.Dec.{eqb}
-use types.Run.{OneOf, miss}
-use denote.Enum.Declared.{tag_of}
-use borrow.Author.Tests.{eqb-true, eq-eqb, ne_eqb}
 use Rattle.wire.specs.Codec.{Codec, Valid, byte}
 use Rattle.wire.specs.Write as wire
 use Rattle.wire.specs.Write.{send, written}
 use Rattle.wire.proofs.Laws.{never, guard-valid}
 use Rattle.wire.proofs.WriteLaws.{send-room}
+use Rattle.field.specs.declared.refusals.Refusal.{Refusal}
+use Rattle.field.specs.Refusal.{number_of}
 use Rattle.message.specs.declared.Operation.{Operation}
-use Rattle.message.specs.declared.Operation.TheVariants.{Stats, BulkGet}
+use Rattle.message.specs.declared.Operation.TheVariants.{Stats, BulkGet, BulkGetKeys}
 use Rattle.message.specs.Operation.{code_of}
 use Rattle.message.specs.declared.Asked.{Asked}
 use Rattle.message.specs.Request.{Request}
@@ -34,7 +33,7 @@ use Rattle.message.proofs.ReplySize.{error-most}
 use Rattle.map.specs.State.{Entry}
 use Rattle.map.specs.Plan.{plans, plan}
 use Rattle.map.specs.Shown.{no_value, value, shows, wanted, lowest, listed_by}
-use Rattle.map.specs.Step.{most_keys, Context, wants_old, with_old, is_none, version_of, held, planned, statistics, status_of, result}
+use Rattle.map.specs.Step.{most_keys, Context, wants_old, with_old, is_none, held, planned, statistics, status_of, result}
 use Rattle.map.specs.Reply.{Piece, flat, pieces, payload_of, pair_of, reply_to, asked_by}
 use Rattle.map.proofs.Format.{row_fits, asks, pieces-reply, reply-valid, bulk-reply, result-most}
 use Rattle.map.specs.Table.{Sizes}
@@ -45,17 +44,16 @@ use Rattle.table.specs.Memory.{state_of, Sound}
 use Rattle.table.specs.Found.{entry_at}
 use Rattle.message.specs.declared.Form.{Form}
 use Rattle.message.specs.declared.Form.TheVariants as f
-use Rattle.message.specs.contracts.Form as form-code
-use Rattle.message.specs.contracts.Operation as operation-code
-use Rattle.message.proofs.Every.{every, every_of, bodies, every_body, statuses_are}
+use Rattle.message.proofs.Every.{every, bodies, every_body, statuses_are}
 use Rattle.reply_writer.specs.Frame.{framed}
 use Rattle.reply_writer.proofs.SendLaws.{send-framed}
 use Rattle.service.specs.Serve as stream
 use Rattle.service.specs.Serve.{room, bulk_room, room_of, error_pieces}
 use Rattle.service.proofs.Bounds.{reply-room}
 use Rattle.plan.specs.declared.Held.{Held}
-use Rattle.plan.specs.Plan.{Holds, held_version, held_at}
-use Rattle.plan.proofs.PlanLaws.{version-held}
+use Rattle.std.specs.Prelude as std
+use Rattle.plan.specs.Plan.{Holds, held_at}
+use Rattle.plan.proofs.PlanLaws.{row-held, none-held}
 use Rattle.server.specs.declared.Answer.{Answer}
 use Rattle.server.specs.CallDone.{Says, Sends}
 use Rattle.server.specs.Act.{is_plain, value_shown, version_shown, sent_to, Planned}
@@ -72,29 +70,46 @@ module _ {A : Type 0} (c : Codec A) (a : A) {x : wire.Sent} {old new : List ℕ}
       let d : sets old 0 (c.enc a) ≡ c.enc a ++ drop (length (c.enc a)) old = sets-eq (c.enc a) old 0 (omega arith) ∙ rw zero-add in
       record { says = rw f (h (length (c.enc a)) p); buffer = rw f (q ∙ sym d) }
 
+-- no refusal has the number 0
+numbered : (r : Refusal) → 1 ≤ number_of r
+numbered r = grind arith
+
 -- the error reply of a refusal
-pub error-sent : (k id : ℕ) {x : wire.Sent} {old new : List ℕ} {n : ℕ} {v : stream.Verdict} {r : Answer}
-    → 1 ≤ k → k ≤ 11 → id < 0x8000_0000_0000_0000 → room ≤ length old → (x, new) ≡ send error_reply (refusal k id) old
-    → ((m : ℕ) → x ≡ written m → Says n m v r) → Sends (error_pieces k id) n v old new r
+pub error-sent : (r : Refusal) (id : ℕ) {x : wire.Sent} {old new : List ℕ} {n : ℕ} {v : stream.Verdict} {a : Answer}
+    → number_of r ≤ 11 → id < 0x8000_0000_0000_0000 → room ≤ length old → (x, new) ≡ send error_reply (refusal (number_of r) id) old
+    → ((m : ℕ) → x ≡ written m → Says n m v a) → Sends (error_pieces (number_of r) id) n v old new a
 unfolding flat
-error-sent k id l u i o s h =
-    let g = refusal-good k id l u i in
-    sent error_reply (refusal k id) s g (omega (arith, error-most (refusal k id) g)) (append-nil (error_reply.enc (refusal k id))) h
+error-sent r id u i o s h =
+    let m = refusal (number_of r) id in
+    let g = refusal-good (number_of r) id (numbered r) u i in
+    sent error_reply m s g (omega (arith, error-most m g)) (append-nil (error_reply.enc m)) h
 
 -- a row that no table holds has no value
-pub past-rows : (t : List ℕ) → Sound t → (entry_at t most_keys).value ≡ []
+past_rows : (t : List ℕ) → Sound t → (entry_at t most_keys).value ≡ []
 unfolding entry_at memory.entry
-past-rows t s = rw (get_or-eq_default (state_of t).entries (memory.entry [] [] 0 0) s.table.few)
+past_rows t s = rw (get_or-eq_default (state_of t).entries (memory.entry [] [] 0 0) s.table.few)
 
--- a form that is not `Versioned` shows no version
-pub no_version : (g : Form) → OneOf (0 ∷ 1 ∷ 3 ∷ 4 ∷ 5 ∷ []) (tag_of form-code.the_type g) → (o : Option Entry) → 0 ≡ version_shown g o
-no_version g k none = refl
-no_version f.Nothing k (some e) = refl
-no_version (f.Value lim) k (some e) = refl
-no_version f.Versioned k (some e) = absurd (miss (0 ∷ 1 ∷ 3 ∷ 4 ∷ 5 ∷ []) 2 tt k)
-no_version f.Text k (some e) = refl
-no_version f.Statistics k (some e) = refl
-no_version (f.Listed values) k (some e) = refl
+-- the entry held
+abbrev entry_held : List ℕ → std.Option Held → Option Entry
+entry_held t (std.Some h) = some (entry_at t h.row)
+entry_held t std.None = none
+
+-- what the code holds is the entry that the map finds
+held_is : (t k : List ℕ) (x : std.Option Held) → Holds t k x → held_at t k ≡ entry_held t x
+held_is t k (std.Some y) g = row-held t k {x = std.Some y} refl g
+held_is t k std.None g = none-held t k {x = std.None} refl g
+
+-- what a reply of a form shows: the value of the row held, or none; its version, or 0
+module _ (g : Form) (t k : List ℕ) (x : std.Option Held) where
+  pub row_shown : (h : Held) → x ≡ std.Some h → Holds t k x → value_shown g (some (entry_at t h.row)) ≡ (entry_at t h.row).value
+      → (entry_at t h.row).value ≡ value_shown g (held_at t k)
+  row_shown h e w z = rw (held_is t k x w, e) (sym z)
+
+  pub past_shown : Sound t → Holds t k x → value_shown g (entry_held t x) ≡ [] → (entry_at t most_keys).value ≡ value_shown g (held_at t k)
+  past_shown s w z = rw (held_is t k x w, z) (past_rows t s)
+
+  pub held_shown : (n : ℕ) → Holds t k x → n ≡ version_shown g (entry_held t x) → n ≡ version_shown g (held_at t k)
+  held_shown n w z = rw (held_is t k x w) z
 
 -- a form that is neither statistics nor entries
 abbrev plain : Form → Bool
@@ -134,28 +149,17 @@ plain-test false false = every (λ o. not (is_plain o) || bodies (λ b. plain (f
 plain-bodies : (o : Operation) (u t : Bool) → is_plain o ≡ true → bodies (λ b. plain (form_of t b)) (table u o) ≡ true
 plain-bodies o u t n = rw n at (plain-test u t o)
 
--- the tags of the operations whose replies show at most one entry, and of those that ask for no more room than any call has
-abbrev plain_tags : List ℕ
-plain_tags = 0 ∷ 1 ∷ 2 ∷ 3 ∷ 4 ∷ 5 ∷ 6 ∷ 7 ∷ 8 ∷ 9 ∷ 11 ∷ []
-
-pub plain-tags : (o : Operation) → OneOf plain_tags (tag_of operation-code.the_type o) → is_plain o ≡ true
+pub plain-op : (o : Operation) → (o ≡ Stats → ⊥) → (o ≡ BulkGet → ⊥) → (o ≡ BulkGetKeys → ⊥) → is_plain o ≡ true
 unfolding is_plain
-plain-tags = every_of plain_tags is_plain refl
+plain-op o s b k = grind arith
 
-abbrev short_tags : List ℕ
-short_tags = 0 ∷ 1 ∷ 2 ∷ 3 ∷ 4 ∷ 5 ∷ 6 ∷ 7 ∷ 8 ∷ 9 ∷ 10 ∷ 11 ∷ []
-
-pub room_tags : (o : Operation) → OneOf short_tags (tag_of operation-code.the_type o) → room ≡ room_of o
-unfolding room_of
-room_tags o k = eqb-true room (room_of o) (every_of short_tags (λ o. eqb room (room_of o)) refl o k)
-
--- what the code holds is what the map finds
-pub held_same : (t k : List ℕ) (x : Held) → Holds t k x → is_none (held_version x) ≡ is_none (held_at t k)
-held_same t k x h = ap is_none (version-held t k x h) ∙ go (held_at t k)
+-- an entry is held where the map finds one
+pub held_same : (t k : List ℕ) (x : std.Option Held) → Holds t k x → std.is_some x ≡ not (is_none (held_at t k))
+held_same t k x h = go x ∙ ap (λ (o : Option Entry). not (is_none o)) (sym (held_is t k x h))
   where
-    go : (o : Option Entry) → is_none (version_of o) ≡ is_none o
-    go none = refl
-    go (some e) = refl
+    go : (y : std.Option Held) → std.is_some y ≡ not (is_none (entry_held t y))
+    go (std.Some y) = refl
+    go std.None = refl
 
 -- the form of the reply to a request, by the status
 abbrev pub form : Request → ℕ → Form
@@ -166,7 +170,7 @@ bulk-values : (values : Bool) → eqb (code_of (bulk_operation values)) (code_of
 bulk-values true = refl
 bulk-values false = refl
 
-module _ (c : Context) {t : List ℕ} {q : Request} {y : Held} {s : ℕ} (g : Planned t q y s) where
+module _ (c : Context) {t : List ℕ} {q : Request} {y : std.Option Held} {s : ℕ} (g : Planned t q y s) where
   -- the reply to a request of such an operation, of its code, a version and a value
   abbrev made : ℕ → ℕ → ℕ → List ℕ → Reply
   made code u e v = record { id = q.id; op = code + 1; status = u; payload = payload e v [] }
@@ -232,12 +236,6 @@ longest-most false = omega arith
 
 -- the entries that a bulk reply lists: how many there are, and which they are
 module _ (n : ℕ) (t : List ℕ) where
-  pub many-all : n ≡ 0 → length (state_of t).entries ≡ length (lowest n (state_of t).entries)
-  many-all e = rw (eq-eqb n 0 e)
-
-  pub many-some : (n ≡ 0 → ⊥) → min n (length (state_of t).entries) ≡ length (lowest n (state_of t).entries)
-  many-some h = rw (ne_eqb n 0 h) (sym (length-take n (state_of t).entries))
-
   module _ (values : Bool) where
     pub listed-long : length (listed_pairs values n (state_of t)) ≡ length (lowest n (state_of t).entries)
     listed-long = length-map (lowest n (state_of t).entries) (pair_of values)

@@ -1,7 +1,7 @@
 -- What a step of the map makes of an answer and of the table. Assumes nothing.
 use mathlib.Core.Path.{◌≡◌, refl, sym, ap, ap₂, subst, ◌∙◌}
 use mathlib.Core.List.{List, [], ◌∷◌}
-use mathlib.Core.Bool.{Bool, true, false, cond}
+use mathlib.Core.Bool.{Bool, true, false, cond, not}
 use mathlib.Core.Option.{Option, none, some}
 use Prim.Native.Nat.{ℕ, suc, ◌≤◌, ◌<◌, ◌^◌}
 use native.Mathlib.Omega.{arith}
@@ -25,9 +25,9 @@ use Rattle.map.specs.Reply.{flat, pieces}
 use Rattle.table.specs.Memory as memory
 use Rattle.table.specs.Memory.{bound_index, number_of, state_of, Sound}
 use Rattle.table.specs.Sweep.{is_due}
-use Rattle.table.specs.Found.{entry_at, FoundIs}
+use Rattle.table.specs.Found.{entry_at}
 use Rattle.table.specs.Change.{Changed, Left, added, renewed, removed, arrived}
-use Rattle.table.specs.declared.Found.TheVariants as f
+use Rattle.std.specs.Prelude as std
 use Rattle.table.proofs.Lists.{says_yes, says_no}
 use Rattle.table.proofs.Keys.{found-without, found-less}
 use Rattle.table.proofs.Sweeps.{below-bound, not_due}
@@ -43,7 +43,7 @@ use Rattle.service.proofs.Sounds.{tells-sound}
 use Rattle.service.proofs.Calls.{within-fits, within-short}
 use Rattle.plan.specs.declared.Held.{Held}
 use Rattle.plan.specs.Plan.{is_full, refusal_of, Holds, HoldsAt, held_version, held_at, judged_at}
-use Rattle.plan.proofs.PlanLaws.{all_stand, version-stands, holds_same, judged-stands}
+use Rattle.plan.proofs.PlanLaws.{row-found, none_found, held-some, all_stand, version-stands, holds_same, judged-stands}
 use Rattle.server.specs.declared.Answer.{Answer}
 use Rattle.server.specs.CallDone.{done_of, Says, Sends}
 use Rattle.server.specs.Act.{less, replaced, Storable, after, Performs, PerformsWithin}
@@ -66,25 +66,29 @@ pub does-refused : (q : Request) {n k : ℕ} {o : Outcome} {old new t : List ℕ
 unfolding on_step
 does-refused q e s = rw e (does s refl)
 
--- the table without a row, and with a value under a key
-module _ {t k : List ℕ} (s : Sound t) where
-  pub row-dropped : {t' : List ℕ} (i : ℕ) → FoundIs t k (f.At i) → Left t (removed i t) t' → Changed t t' (less k (state_of t))
-  row-dropped i e l = rw (found-less t k i s.table.keys e) at (removed-changed s i e.0 l)
+-- the table without the row held, and with a value under a key
+module _ (t k : List ℕ) {x : std.Option Held} (g : Holds t k x) where
+  pub row_dropped : {t' : List ℕ} (h : Held) → Sound t → x ≡ std.Some h → Left t (removed h.row t) t' → Changed t t' (less k (state_of t))
+  row_dropped h s e l =
+      let f = (row-found t k e g).0 in
+      rw (found-less t k h.row s.table.keys f) at (removed-changed s h.row f.0 l)
 
-  pub none_dropped : FoundIs t k f.Absent → Changed t t (less k (state_of t))
-  none_dropped e = record { long = refl; state = rw (found-without t k e); layout = s.layout }
+  pub none_dropped : Sound t → x ≡ std.None → Changed t t (less k (state_of t))
+  none_dropped s e = record { long = refl; state = rw (found-without t k (none_found t k e g)); layout = s.layout }
 
-module _ {t k v : List ℕ} {held : Held} {t' : List ℕ} (s : Storable t k v held) (d : ℕ) (h : d < 2 ^ 64) where
-  pub row-stored : (i : ℕ) → FoundIs t k (f.At i) → Left t (renewed i v d t) t' → Changed t t' (replaced k v d (state_of t))
+module _ {t k v : List ℕ} {x : std.Option Held} {t' : List ℕ} (d : ℕ) (s : Storable t k v x) (l : d < 2 ^ 64) where
+  pub row_stored : (h : Held) → x ≡ std.Some h → Left t (renewed h.row v d t) t' → Changed t t' (replaced k v d (state_of t))
   unfolding entry_at
-  row-stored i e l =
-      rw (found-less t k i s.sound.table.keys e, e.1) at (renewed-changed s.sound i v d s.value h e.0 s.version l)
+  row_stored h e w =
+      let f = (row-found t k e s.holds).0 in
+      rw (found-less t k h.row s.sound.table.keys f, f.1) at (renewed-changed s.sound h.row v d s.value l f.0 s.version w)
 
-  pub none-stored : FoundIs t k f.Absent → Left t (added k v d t) t' → Changed t t' (replaced k v d (state_of t))
+  pub none_stored : x ≡ std.None → Left t (added k v d t) t' → Changed t t' (replaced k v d (state_of t))
   unfolding entry_at
-  none-stored e l =
-      let w = found-without t k e in
-      rw w (added-changed s.sound k v d s.key s.value h (rw w at s.room) s.version (each_all (λ x. x.key ≡ k → ⊥) (state_of t).entries (memory.entry [] [] 0 0) e) l)
+  none_stored e w =
+      let f = none_found t k e s.holds in
+      let n = found-without t k f in
+      rw n (added-changed s.sound k v d s.key s.value l (rw n at s.room) s.version (each_all (λ y. y.key ≡ k → ⊥) (state_of t).entries (memory.entry [] [] 0 0) f) w)
 
 -- a request that is answered: the table is the one behind its change
 pub does-answered : (q : Request) {o : Outcome} {b : map.Result} {st : State} {n : ℕ} {old new t u t' : List ℕ} {a : Answer} → o ≡ answered b st → IsTable st
@@ -135,25 +139,29 @@ module _ (c : Context) (q : Request) (st : State) where
         go false false e = never (cc)
 
 -- a call on a sound table: what the code holds of what stands is what the map finds behind `arrive`
-module _ (c : Context) (q : Request) (t : List ℕ) (s : Sound t) (x : Held) (g : HoldsAt (present c (state_of t)) t q.args.key x) where
+module _ (c : Context) (q : Request) (t : List ℕ) (s : Sound t) (x : std.Option Held) (g : HoldsAt (present c (state_of t)) t q.args.key x) where
   pub held-come : held_version x ≡ version_of (held q (arrive c q (state_of t)))
   unfolding held arrive noted swept
   held-come = version-stands (present c (state_of t)) t q.args.key x s.table.keys g
 
-  -- and it is counted so
-  pub absent-come : is_none (held q (swept c (state_of t))) ≡ is_none (held_version x)
+  -- and the table does before the step what the map does
+  pub call_noted : c.second < 0x1_0000_0000 → {u : List ℕ} (absent : Bool) → std.is_some x ≡ not absent → Left t (arrived q.op absent c.second t) u
+      → stream-of.Becomes t (some (arrive c q (state_of t))) u
   unfolding held swept
-  absent-come =
-      sym (none-version (held q (swept c (state_of t))))
-      ∙ ap (λ (o : Option ℕ). is_none o) (sym (version-stands (present c (state_of t)) t q.args.key x s.table.keys g))
+  call_noted h {u} absent e l = let z = arrived-sound s c q (omega arith) {u = u} (rw same l) in (z.1, z.0)
+    where
+      twice : (b : Bool) → not (not b) ≡ b
+      twice true = refl
+      twice false = refl
 
--- the table does before a step what the map does, by whether the key is held of what stands
-pub arrives : (c : Context) (q : Request) {t u : List ℕ} {absent : Bool} → Sound t → c.second < 0x1_0000_0000 → is_none (held q (swept c (state_of t))) ≡ absent
-    → Left t (arrived q.op absent c.second t) u → stream-of.Becomes t (some (arrive c q (state_of t))) u
-arrives c q {u = u} s h e l = let z = arrived-sound s c q (omega arith) {u = u} (rw e l) in (z.1, z.0)
+      same : is_none (held q (swept c (state_of t))) ≡ absent
+      same =
+          sym (none-version (held q (swept c (state_of t))))
+          ∙ (ap (λ (o : Option ℕ). is_none o) (sym (version-stands (present c (state_of t)) t q.args.key x s.table.keys g))
+          ∙ (held-some x (std.is_some x) refl ∙ (ap not e ∙ twice absent)))
 
 -- what is held of the table that is left: all entries there stand at the present second
-module _ (c : Context) (q : Request) (t : List ℕ) {u : List ℕ} (w : stream-of.Becomes t (some (arrive c q (state_of t))) u) (x : Held) where
+module _ (c : Context) (q : Request) (t : List ℕ) {u : List ℕ} (w : stream-of.Becomes t (some (arrive c q (state_of t))) u) (x : std.Option Held) where
   entries-left : (state_of u).entries ≡ standing (present c (state_of t)) (state_of t).entries
   unfolding arrive noted swept
   entries-left = ap (λ (st : State). st.entries) w.0
@@ -208,12 +216,8 @@ version-left st o e = go (is_full st o) (ltb st.last last_version) refl e
     go false true z e = ltb-true st.last last_version z
     go false false z e = never (cc)
 
--- a table that is as it was
-pub same-table : (t : List ℕ) → Sound t → Changed t t (state_of t)
-same-table t s = record { long = refl; state = refl; layout = s.layout }
-
 -- the request's value can be stored, and storing it is the map's change
-pub storable : (q : Request) (t : List ℕ) {held : Held} → Sound t → Valid request q → IsTable (stored q (state_of t)) → Holds t q.args.key held
+pub storable : (q : Request) (t : List ℕ) {held : std.Option Held} → Sound t → Valid request q → IsTable (stored q (state_of t)) → Holds t q.args.key held
     → (state_of t).last < last_version → Storable t q.args.key q.args.value held
 unfolding stored
 storable q t s v i g l =

@@ -22,11 +22,11 @@ use Rattle.table.specs.Memory.{state_of, Sound}
 use Rattle.table.specs.Change.{grown}
 use Rattle.service.specs.Serve.{served, on_step, within}
 use Rattle.service.specs.Stream.{Becomes, Done, Does}
+use Rattle.std.specs.Prelude as std
 use Rattle.plan.specs.declared.Held.{Held}
 use Rattle.plan.specs.Plan.{Holds, held_version, refusal_of}
 use Rattle.server.specs.declared.Answer.{Answer}
-use Rattle.server.specs.declared.Context as server
-use Rattle.server.specs.CallDone.{Admissible, Sends}
+use Rattle.server.specs.CallDone.{Sends}
 
 -- the value and the version that a reply of the form shows of the entry held
 abbrev pub value_shown : Form → Option Entry → List ℕ
@@ -64,7 +64,7 @@ abbrev pub replaced : List ℕ → List ℕ → ℕ → State → State
 replaced k v d st = grown k v d (less k st)
 
 -- a value that can be set under a key: sizes are kept, there is a row for it, and a version is left
-pub record Storable (t k v : List ℕ) (held : Held) : Type 0 where
+pub record Storable (t k v : List ℕ) (held : std.Option Held) : Type 0 where
   pub sound : Sound t
   pub holds : Holds t k held
   pub key : length k ≤ key_limit
@@ -73,17 +73,11 @@ pub record Storable (t k v : List ℕ) (held : Held) : Type 0 where
   pub version : (state_of t).last < step.last_version
 
 -- a well-formed request on a sound table, with what is held and the status planned
-pub record Planned (t : List ℕ) (q : Request) (held : Held) (s : ℕ) : Type 0 where
+pub record Planned (t : List ℕ) (q : Request) (held : std.Option Held) (s : ℕ) : Type 0 where
   pub sound : Sound t
   pub valid : Valid request q
   pub holds : Holds t q.args.key held
   pub status : (step.planned q (state_of t)).status ≡ s
-
--- what a call has beside its request, and so much room at least
-pub record Given (t out : List ℕ) (least : ℕ) (c : server.Context) : Type 0 where
-  pub sound : Sound t
-  pub room : least ≤ length out
-  pub context : Admissible c
 
 -- the state that a change leaves which is not refused
 abbrev pub after : Request → State → Change → State
@@ -93,7 +87,7 @@ after q st drop = step.dropped q st
 after q st empty = step.emptied st
 
 -- the change of a well-formed request on a sound table is not refused, and leaves a table
-pub record Agreed (t : List ℕ) (q : Request) (held : Held) (d : Change) : Type 0 where
+pub record Agreed (t : List ℕ) (q : Request) (held : std.Option Held) (d : Change) : Type 0 where
   pub sound : Sound t
   pub valid : Valid request q
   pub holds : Holds t q.args.key held
@@ -101,7 +95,7 @@ pub record Agreed (t : List ℕ) (q : Request) (held : Held) (d : Change) : Type
   pub left : IsTable (after q (state_of t) d)
 
 -- a call has come: the table u is the one behind `arrive`, and this is held of the key there
-pub record Arrives (t : List ℕ) (q : Request) (c : Context) (u : List ℕ) (held : Held) : Type 0 where
+pub record Arrives (t : List ℕ) (q : Request) (c : Context) (u : List ℕ) (held : std.Option Held) : Type 0 where
   pub table : Becomes t (some (step.arrive c q (state_of t))) u
   pub holds : Holds u q.args.key held
 

@@ -1,13 +1,14 @@
 -- What the answers of a call and of a stream of calls say: what was taken and sent, and what the call left.
-use Rattle.std.specs.Prelude.{◌≡◌, List, ℕ, ◌-◌, ◌≤◌, ◌<◌, length, take, drop}
+use Rattle.std.specs.Prelude.{◌≡◌, List, ℕ, ◌-◌, ◌≤◌, length, take, drop}
 use Rattle.std.proofs.lemmas.List.Edits.{sets}
+use Rattle.field.specs.Refusal.{number_of}
 use Rattle.map.specs.Reply.{Piece, flat}
 use Rattle.service.specs.Serve as stream
 use Rattle.map.specs.Step as map
 use Rattle.table.specs.Memory.{Sound}
 use Rattle.service.specs.Stream.{Done, Serves}
 use Rattle.service.specs.Many.{Total, at}
-use Rattle.server.specs.declared.Context.{Context}
+use Rattle.server.specs.declared.context.Context.{Context}
 use Rattle.server.specs.declared.Verdict.{Verdict}
 use Rattle.server.specs.declared.Verdict.TheVariants as v
 use Rattle.server.specs.declared.Answer.{Answer}
@@ -16,7 +17,7 @@ use Rattle.server.specs.declared.Streamed.{Streamed}
 abbrev pub as_verdict : Verdict → stream.Verdict
 as_verdict v.Served = stream.served
 as_verdict v.More = stream.more
-as_verdict (v.Refused k) = stream.refused k
+as_verdict (v.Refused k) = stream.refused (number_of k)
 as_verdict v.Full = stream.full
 
 abbrev pub as_answer : Answer → stream.Answer
@@ -25,10 +26,6 @@ as_answer a = record { taken = a.taken; verdict = as_verdict a.verdict }
 -- what a call is given beside its request, as the map says it
 abbrev pub as_context : Context → map.Context
 as_context c = map.context_of c.second.0
-
--- a context that a call can be given: "a second is a u32"
-abbrev pub Admissible : Context → Type 0
-Admissible c = c.second.0 < 0x1_0000_0000
 
 -- what a call left
 abbrev pub done_of : Answer → List ℕ → List ℕ → Done

@@ -1,12 +1,11 @@
 -- Calls of `serve_many` one after the other, each on the table that the last one left, refused ones among them.
-use Rattle.std.specs.Prelude.{◌≡◌, List, [], ◌∷◌, ◌++◌, ℕ, ◌*◌, ◌<◌, length, drop}
+use Rattle.std.specs.Prelude.{◌≡◌, List, [], ◌∷◌, ◌++◌, ℕ, ◌*◌, ◌<◌, length, drop, Result, Ok, Err}
 use Rattle.wire.specs.Codec.{Bytes}
 use Rattle.map.specs.Step.{Context}
 use Rattle.service.specs.Many.{Total}
 use Rattle.service.specs.Shares.{parts, sizes, buffer_behind, share_numbers}
 use Rattle.service.specs.Rounds.{Round}
-use Rattle.server.specs.declared.Shared.{Shared}
-use Rattle.server.specs.declared.Shared.TheVariants as s
+use Rattle.field.specs.declared.refusals.Refusal.{Refusal}
 use Rattle.server.specs.Gives.{ServesMany}
 
 -- what a call was given and lent beside the table, its answer, and what it left
@@ -16,7 +15,7 @@ pub record ManyCall : Type 0 where
   pub ends : List ℕ
   pub lent : List ℕ
   pub old : List ℕ
-  pub answer : Shared
+  pub answer : Result ℕ Refusal
   pub out : List ℕ
   pub after : List ℕ
   pub new : List ℕ
@@ -38,7 +37,7 @@ round_of m = record { context = m.context; inputs = parts 0 m.ends m.row; lent =
 -- each call that is done is a round, whose numbers it tells; a refused one is none
 pub data AsRounds : List ManyCall → List Round → List (List Total) → Type 0 where
   all_told : AsRounds [] [] []
-  refused-call : {m : ManyCall} {ms : List ManyCall} {rs : List Round} {tss : List (List Total)} {k : ℕ} → m.answer ≡ s.Refused k → AsRounds ms rs tss → AsRounds (m ∷ ms) rs tss
-  done-call : {m : ManyCall} {ms : List ManyCall} {rs : List Round} {ts : List Total} {tss : List (List Total)} → m.answer ≡ s.Done (sizes ts)
+  refused-call : {m : ManyCall} {ms : List ManyCall} {rs : List Round} {tss : List (List Total)} {k : Refusal} → m.answer ≡ Err k → AsRounds ms rs tss → AsRounds (m ∷ ms) rs tss
+  done-call : {m : ManyCall} {ms : List ManyCall} {rs : List Round} {ts : List Total} {tss : List (List Total)} → m.answer ≡ Ok (sizes ts)
       → m.out ≡ buffer_behind m.lent ts → m.new ≡ share_numbers ts ++ drop (3 * length m.ends) m.old → AsRounds ms rs tss
       → AsRounds (m ∷ ms) (round_of m ∷ rs) (ts ∷ tss)

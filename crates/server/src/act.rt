@@ -1,8 +1,10 @@
-// Serving a request on a table that is sound, with room for an error reply at least.
-ghost use Rattle.std.specs.Prelude.{◌≡◌, List, true, not, ℕ, ◌+◌, ◌≤◌, ◌<◌, length};
+// Serving a request on a table that is sound, with room for an error reply at least. That it is sound stands in each contract and in no type: a type would have to
+// keep it at each write inside a call, and a contract speaks of the table before and behind the call anyway.
+ghost use Rattle.std.specs.Prelude.{◌≡◌, List, true, ℕ, ◌+◌, ◌≤◌, ◌<◌, length};
 ghost use Rattle.std.proofs.Math.Option.{some};
 ghost use Rattle.wire.specs.Codec.{Valid};
 ghost use Rattle.wire.specs.Write.{written};
+ghost use Rattle.field.specs.Refusal.{number_of};
 ghost use Rattle.message.specs.Sent.{as_sent};
 ghost use Rattle.message.specs.Request.{request, request_of, request_in};
 ghost use Rattle.map.specs.Step as map;
@@ -15,91 +17,69 @@ ghost use Rattle.service.specs.Serve as stream;
 ghost use Rattle.service.specs.Stream.{Becomes, Serves};
 ghost use Rattle.service.specs.Many.{at};
 ghost use Rattle.plan.specs.Plan.{as_change, Holds, HoldsAt, held_at, held_version};
-ghost use Rattle.server.specs.CallDone.{as_context, Admissible, as_verdict, done_of, Says, Sends};
-ghost use Rattle.server.specs.Act.{is_plain, value_shown, version_shown, sent_to, less, replaced, Storable, after, Planned, Agreed, Given, Arrives, Replies, Performs, PerformsWithin};
+ghost use Rattle.server.specs.CallDone.{as_context, as_verdict, done_of, Says, Sends};
+ghost use Rattle.server.specs.Act.{is_plain, value_shown, version_shown, sent_to, less, replaced, Storable, after, Planned, Agreed, Arrives, Replies, Performs, PerformsWithin};
 
 use crate::{Answer, Context, Verdict, bulk};
-use field::{EntryVersion, Second};
-use message::{Asked, Form, Head, Operation, ReplyHead, Request, Sent};
-use plan::{Change, Held, Judged};
-use request_reader::RequestRead;
-use table::{Found, Table};
+use field::{EntryVersion, Refusal, Second};
+use message::{Asked, Form, Head, Operation, ReplyHead, Request};
+use plan::{Change, Held};
+use table::Table;
 
 // Nothing sent.
-pub(crate) fn unsent(taken: usize, v: Verdict) -> Answer
-    ensures { Says taken 0 (as_verdict v) result }
+pub(crate) fn unsent(taken: usize, verdict: Verdict) -> Answer
+    ensures { Says taken 0 (as_verdict verdict) result }
 {
     Answer {
-        taken: taken,
+        taken,
         size: 0,
-        verdict: v,
+        verdict,
     }
 }
 
 // The answer with a reply that was written.
-fn ended(w: Sent, taken: usize, v: Verdict) -> Answer
-    ensures { (n : ℕ) → as_sent w ≡ written n → Says taken n (as_verdict v) result }
+fn ended(w: Result<usize, Refusal>, taken: usize, verdict: Verdict) -> Answer
+    ensures { (n : ℕ) → as_sent w ≡ written n → Says taken n (as_verdict verdict) result }
 {
-    let size = match w {
-        Sent::Written(n) => n,
-        Sent::Refused(_) => 0,
-    };
     Answer {
-        taken: taken,
-        size: size,
-        verdict: v,
+        taken,
+        size: w.unwrap_or(0),
+        verdict,
     }
 }
 
 // The error reply of a refusal.
-pub(crate) fn refuse(out: &mut [u8], id: u64, k: u8, taken: usize) -> Answer
+// Its number is 11 at the most: `try_from` would have an answer that cannot be.
+pub(crate) fn refuse(out: &mut [u8], id: u64, refusal: Refusal, taken: usize) -> Answer
     requires room_in_bounds { stream.room ≤ length out.old }
     requires id_bound { id < 0x8000_0000_0000_0000 }
-    requires le_k { 1 ≤ k }
-    requires k_bound { k ≤ 11 }
-    ensures { Sends (stream.error_pieces k id) taken (stream.refused k) out.old out.new result }
+    requires refusal_bound { number_of refusal ≤ 11 }
+    ensures { Sends (stream.error_pieces (number_of refusal) id) taken (stream.refused (number_of refusal)) out.old out.new result }
 {
-    let w = reply_writer::write_error(out, id, k);
-    ended(w, taken, Verdict::Refused(k))
+    let w = reply_writer::write_error(out, id, u16::from(refusal) as u8);
+    ended(w, taken, Verdict::Refused(refusal))
 }
 
 // The row whose value a reply of the form shows; where it shows none, a row that no table holds.
-fn shown_row(f: Form, held: Held) -> usize
+// What is held, and what is planned, is said of the table as it is, here and below: a type that said it would borrow the table, which then changes.
+#[tactic(auto, using(crate::proofs::SendLaws::row_shown, crate::proofs::SendLaws::past_shown))]
+fn shown_row(f: Form, held: Option<Held>) -> usize
     ensures { (t k : List ℕ) → Sound t → Holds t k held → (entry_at t result).value ≡ value_shown f (held_at t k) }
 {
-    let Held::Row(i, _) = held else {
-        return Table::KEYS;
-    };
-    match f {
-        Form::Nothing => Table::KEYS,
-        Form::Value(lim) => { if lim == 0 { Table::KEYS } else { i } }
-        Form::Versioned => i,
-        Form::Text => Table::KEYS,
-        Form::Statistics => Table::KEYS,
-        Form::Listed(_) => Table::KEYS,
+    match (f, held) {
+        (Form::Value(1..) | Form::Versioned, Some(held)) => held.row,
+        _ => Table::KEYS,
     }
 }
 
 // The version that a reply of the form shows, or 0.
-fn shown_version(f: Form, held: Held) -> EntryVersion
+#[tactic(auto, using(crate::proofs::SendLaws::held_shown))]
+fn shown_version(f: Form, held: Option<Held>) -> EntryVersion
     ensures { (t k : List ℕ) → Holds t k held → result.0 ≡ version_shown f (held_at t k) }
 {
-    let Held::Row(_, v) = held else {
-        return EntryVersion(0);
-    };
-    match f {
-        Form::Versioned => v,
+    match (f, held) {
+        (Form::Versioned, Some(held)) => held.version,
         _ => EntryVersion(0),
-    }
-}
-
-// Is an entry held?
-fn is_held(held: Held) -> bool
-    ensures { result ≡ not (map.is_none (held_version held)) }
-{
-    match held {
-        Held::Row(_, _) => true,
-        Held::Absent => false,
     }
 }
 
@@ -107,45 +87,54 @@ fn is_held(held: Held) -> bool
 fn asked_by(h: Head) -> Asked
     ensures { (name key value : List ℕ) → result ≡ asked_by (request_of h name key value) }
 {
-    let op = h.op;
     Asked {
         version: h.version,
-        op: message::code(op),
+        op: u8::from(h.op),
         flag: h.flags % 2 == 1,
     }
 }
 
 // Writes the reply of a status, with what it shows of the entry held. Replies to stats, bulkGet and bulkGetKeys show something else.
-fn write_held(out: &mut [u8], t: &[u8], h: Head, status: u8, held: Held) -> Sent
+// The status is its number in the reply table, here and below, as `plan` gives it.
+fn write_held(
+    out: &mut [u8],
+    t: &[u8],
+    h: Head,
+    status: u8,
+    held: Option<Held>,
+) -> Result<usize, Refusal>
     ensures { (c : map.Context) (name key value : List ℕ) → is_plain h.op ≡ true → Planned t.now (request_of h name key value) held status → (as_sent result, out.new) ≡ sent_to c (request_of h name key value) (state_of t.now) out.old }
 {
-    let op = h.op;
-    let asked = asked_by(h);
-    let flag = asked.flag;
-    let awaited = message::code(op) + 1;
+    let flag = asked_by(h).flag;
+    let op = u8::from(h.op) + 1;
     let old = rules::with_old(h.version, flag);
-    let sent = rules::reply_status(old, op, is_held(held), status);
-    let f = rules::form_of(flag, rules::body_at(old, op, awaited, sent));
-    let a = ReplyHead {
+    let status = rules::reply_status(old, h.op, held.is_some(), status);
+    let form = rules::form_of(flag, rules::body_at(old, h.op, op, status));
+    let head = ReplyHead {
         id: h.id,
-        op: awaited,
-        status: sent,
-        entry: shown_version(f, held),
+        op,
+        status,
+        entry: shown_version(form, held),
     };
-    let value = table::value_at(t, shown_row(f, held));
-    reply_writer::write_formed(out, a, f, value, b"")
+    let value = table::value_at(t, shown_row(form, held));
+    reply_writer::write_formed(out, head, form, value, b"")
 }
 
 // Writes the reply of a status: the statistics at the second, the entries listed, or what it shows of the entry held.
-fn write(out: &mut [u8], t: &[u8], h: Head, status: u8, held: Held, context: Context) -> Sent
-    requires { Admissible context }
+// Each arm, here and in `change`, has a contract of its own.
+fn write(
+    out: &mut [u8],
+    t: &[u8],
+    h: Head,
+    status: u8,
+    held: Option<Held>,
+    context: Context,
+) -> Result<usize, Refusal>
     ensures { (name key value : List ℕ) → stream.room_of h.op ≤ length out.old → Planned t.now (request_of h name key value) held status → (as_sent result, out.new) ≡ sent_to (as_context context) (request_of h name key value) (state_of t.now) out.old }
 {
-    let op = h.op;
-    match op {
+    match h.op {
         Operation::Stats => {
-            let second = context.second;
-            let x = table::statistics(t, second);
+            let x = table::statistics(t, context.second);
             reply_writer::write_statistics(out, asked_by(h), h.id, x)
         }
         Operation::BulkGet => bulk::write_bulk(out, t, asked_by(h), h.id, h.bulk),
@@ -160,12 +149,11 @@ fn respond(
     t: &[u8],
     h: Head,
     status: u8,
-    held: Held,
+    held: Option<Held>,
     context: Context,
     taken: usize,
 ) -> Answer
-    requires op_in_bounds { stream.room_of h.op ≤ length out.old }
-    requires admissible { Admissible context }
+    requires room_in_bounds { stream.room_of h.op ≤ length out.old }
     ensures { (name key value : List ℕ) → Planned t.now (request_of h name key value) held status → Replies t.now (request_of h name key value) (as_context context) taken out.old out.new result }
 {
     let w = write(out, t, h, status, held, context);
@@ -174,40 +162,26 @@ fn respond(
 
 // Notes a call in the table: what has expired at the present second goes, the call is counted, by its operation and by what is held of what stands, and
 // its second is the first one where none was served before.
-fn note_call(t: &mut [u8], h: Head, held: Held, context: Context)
-    requires { Admissible context }
+fn note_call(t: &mut [u8], h: Head, held: Option<Held>, context: Context)
     ensures { (name key value : List ℕ) → Sound t.old → HoldsAt (map.present (as_context context) (state_of t.old)) t.old key held → Becomes t.old (some (map.arrive (as_context context) (request_of h name key value) (state_of t.old))) t.new }
 {
-    let op = h.op;
-    let second = context.second;
-    let Held::Row(_, _) = held else {
-        table::arrive(t, op, true, second);
-        return;
-    };
-    table::arrive(t, op, false, second);
+    table::arrive(t, h.op, held.is_none(), context.second);
 }
 
 // Where the key is held once entries have gone: at another place, of the same version.
-fn moved(t: &[u8], key: &[u8], held: Held) -> Held
+fn moved(t: &[u8], key: &[u8], held: Option<Held>) -> Option<Held>
     ensures { held_version held ≡ map.version_of (held_at t.now key.now) → Holds t.now key.now result }
 {
-    let f = table::find(t, key);
-    let Found::At(i) = f else {
-        return Held::Absent;
-    };
-    let Held::Row(_, version) = held else {
-        return Held::Absent;
-    };
-    Held::Row(i, version)
+    let row = table::find(t, key)?;
+    let version = held?.version;
+    Some(Held { row, version })
 }
 
 // What a call that is not refused does before its step. It answers where the key is held then: as before where no entry can have expired.
-fn arrive(t: &mut [u8], h: Head, key: &[u8], held: Held, context: Context) -> Held
-    requires { Admissible context }
+fn arrive(t: &mut [u8], h: Head, key: &[u8], held: Option<Held>, context: Context) -> Option<Held>
     ensures { (name k value : List ℕ) → key.now ≡ k → Sound t.old → HoldsAt (map.present (as_context context) (state_of t.old)) t.old k held → Arrives t.old (request_of h name k value) (as_context context) t.new result }
 {
-    let second = context.second;
-    let due = table::is_due(t, table::present(t, second));
+    let due = table::is_due(t, table::present(t, context.second));
     note_call(t, h, held, context);
     if due {
         return moved(t, key, held);
@@ -216,19 +190,20 @@ fn arrive(t: &mut [u8], h: Head, key: &[u8], held: Held, context: Context) -> He
 }
 
 // The table without the row held.
-fn drop_row(t: &mut [u8], held: Held)
+#[tactic(auto, using(crate::proofs::StepLaws::row_dropped, crate::proofs::StepLaws::none_dropped))]
+fn drop_row(t: &mut [u8], held: Option<Held>)
     ensures { (k : List ℕ) → Sound t.old → Holds t.old k held → table.Changed t.old t.new (less k (state_of t.old)) }
 {
-    let Held::Row(i, _) = held else {
-        return;
-    };
-    table::remove(t, i);
+    if let Some(held) = held {
+        table::remove(t, held.row);
+    }
 }
 
 // The longest lifespan that is counted from the present second, in seconds.
 const THIRTY_DAYS: u64 = 2_592_000;
 
 // The deadline of what a request writes: none where it has no lifespan, the present second plus a lifespan of at most 30 days, and a longer one as it is.
+#[tactic(auto, unfolding(map::specs::Deadline::deadline))]
 fn deadline(h: Head, present: Second) -> Second
     requires { present.0 + h.lifespan < 0x2_0000_0000 }
     ensures { (name key value : List ℕ) → result.0 ≡ expiry.deadline present.0 (request_of h name key value) }
@@ -246,19 +221,19 @@ fn deadline(h: Head, present: Second) -> Second
 }
 
 // Sets the value and the deadline under a key, with the next version: of the row held, or of a row that is added.
-fn store(t: &mut [u8], held: Held, key: &[u8], value: &[u8], deadline: Second)
+#[tactic(auto, using(crate::proofs::StepLaws::row_stored, crate::proofs::StepLaws::none_stored))]
+fn store(t: &mut [u8], held: Option<Held>, key: &[u8], value: &[u8], deadline: Second)
     requires { Storable t.old key.now value.now held }
     ensures { table.Changed t.old t.new (replaced key.now value.now deadline.0 (state_of t.old)) }
 {
-    let Held::Row(i, _) = held else {
-        table::add(t, key, value, deadline);
-        return;
+    match held {
+        Some(held) => table::renew(t, held.row, value, deadline),
+        None => table::add(t, key, value, deadline),
     };
-    table::renew(t, i, value, deadline);
 }
 
 // Makes the change that is planned. The present second is the latest one, since the call is noted.
-fn change(input: &[u8], r: Request, t: &mut [u8], c: Change, held: Held)
+fn change(input: &[u8], r: Request, t: &mut [u8], c: Change, held: Option<Held>)
     requires { Agreed t.old (request_in input.now r) held (as_change c) }
     ensures { table.Changed t.old t.new (after (request_in input.now r) (state_of t.old) (as_change c)) }
 {
@@ -285,41 +260,35 @@ pub(crate) fn perform(
     context: Context,
     out: &mut [u8],
 ) -> Answer
-    requires given { Given t.old out.old (stream.room_of r.head.op) context }
+    requires sound { Sound t.old }
+    requires room_in_bounds { stream.room_of r.head.op ≤ length out.old }
     requires valid { Valid request (request_in input.now r) }
     ensures { Performs t.old (request_in input.now r) (as_context context) n out.old (done_of result out.new t.new) }
 {
     let h = r.head;
     if r.name_in(input).len() != 0 {
-        return refuse(out, h.id, 9, n);
+        return refuse(out, h.id, Refusal::Cache, n);
     }
     let key = r.key_in(input);
-    let second = context.second;
-    let present = table::present(t, second);
+    let present = table::present(t, context.second);
     let held = plan::held_in(t, key, present);
-    let op = h.op;
-    let asked = h.entry;
-    let p = plan::plan_of(op, asked, held);
-    let c = p.change;
-    let j = plan::refusal_of(t, c, held, present);
-    match j {
-        Judged::Refused(k) => refuse(out, h.id, k, n),
-        Judged::Free => {
-            let found = arrive(t, h, key, held, context);
-            let a = respond(out, t, h, p.status, found, context, n);
-            change(input, r, t, c, found);
-            a
-        }
+    let p = plan::plan_of(h.op, h.entry, held);
+    if let Err(refusal) = plan::refusal_of(t, p.change, held, present) {
+        return refuse(out, h.id, refusal, n);
     }
+    let held = arrive(t, h, key, held, context);
+    let a = respond(out, t, h, p.status, held, context, n);
+    change(input, r, t, p.change, held);
+    a
 }
 
 // The reply room that an operation asks for.
+#[tactic(auto, unfolding(service::specs::Serve::room_of))]
 fn room_of(op: Operation) -> usize
     ensures { result ≡ stream.room_of op }
 {
     match op {
-        Operation::BulkGet => Answer::BULK_ROOM,
-        Operation::BulkGetKeys => Answer::BULK_ROOM,
+        Operation::BulkGet | Operation::BulkGetKeys => Answer::BULK_ROOM,
         _ => Answer::ROOM,
     }
 }
@@ -333,14 +302,13 @@ fn perform_within(
     context: Context,
     out: &mut [u8],
 ) -> Answer
-    requires given { Given t.old out.old stream.room context }
+    requires sound { Sound t.old }
+    requires room_in_bounds { stream.room ≤ length out.old }
     requires valid { Valid request (request_in input.now r) }
     ensures { PerformsWithin t.old (request_in input.now r) (as_context context) n out.old (done_of result out.new t.new) }
 {
-    let h = r.head;
-    let op = h.op;
-    if out.len() < room_of(op) {
-        return unsent(n, Verdict::Refused(12));
+    if out.len() < room_of(r.head.op) {
+        return unsent(n, Verdict::Refused(Refusal::Room));
     }
     perform(input, r, n, t, context, out)
 }
@@ -349,13 +317,11 @@ fn perform_within(
 pub(crate) fn serve_sound(input: &[u8], t: &mut [u8], context: Context, out: &mut [u8]) -> Answer
     requires sound { Sound t.old }
     requires room_in_bounds { stream.room ≤ length out.old }
-    requires admissible { Admissible context }
     ensures { Serves input.now t.old (at (as_context context) out.old) (done_of result out.new t.new) }
 {
-    let q = request_reader::read_request(input);
-    match q {
-        RequestRead::Whole(r, n) => perform_within(input, r, n, t, context, out),
-        RequestRead::More => unsent(0, Verdict::More),
-        RequestRead::Refused(k) => refuse(out, request_reader::read_id(input), k, 0),
+    match request_reader::read_request(input) {
+        Ok(Some((r, n))) => perform_within(input, r, n, t, context, out),
+        Ok(None) => unsent(0, Verdict::More),
+        Err(refusal) => refuse(out, request_reader::read_id(input), refusal, 0),
     }
 }

@@ -2,6 +2,7 @@
 // The server: one call, a stream of calls, and the lines of a file.
 mod act;
 mod bulk;
+mod context;
 mod lines;
 mod many;
 
@@ -14,32 +15,30 @@ ghost use Rattle.server.specs.CallDone.{as_verdict, done_of, total_of, Ready, Ca
 ghost use Rattle.server.specs.Lines.{ServesLines};
 ghost use Rattle.server.specs.Gives.{Begun, ServesMany};
 
-use field::Second;
-
-// What a call is given beside its request.
-#[derive(Clone, Copy)]
-struct Context {
-    second: Second,
-}
+use context::Context;
+use field::{Refusal, Second};
 
 // How a call ended, or a stream: full is a stream that needs an emptied reply buffer.
+// The four ends are those of the service, each with a number of its own for C callers: no `Option` or `Result` has as many.
 #[derive(Clone, Copy)]
 pub enum Verdict {
     Served,
     More,
-    Refused(u8),
+    Refused(Refusal),
     Full,
 }
 
-// How a call or a stream ended, as a number: 256 for served, 0 for more needed, the refusal, or 257 for full.
-pub fn verdict_code(v: Verdict) -> u64
-    ensures { result ≡ verdict_code (as_verdict v) }
-{
-    match v {
-        Verdict::Served => 256,
-        Verdict::More => 0,
-        Verdict::Refused(k) => k as u64,
-        Verdict::Full => 257,
+// The same as a number: 256 for served, 0 for more needed, the refusal's, or 257 for full.
+impl From<Verdict> for u64 {
+    ghost from_gives = { λ v n. n ≡ verdict_code (as_verdict v) };
+
+    fn from(verdict: Verdict) -> u64 {
+        match verdict {
+            Verdict::Served => 256,
+            Verdict::More => 0,
+            Verdict::Refused(refusal) => u16::from(refusal) as u64,
+            Verdict::Full => 257,
+        }
     }
 }
 
@@ -63,10 +62,10 @@ pub fn serve(input: &[u8], table: &mut [u8], second: u32, reply: &mut [u8]) -> A
     ensures { Serves input.now table.old (at (context_of second) reply.old) (done_of result reply.new table.new) }
 {
     if reply.len() < Answer::ROOM {
-        return act::unsent(0, Verdict::Refused(12));
+        return act::unsent(0, Verdict::Refused(Refusal::Room));
     }
     if !soundness::is_table(table) {
-        return act::unsent(0, Verdict::Refused(13));
+        return act::unsent(0, Verdict::Refused(Refusal::Table));
     }
     call_at(input, 0, table, second, reply, 0)
 }
@@ -84,10 +83,10 @@ fn all_calls(taken: usize, size: usize, calls: usize, verdict: Verdict) -> Strea
     ensures { result ≡ record { taken = taken; size = size; calls = calls; verdict = verdict } }
 {
     Streamed {
-        taken: taken,
-        size: size,
-        calls: calls,
-        verdict: verdict,
+        taken,
+        size,
+        calls,
+        verdict,
     }
 }
 
@@ -113,30 +112,15 @@ fn call_at(
     )
 }
 
-// Whether something is sent already.
-fn is_used(used: bool, size: usize) -> bool
-    ensures { result ≡ (used || ltb 0 size) }
-{
-    if used {
-        return true;
-    }
-    0 < size
-}
-
 // Whether a call that ended so is refused because what is sent already has left too little room.
-fn waits(v: Verdict, used: bool) -> bool
-    ensures { result ≡ (is_short (as_verdict v) && used) }
+fn waits(v: Verdict, used: bool, size: usize) -> bool
+    ensures { result ≡ (is_short (as_verdict v) && (used || ltb 0 size)) }
 {
-    if !used {
-        return false;
-    }
-    match v {
-        Verdict::Refused(k) => k == 12,
-        _ => false,
-    }
+    matches!(v, Verdict::Refused(Refusal::Room)) && (used || 0 < size)
 }
 
 // Calls one after the other on a table that is sound. used: something is sent already, so that a call that lacks room waits.
+// What a call takes and sends says where the next one begins, and whether there is one: no range has its steps.
 fn stream_sound(
     input: &[u8],
     table: &mut [u8],
@@ -147,21 +131,19 @@ fn stream_sound(
     requires { Begun used table.old reply.old }
     ensures { Streams (context_of second) used input.now table.old reply.old (total_of result reply.new table.new) }
 {
-    let mut taken: usize = 0;
-    let mut size: usize = 0;
-    let mut calls: usize = 0;
+    let mut taken = 0;
+    let mut size = 0;
+    let mut calls = 0;
     while Answer::ROOM <= reply.len() - size {
         let a = call_at(input, taken, table, second, reply, size);
-        let v = a.verdict;
-        let some = is_used(used, size);
-        if waits(v, some) {
-            return all_calls(taken, size, calls, Verdict::Full);
+        if waits(a.verdict, used, size) {
+            break;
         }
-        taken = taken + a.taken;
-        size = size + a.size;
-        calls = calls + 1;
+        taken += a.taken;
+        size += a.size;
+        calls += 1;
         if a.taken == 0 {
-            return all_calls(taken, size, calls, v);
+            return all_calls(taken, size, calls, a.verdict);
         }
     }
     all_calls(taken, size, calls, Verdict::Full)
@@ -173,24 +155,19 @@ pub fn serve_stream(input: &[u8], table: &mut [u8], second: u32, reply: &mut [u8
     ensures { Streams (context_of second) false input.now table.old reply.old (total_of result reply.new table.new) }
 {
     if reply.len() < Answer::ROOM {
-        return all_calls(0, 0, 1, Verdict::Refused(12));
+        return all_calls(0, 0, 1, Verdict::Refused(Refusal::Room));
     }
     if !soundness::is_table(table) {
-        return all_calls(0, 0, 1, Verdict::Refused(13));
+        return all_calls(0, 0, 1, Verdict::Refused(Refusal::Table));
     }
     stream_sound(input, table, second, reply, false)
 }
 
-// What serving several connections answers: the bytes sent to all of them, or the refusal for which nothing was done: 12, 13, or 258 where the ends are none.
-#[derive(Clone, Copy)]
-pub enum Shared {
-    Done(usize),
-    Refused(u16),
-}
-
 // Serves the streams of several connections, whose inputs stand end to end in `input`, each to one of the ends. Their replies stand end to end at the front
 // of `reply`. Three numbers are told of each: the bytes taken of its input, the bytes of its replies, and how its stream ended: 0 for more needed, the
-// refusal, or 257 where it waits for an emptied buffer.
+// refusal, or 257 where it waits for an emptied buffer. It answers the bytes sent to all of them, or the refusal for which nothing was done: a list for the answer
+// that is too short, ends that are none, too little room, or no table.
+// The ends and what is told are numbers in a row, here and in `many`, as the C function `fq_serve_many` is given them.
 pub fn serve_many(
     input: &[u8],
     ends: &[u64],
@@ -198,25 +175,26 @@ pub fn serve_many(
     second: u32,
     reply: &mut [u8],
     answer: &mut [u64],
-) -> Shared
+) -> Result<usize, Refusal>
     ensures { ServesMany (context_of second) input.now ends.now table.old reply.old answer.old result reply.new table.new answer.new }
 {
     if answer.len() / 3 < ends.len() {
-        return Shared::Refused(12);
+        return Err(Refusal::Room); // of the list
     }
     if !many::are_ends(ends, input.len()) {
-        return Shared::Refused(258);
+        return Err(Refusal::Ends);
     }
     if reply.len() < Answer::ROOM {
-        return Shared::Refused(12);
+        return Err(Refusal::Room); // of the buffer
     }
     if !soundness::is_table(table) {
-        return Shared::Refused(13);
+        return Err(Refusal::Table); // as at any call
     }
-    Shared::Done(many::serve_parts(input, ends, table, second, reply, answer))
+    Ok(many::serve_parts(input, ends, table, second, reply, answer))
 }
 
 // What serving the lines of a chunk of a file gives: the bytes taken, the bytes of the output, and whether the rest of a line is still to be passed over.
+// The flag is told to C callers beside the numbers, here and in `Turned`: both numbers hold with it and without it.
 #[derive(Clone, Copy)]
 pub struct Fed {
     pub taken: usize,
@@ -231,29 +209,22 @@ impl Fed {
     pub const LONGEST: usize = 1024;
 }
 
-// What serving the lines of a chunk of a file answers: what it gave, or the refusal for which nothing was done.
-#[derive(Clone, Copy)]
-pub enum Served {
-    Fed(Fed),
-    Refused(u8),
-}
-
 // Serves the lines of a chunk of a file, as long as there is room for a line. passing: the rest of the first line is passed over;
-// last: nothing comes behind the chunk.
+// last: nothing comes behind the chunk. Where it is refused, nothing is done.
 pub fn serve_lines(
     input: &[u8],
     table: &mut [u8],
     out: &mut [u8],
     passing: bool,
     last: bool,
-) -> Served
+) -> Result<Fed, Refusal>
     ensures { ServesLines last passing input.now table.old out.old result out.new table.new }
 {
     if out.len() < Fed::ROOM {
-        return Served::Refused(12);
+        return Err(Refusal::Room);
     }
     if !soundness::is_table(table) {
-        return Served::Refused(13);
+        return Err(Refusal::Table);
     }
-    Served::Fed(lines::feed(input, table, out, passing, last))
+    Ok(lines::feed(input, table, out, passing, last))
 }

@@ -1,5 +1,6 @@
 // Serving the lines of a file of requests on a table that is sound, with room for a line.
-ghost use Rattle.std.specs.Prelude.{◌≡◌, ◌+◌, ◌≤◌, ◌<◌, length};
+ghost use Rattle.std.specs.Prelude.{◌≡◌, Ok, ◌+◌, ◌≤◌, ◌<◌, length};
+ghost use Rattle.field.specs.Refusal.{number_of};
 ghost use Rattle.hexadecimal.specs.Hex.{line};
 ghost use Rattle.wire.specs.Codec.{Valid};
 ghost use Rattle.message.specs.Request.{request, request_in};
@@ -10,21 +11,12 @@ ghost use Rattle.service.specs.Serve.{error_pieces};
 ghost use Rattle.service.specs.Feed.{line_end, turn_of};
 ghost use Rattle.service.specs.Turns.{line_room};
 ghost use Rattle.table.specs.Memory.{state_of, Sound};
-ghost use Rattle.server.specs.CallDone.{as_context, Admissible};
+ghost use Rattle.server.specs.CallDone.{as_context};
 ghost use Rattle.server.specs.Lines.{asked, is_due, Formed, Puts, GivesReply, GivesFrame, GivesLine, Counts, TurnDone, TurnsDone};
 
-use crate::{Context, Fed, Served, act};
-use field::{Second, put};
-use hexadecimal::{Decoded, NumberRead};
+use crate::{Context, Fed, act};
+use field::{Refusal, Second, put};
 use message::Request;
-use request_reader::RequestRead;
-
-// What reading the form of a line finds: its second and so many bytes, or another form.
-#[derive(Clone, Copy)]
-enum LineRead {
-    Frame(Second, usize),
-    Bad,
-}
 
 // A turn: the bytes taken, the place behind its output, and whether the rest of the line is still to be passed over.
 #[derive(Clone, Copy)]
@@ -34,29 +26,18 @@ struct Turned {
     passing: bool,
 }
 
-// "eight lowercase digits (the second), one space, an even number of lowercase digits": the bytes of the latter go to the front of `frame`.
-fn read_form(line: &[u8], frame: &mut [u8]) -> LineRead
+// "eight lowercase digits (the second), one space, an even number of lowercase digits": the second, and how many bytes the latter are, which go to the front of
+// `frame`; or nothing, where a line has another form.
+fn read_form(line: &[u8], frame: &mut [u8]) -> Option<(Second, usize)>
     requires { 512 ≤ length frame.old }
     ensures { Formed line.now frame.new result }
 {
-    if Fed::LONGEST < line.len() {
-        return LineRead::Bad;
+    if Fed::LONGEST < line.len() || line.len() < 9 || line[8] != b' ' {
+        return None;
     }
-    if line.len() < 9 {
-        return LineRead::Bad;
-    }
-    if line[8] != 0x20 {
-        return LineRead::Bad;
-    }
-    let s = hexadecimal::number(&line[0..8]);
-    let NumberRead::Value(second) = s else {
-        return LineRead::Bad;
-    };
-    let d = hexadecimal::decode(&line[9..], frame);
-    let Decoded::Bytes(n) = d else {
-        return LineRead::Bad;
-    };
-    LineRead::Frame(Second(second as u64), n)
+    let second = hexadecimal::number(&line[..8])?;
+    let n = hexadecimal::decode(&line[9..], frame).ok()?;
+    Some((Second(second as u64), n))
 }
 
 // Text at a place, and the place behind it.
@@ -68,13 +49,12 @@ fn put_text(text: &[u8], out: &mut [u8], at: usize) -> usize
 }
 
 // The error reply of a refusal: it is written at its place, and becomes a line there.
-fn send_error(frame: &[u8], k: u8, out: &mut [u8], at: usize) -> usize
+fn send_error(frame: &[u8], refusal: Refusal, out: &mut [u8], at: usize) -> usize
     requires line_room_in_bounds { at + line_room ≤ length out.old }
-    requires le_k { 1 ≤ k }
-    requires k_bound { k ≤ 11 }
-    ensures { Puts (line (flat (error_pieces k (id_in frame.now)))) out.old out.new at result }
+    requires refusal_bound { number_of refusal ≤ 11 }
+    ensures { Puts (line (flat (error_pieces (number_of refusal) (id_in frame.now)))) out.old out.new at result }
 {
-    let a = act::refuse(&mut out[at..], request_reader::read_id(frame), k, 0);
+    let a = act::refuse(&mut out[at..], request_reader::read_id(frame), refusal, 0);
     hexadecimal::make_line(out, at, a.size)
 }
 
@@ -89,7 +69,6 @@ fn send_reply(
 ) -> usize
     requires sound { Sound t.old }
     requires line_room_in_bounds { at + line_room ≤ length out.old }
-    requires admissible { Admissible context }
     requires valid { Valid request (request_in frame.now r) }
     ensures { GivesReply (request_in frame.now r) (length frame.now) (step (asked (as_context context) frame.now).context (request_in frame.now r) (state_of t.old)) out.old out.new at result t.old t.new }
 {
@@ -98,38 +77,36 @@ fn send_reply(
 }
 
 // The bytes of a line: a whole request with nothing behind it is served.
+// What is refused 14 or 15 has its line here and in `line_sound`, as bytes of lent room: these are the numbers of no `Refusal`.
 fn serve_frame(frame: &[u8], t: &mut [u8], context: Context, out: &mut [u8], at: usize) -> usize
     requires sound { Sound t.old }
     requires line_room_in_bounds { at + line_room ≤ length out.old }
-    requires admissible { Admissible context }
     ensures { GivesFrame (asked (as_context context) frame.now) out.old out.new at result t.old t.new }
 {
-    let q = request_reader::read_request(frame);
-    match q {
-        RequestRead::Whole(r, n) => {
+    // The length is tested inside the arm: behind a guard the other arms know too little of the answer for the proof.
+    match request_reader::read_request(frame) {
+        Ok(Some((r, n))) => {
             if n != frame.len() {
                 return put_text(b"refused 15\n", out, at);
             }
             send_reply(frame, r, t, context, out, at)
         }
-        RequestRead::More => put_text(b"refused 15\n", out, at),
-        RequestRead::Refused(k) => send_error(frame, k, out, at),
+        Ok(None) => put_text(b"refused 15\n", out, at),
+        Err(refusal) => send_error(frame, refusal, out, at),
     }
 }
 
 // A line, without its line end.
+// The room is of a fixed size, since nothing is allocated.
 pub(crate) fn line_sound(line: &[u8], t: &mut [u8], out: &mut [u8], at: usize) -> usize
     requires sound { Sound t.old }
     requires line_room_in_bounds { at + line_room ≤ length out.old }
     ensures { GivesLine line.now out.old out.new at result t.old t.new }
 {
     let mut frame = [0; 512];
-    let f = read_form(line, &mut frame);
-    match f {
-        LineRead::Frame(second, n) => {
-            serve_frame(&frame[..n], t, Context { second: second }, out, at)
-        }
-        LineRead::Bad => put_text(b"refused 14\n", out, at),
+    match read_form(line, &mut frame) {
+        Some((second, n)) => serve_frame(&frame[..n], t, Context { second }, out, at),
+        None => put_text(b"refused 14\n", out, at),
     }
 }
 
@@ -145,9 +122,9 @@ fn counts(taken: usize, size: usize, passing: bool) -> Turned
     ensures { Counts taken size passing result }
 {
     Turned {
-        taken: taken,
-        size: size,
-        passing: passing,
+        taken,
+        size,
+        passing,
     }
 }
 
@@ -155,19 +132,11 @@ fn counts(taken: usize, size: usize, passing: bool) -> Turned
 fn is_due(end: usize, len: usize, last: bool) -> bool
     ensures { result ≡ is_due end len last }
 {
-    if end < len {
-        return true;
-    }
-    if Fed::LONGEST < len {
-        return true;
-    }
-    if last {
-        return 0 < len;
-    }
-    false
+    end < len || Fed::LONGEST < len || last && 0 < len
 }
 
 // One turn on what is left of a chunk.
+// `passing` is a condition of the definition `turn_of`.
 fn turn(s: &[u8], t: &mut [u8], out: &mut [u8], at: usize, passing: bool, last: bool) -> Turned
     requires sound { Sound t.old }
     requires line_room_in_bounds { at + line_room ≤ length out.old }
@@ -191,30 +160,25 @@ fn turn(s: &[u8], t: &mut [u8], out: &mut [u8], at: usize, passing: bool, last: 
 }
 
 // Turns one after the other, as long as there is room for a line.
-pub(crate) fn feed(input: &[u8], t: &mut [u8], out: &mut [u8], passing: bool, last: bool) -> Fed
+pub(crate) fn feed(input: &[u8], t: &mut [u8], out: &mut [u8], mut passing: bool, last: bool) -> Fed
     requires sound { Sound t.old }
     requires line_room_in_bounds { line_room ≤ length out.old }
-    ensures { TurnsDone last passing input.now t.old out.old (Served.Fed result) out.new t.new }
+    ensures { TurnsDone last passing input.now t.old out.old (Ok result) out.new t.new }
 {
     let mut taken = 0;
     let mut size = 0;
-    let mut pass = passing;
     while Fed::ROOM <= out.len() - size {
-        let r = turn(&input[taken..], t, out, size, pass, last);
+        let r = turn(&input[taken..], t, out, size, passing, last);
         if r.taken == 0 {
-            return Fed {
-                taken: taken,
-                size: size,
-                passing: pass,
-            };
+            break;
         }
         taken += r.taken;
         size = r.size;
-        pass = r.passing;
+        passing = r.passing;
     }
     Fed {
-        taken: taken,
-        size: size,
-        passing: pass,
+        taken,
+        size,
+        passing,
     }
 }

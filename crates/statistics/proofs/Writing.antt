@@ -2,14 +2,16 @@
 use mathlib.Core.Path.{◌≡◌, refl, sym, ap, ◌∙◌}
 use mathlib.Core.List.{List, [], ◌∷◌, ◌++◌}
 use mathlib.Core.Bool.{Bool, true, false, ◌&&◌}
-use Prim.Native.Nat.{ℕ, zero, suc, ◌+◌, ◌≤◌, ◌<◌}
+use Prim.Native.Nat.{ℕ, zero, suc, ◌+◌, ◌*◌, ◌≤◌, ◌<◌}
 use native.Mathlib.Omega.{arith}
+use native.Mathlib.Decide.{dec_lt}
+use Rattle.std.specs.List.{list_all}
 use native.Mathlib.Numerals.{add-one}
 use native.Mathlib.Nat.{add-zero}
 use lib.ListN.{length, get_or, drop, length-append, drop_of_length-le}
 use lib.Seq.{sets, drop-cons}
-use lib.Dec.{eqb, ltb}
-use borrow.Author.Tests.{eqb-true, lt-ltb}
+use lib.Dec.{eqb, ltb, leb}
+use borrow.Author.Tests.{eqb-true, lt-ltb, le-leb, lt-leb}
 use Rattle.wire.specs.Codec.{Valid, empty, raw, byte, guard, seq, as_type, all, is_bytes}
 use Rattle.wire.specs.Number.{v_int, number, number_enc}
 use Rattle.wire.specs.Same.{same_list}
@@ -19,19 +21,9 @@ use Rattle.wire.proofs.Laws.{never, both, and, seq-valid, guard-valid, type_vali
 use Rattle.wire.proofs.FieldLaws.{limited-valid}
 use Rattle.wire.proofs.WriteLaws.{sets_append, put-wrote, wrote-seq, wrote-guard, wrote_type}
 use Rattle.decimal.specs.Decimal.{decimal}
-use Rattle.decimal.proofs.DecimalLaws.{decimal-good}
+use Rattle.decimal.proofs.DecimalLaws.{decimal-good, decimal-bad}
 use Rattle.decimal.proofs.DecimalWrite.{decimal-most}
 use Rattle.statistics.specs.Statistics.{titles, title_limit, named, statistic, values, statistics}
-
--- none of the first eight is the ninth
-pub last : (i : ℕ) → i < 9 → (i ≡ 0 → ⊥) → (i ≡ 1 → ⊥) → (i ≡ 2 → ⊥) → (i ≡ 3 → ⊥) → (i ≡ 4 → ⊥) → (i ≡ 5 → ⊥) → (i ≡ 6 → ⊥) → (i ≡ 7 → ⊥) → i ≡ 8
-last i h a b c d = go (four a b c d)
-  where
-    four : (i ≡ 0 → ⊥) → (i ≡ 1 → ⊥) → (i ≡ 2 → ⊥) → (i ≡ 3 → ⊥) → 4 ≤ i
-    four a b c d = omega arith
-
-    go : 4 ≤ i → (i ≡ 4 → ⊥) → (i ≡ 5 → ⊥) → (i ≡ 6 → ⊥) → (i ≡ 7 → ⊥) → i ≡ 8
-    go l a b c d = omega arith
 
 -- the bytes of values, the first and the others
 values-enc : (n : List ℕ) (ns : List (List ℕ)) (v : ℕ) (vs : List ℕ) → (values (n ∷ ns)).enc (v ∷ vs) ≡ (statistic n).enc v ++ (values ns).enc vs
@@ -57,13 +49,13 @@ good-at [] i e h = absurd (omega arith)
 good-at (n ∷ ns) zero e h = (both ((named n).ok n) (good_names ns) e).0
 good-at (n ∷ ns) (suc i) e h = good-at ns i (both ((named n).ok n) (good_names ns) e).1 (omega arith)
 
-one-good : (n : List ℕ) (v : ℕ) → Valid (named n) n → v ≤ 0x7fff_ffff_ffff_ffff → Valid (statistic n) v
+one-ok : (n : List ℕ) (v : ℕ) → Valid (named n) n → (statistic n).ok v ≡ decimal.ok v
 unfolding statistic as_type seq
-one-good n v e h = and e (decimal-good v h)
+one-ok n v e = rw e
 
 statistic-ok : (i v : ℕ) → i < 9 → (statistic (get_or titles i [])).ok v ≡ decimal.ok v
-unfolding statistic as_type seq titles
-statistic-ok i v h = rw (good-at titles i names-good h)
+unfolding titles
+statistic-ok i v h = one-ok (get_or titles i []) v (good-at titles i names-good h)
 
 -- how many bytes values take
 abbrev size : List (List ℕ) → List ℕ → ℕ
@@ -103,19 +95,33 @@ pub statistics-ok : (vs : List ℕ) → statistics.ok vs ≡ (values titles).ok 
 unfolding statistics as_type seq guard v_int number
 statistics-ok vs = refl
 
--- nine vLongs have one
-values-good : (ns : List (List ℕ)) (vs : List ℕ) → good_names ns ≡ true → length vs ≡ length ns → ((i : ℕ) → get_or vs i 0 ≤ 0x7fff_ffff_ffff_ffff) → Valid (values ns) vs
+-- they have one where each is a vLong
+decimal-ok : (v : ℕ) → decimal.ok v ≡ leb v 0x7fff_ffff_ffff_ffff
+decimal-ok v = go (dec_lt 0x7fff_ffff_ffff_ffff v)
+  where
+    go : Dec (0x7fff_ffff_ffff_ffff < v) → decimal.ok v ≡ leb v 0x7fff_ffff_ffff_ffff
+    go (yes h) = rw (decimal-bad v h, lt-leb v 0x7fff_ffff_ffff_ffff h)
+    go (no h) = rw (decimal-good v (omega arith), le-leb v 0x7fff_ffff_ffff_ffff (omega arith))
+
+values-all : (ns : List (List ℕ)) (vs : List ℕ) → good_names ns ≡ true → length vs ≡ length ns → (values ns).ok vs ≡ list_all (λ v. leb v 0x7fff_ffff_ffff_ffff) vs
 unfolding good_names values as_type empty
-values-good [] [] e h g = refl
-values-good [] (v ∷ vs) e h g = absurd (omega arith)
-values-good (n ∷ ns) [] e h g = absurd (omega arith)
-values-good (n ∷ ns) (v ∷ vs) e h g =
+values-all [] [] e h = refl
+values-all [] (v ∷ vs) e h = absurd (omega arith)
+values-all (n ∷ ns) [] e h = absurd (omega arith)
+values-all (n ∷ ns) (v ∷ vs) e h =
     let w = both ((named n).ok n) (good_names ns) e in
-    values-ok n ns v vs ∙ and (one-good n v w.0 (g 0)) (values-good ns vs w.1 (omega arith) (λ i. g (suc i)))
+    values-ok n ns v vs ∙ rw (one-ok n v w.0, decimal-ok v, values-all ns vs w.1 (omega arith))
+
+pub statistics-all : (vs : List ℕ) → length vs ≡ 9 → statistics.ok vs ≡ list_all (λ v. leb v 0x7fff_ffff_ffff_ffff) vs
+unfolding titles
+statistics-all vs h = statistics-ok vs ∙ values-all titles vs names-good h
 
 pub statistics-good : (vs : List ℕ) → length vs ≡ 9 → ((i : ℕ) → get_or vs i 0 ≤ 0x7fff_ffff_ffff_ffff) → Valid statistics vs
-unfolding titles
-statistics-good vs h g = statistics-ok vs ∙ values-good titles vs names-good h g
+statistics-good vs h g = statistics-all vs h ∙ each vs g
+  where
+    each : (vs : List ℕ) → ((i : ℕ) → get_or vs i 0 ≤ 0x7fff_ffff_ffff_ffff) → list_all (λ v. leb v 0x7fff_ffff_ffff_ffff) vs ≡ true
+    each [] g = refl
+    each (v ∷ vs) g = and (le-leb v 0x7fff_ffff_ffff_ffff (g 0)) (each vs (λ i. g (suc i)))
 
 -- no value has no written form
 pub none-bad : statistics.ok [] ≡ false
@@ -123,11 +129,15 @@ unfolding statistics as_type seq guard v_int number values titles
 none-bad = refl
 
 -- a value for each name
-valid_length : (ns : List (List ℕ)) (vs : List ℕ) → Valid (values ns) vs → length vs ≡ length ns
+valid_length_of : (ns : List (List ℕ)) (vs : List ℕ) → Valid (values ns) vs → length vs ≡ length ns
 unfolding values
-valid_length [] vs v = eqb-true _ 0 (type_valid (λ vs. eqb (length vs) 0) (λ u. []) (λ vs. tt) empty vs v).0
-valid_length (n ∷ ns) [] v = never (cc (type_valid (λ vs. ltb 0 (length vs)) (λ p. p.0 ∷ p.1) (λ vs. (get_or vs 0 0, drop 1 vs)) (seq (statistic n) λ _. values ns) [] v).0)
-valid_length (n ∷ ns) (x ∷ vs) v = ap suc (valid_length ns vs (both ((statistic n).ok x) ((values ns).ok vs) (sym (values-ok n ns x vs) ∙ v)).1)
+valid_length_of [] vs v = eqb-true _ 0 (type_valid (λ vs. eqb (length vs) 0) (λ u. []) (λ vs. tt) empty vs v).0
+valid_length_of (n ∷ ns) [] v = never (cc (type_valid (λ vs. ltb 0 (length vs)) (λ p. p.0 ∷ p.1) (λ vs. (get_or vs 0 0, drop 1 vs)) (seq (statistic n) λ _. values ns) [] v).0)
+valid_length_of (n ∷ ns) (x ∷ vs) v = ap suc (valid_length_of ns vs (both ((statistic n).ok x) ((values ns).ok vs) (sym (values-ok n ns x vs) ∙ v)).1)
+
+pub valid_length : (vs : List ℕ) → Valid (values titles) vs → length vs ≡ 9
+unfolding titles
+valid_length vs v = valid_length_of titles vs v
 
 -- a value takes at most 20 bytes
 size_most : List (List ℕ) → ℕ
@@ -142,17 +152,44 @@ size-most (n ∷ ns) (v ∷ vs) = omega (arith, decimal-most v, size-most ns vs)
 
 pub statistics-most : (vs : List ℕ) → Valid statistics vs → length (statistics.enc vs) ≤ 294
 unfolding size_most titles
-statistics-most vs v = omega (arith, statistics_length vs (valid_length titles vs (sym (statistics-ok vs) ∙ v)), size-most titles vs)
+statistics-most vs v = omega (arith, statistics_length vs (valid_length vs (sym (statistics-ok vs) ∙ v)), size-most titles vs)
 
--- the names and their lengths take 113 bytes
-pub nine_length : (a b c d e f g h i : ℕ) → length (statistics.enc (a ∷ b ∷ c ∷ d ∷ e ∷ f ∷ g ∷ h ∷ i ∷ []))
-    ≡ 114 + length (decimal.enc a) + length (decimal.enc b) + length (decimal.enc c) + length (decimal.enc d) + length (decimal.enc e)
-    + length (decimal.enc f) + length (decimal.enc g) + length (decimal.enc h) + length (decimal.enc i)
-unfolding titles
-nine_length a b c d e f g h i = statistics_length (a ∷ b ∷ c ∷ d ∷ e ∷ f ∷ g ∷ h ∷ i ∷ []) refl ∙ omega arith
+-- the names with their lengths, and the values
+unfoldable names_size : List (List ℕ) → ℕ
+names_size [] = 0
+names_size (n ∷ ns) = suc (length n) + names_size ns
+
+unfoldable pub values_size : List ℕ → ℕ
+values_size [] = 0
+values_size (v ∷ vs) = length (decimal.enc v) + values_size vs
+
+size-split : (ns : List (List ℕ)) (vs : List ℕ) → length vs ≡ length ns → size ns vs ≡ names_size ns + values_size vs
+unfolding names_size values_size
+size-split [] [] h = refl
+size-split [] (v ∷ vs) h = absurd (omega arith)
+size-split (n ∷ ns) [] h = absurd (omega arith)
+size-split (n ∷ ns) (v ∷ vs) h = omega (arith, size-split ns vs (omega arith))
+
+-- the names, their lengths and the number of them take 114 bytes; of the values, the first i are counted
+pub record Summed (vs : List ℕ) (i n : ℕ) : Type 0 where
+  pub same : n + values_size (drop i vs) ≡ 114 + values_size vs
+  pub small : n ≤ 114 + 20 * i
+
+module _ (vs : List ℕ) where
+  pub summed-on : (i n m : ℕ) → Summed vs i n → i < length vs → m ≡ length (decimal.enc (get_or vs i 0)) → Summed vs (i + 1) (n + m)
+  unfolding values_size
+  summed-on i n m g l e =
+      let s = rw (drop-cons vs i 0 l, ← e) at g.same in
+      rw add-one (record { same = omega arith; small = omega (arith, g.small, decimal-most (get_or vs i 0)) })
+
+  pub summed-all : (i n : ℕ) → length vs ≡ 9 → 9 ≤ i → Summed vs i n → n ≡ length (statistics.enc vs)
+  unfolding names_size values_size titles
+  summed-all i n h l g =
+      let s = rw (drop_of_length-le vs {i = i} (omega arith)) at g.same in
+      omega (arith, statistics_length vs h, size-split titles vs h)
 
 module _ (vs : List ℕ) (h : length vs ≡ 9) (i : ℕ) (l : i < 9) where
-  pub ok-on : (values (drop i titles)).ok (drop i vs) ≡ (decimal.ok (get_or vs i 0) && (values (drop (suc i) titles)).ok (drop (suc i) vs))
+  ok-on : (values (drop i titles)).ok (drop i vs) ≡ (decimal.ok (get_or vs i 0) && (values (drop (suc i) titles)).ok (drop (suc i) vs))
   unfolding titles
   ok-on =
       rw (drop-cons titles i [] l, drop-cons vs i 0 (omega arith))
@@ -163,10 +200,6 @@ module _ (vs : List ℕ) (h : length vs ≡ 9) (i : ℕ) (l : i < 9) where
   enc-on =
       rw (drop-cons titles i [] l, drop-cons vs i 0 (omega arith))
       (values-enc (get_or titles i []) (drop (suc i) titles) (get_or vs i 0) (drop (suc i) vs))
-
-pub ok-none : (vs : List ℕ) → length vs ≡ 9 → Valid (values (drop 9 titles)) (drop 9 vs)
-unfolding titles values as_type empty
-ok-none vs h = rw (drop_of_length-le vs {i = 9} (omega arith))
 
 -- the values before the i-th are written, and those from it on are still to be, from `here` on
 pub record Begun (vs old : List ℕ) (at : ℕ) (new : List ℕ) (i here : ℕ) : Type 0 where
@@ -197,9 +230,11 @@ module _ (vs old : List ℕ) (at : ℕ) (h : length vs ≡ 9) where
           long = w.long ∙ g.long;
         })
 
-  pub written : (new : List ℕ) (here : ℕ) → Begun vs old at new 9 here → Wrote (values titles) vs old new at here
+  pub written : (new : List ℕ) (i here : ℕ) → i ≡ 9 → Begun vs old at new i here → Wrote (values titles) vs old new at here
   unfolding titles values as_type empty
-  written new here g = record { next = sym (g.end ∙ add-zero here); list = sym g.list; long = g.long }
+  written new i here e g =
+      let h = rw e at g in
+      record { next = sym (h.end ∙ add-zero here); list = sym h.list; long = h.long }
 
 -- a name and a value, one after the other
 pub wrote-named : (n : List ℕ) (v at : ℕ) (old : List ℕ) {o₁ o₂ : List ℕ} {r₁ r₂ : ℕ} → Valid (statistic n) v → Room (statistic n) v at old

@@ -1,14 +1,15 @@
 -- The statistics of a stats reply (document 02, C-11).
-use Rattle.std.specs.Prelude.{List, [], ◌∷◌, ℕ, length, get_or, drop, eqb, ltb}
-use Rattle.wire.specs.Codec.{Read, whole, more, refused, Codec, empty, guard, seq, as_type, all}
+use Rattle.std.specs.Prelude.{List, [], ◌∷◌, ℕ, length, get_or, drop, eqb, ltb, Option, Result}
+use Rattle.wire.specs.Codec.{Read, whole, after, Codec, empty, guard, seq, as_type, all}
 use Rattle.wire.specs.Number.{v_int}
 use Rattle.wire.specs.Field.{limited}
 use Rattle.wire.specs.Same.{same_list}
 use Rattle.text.specs.Ascii.{ascii}
 use Rattle.decimal.specs.Decimal.{decimal}
+use Rattle.field.specs.FieldRead.{as_read}
+use Rattle.field.specs.declared.Cursor.{Cursor}
+use Rattle.field.specs.declared.refusals.Refusal.{Refusal}
 use Rattle.statistics.specs.declared.Statistics.{Statistics}
-use Rattle.statistics.specs.declared.StatisticsRead.{StatisticsRead}
-use Rattle.statistics.specs.declared.StatisticsRead.TheVariants as r
 
 -- the names: "in the order of document 000's list, all nine"
 unfoldable pub titles : List (List ℕ)
@@ -50,7 +51,5 @@ abbrev pub list_of : Statistics → List ℕ
 list_of x =
     x.time ∷ x.current ∷ x.total ∷ x.stores ∷ x.retrievals ∷ x.hits ∷ x.misses ∷ x.removehits ∷ x.removemisses ∷ []
 
-abbrev pub as_statistics : StatisticsRead → Read (List ℕ)
-as_statistics (r.Whole x c) = whole (list_of x) c.at
-as_statistics r.More = more
-as_statistics (r.Refused k) = refused k
+abbrev pub as_statistics : Result (Option (Statistics × Cursor)) Refusal → Read (List ℕ)
+as_statistics r = after (as_read r) (λ x n. whole (list_of x) n)

@@ -10,9 +10,9 @@ use native.Mathlib.Numerals.{add-one}
 use lib.ListN.{length, get_or, take, drop, length-append, take-append-drop}
 use lib.Seq.{sets, sets-eq, length-sets, take-suc, take-length}
 use lib.Dec.{eqb}
-use borrow.Author.Tests.{eqb-true, eqb-false, le-leb, lt-leb, lt-ltb}
+use borrow.Author.Tests.{eqb-true, eqb-false, le-leb, lt-ltb}
 use Rattle.wire.specs.Codec.{byte, guard, seq, as_type}
-use Rattle.wire.specs.Write.{written, kept, laid}
+use Rattle.wire.specs.Write.{written, laid}
 use Rattle.wire.proofs.FieldLaws.{big_length}
 use Rattle.wire.proofs.WriteLaws.{laid_done, sets_append}
 use Rattle.map.specs.History.{no_history}
@@ -144,13 +144,6 @@ module _ (f : FileForm) (t : List ℕ) where
         list = ap (λ (q : ℕ × List ℕ). q.1) d ∙ rw (g.list, g.place) (sym (sets_append old 0 (front i) x)) ∙ ap (sets old 0) (sym (front-next i l));
         long = ap (λ (q : ℕ × List ℕ). length q.1) d ∙ length-sets o at x ∙ g.long;
       }
-
-  -- what `store` answers
-  pub storing-unsound : (old : List ℕ) → (Sound t → ⊥) → Storing f t old (kept 13) old
-  storing-unsound old n = record { sound = λ s. absurd (n s); unsound = λ _. refl }
-
-  pub storing-short : (old : List ℕ) → Sound t → length old < length (file f (state_of t)) → Storing f t old (kept 12) old
-  storing-short old s h = record { sound = λ _. rw (lt-leb _ (length old) h); unsound = λ n. absurd (n s) }
 
   pub storing-done : (old new : List ℕ) (r : ℕ) → Sound t → length (file f (state_of t)) ≤ length old → r ≡ length (file f (state_of t)) → new ≡ sets old 0 (file f (state_of t))
       → Storing f t old (written r) new

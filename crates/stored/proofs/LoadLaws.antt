@@ -1,40 +1,33 @@
 -- Reading a line: its fields one after another, and what the digits of a line say. Assumes nothing.
 use mathlib.Core.Path.{◌≡◌, refl, sym, ap, ◌∙◌}
-use mathlib.Core.List.{List, [], ◌∷◌}
+use mathlib.Core.List.{List}
 use mathlib.Core.Bool.{Bool, true, false, cond}
 use mathlib.Core.Option.{Option, none, some}
 use Prim.Native.Nat.{ℕ, ◌-◌, ◌≤◌, ◌<◌}
 use native.Mathlib.Omega.{arith}
-use types.Run.{OneOf}
-use denote.Enum.Declared.{tag_of}
 use lib.ListN.{length, take, drop}
 use lib.Dec.{eqb}
-use Rattle.wire.specs.Codec.{Read, whole, more, refused, after, Codec, Bytes, byte, read_at, exactly}
+use Rattle.wire.specs.Codec.{Read, whole, refused, after, mapped, Codec, Bytes, byte, read_at, exactly}
 use Rattle.wire.specs.Field.{big_endian, limited}
-use Rattle.wire.proofs.Laws.{Laws, after-after}
+use Rattle.wire.proofs.Laws.{Laws, after-after, after-only}
 use Rattle.wire.proofs.At.{at_front, at-seq, at_type, at-guard, at_cond}
 use Rattle.message.specs.Arguments.{key_limit, value_limit}
 use Rattle.message.proofs.Most.{Most}
-use Rattle.field.specs.FieldRead.{stopped}
-use Rattle.field.proofs.Parts.{not_whole}
+use Rattle.field.specs.declared.Span.{Span}
+use Rattle.field.specs.FieldRead.{part_of, span_to}
+use Rattle.decimal.proofs.DecimalRead.{part-by}
 use Rattle.hexadecimal.specs.Hex.{from_hex}
 use Rattle.hexadecimal.specs.Number.{from_bytes, from_digits}
 use Rattle.hexadecimal.specs.Coding.{decoded}
-use Rattle.hexadecimal.specs.declared.Decoded.{Decoded}
-use Rattle.hexadecimal.specs.declared.Decoded.TheVariants as d
-use Rattle.hexadecimal.specs.contracts.Decoded as decoded_type
+use Rattle.hexadecimal.specs.declared.DecodeError.{DecodeError}
+use Rattle.hexadecimal.specs.declared.DecodeError.TheVariants.{Digits as NoDigits, Room}
+use Rattle.std.specs.Prelude.{Ok, Err}
 use Rattle.hexadecimal.proofs.HexLaws.{to-from}
 use Rattle.hexadecimal.proofs.Decodes.{Decodes, decodes}
 use Rattle.hexadecimal.proofs.Values.{bytes_read}
 use Rattle.stored.specs.File.{form1, entry_line, head_line}
 use Rattle.stored.specs.StoreLoad.{head_loaded, line_loaded, loaded}
 use Rattle.stored.proofs.LineLaws.{entry_laws, entry-most, head_laws, head_most}
-
--- what stops a field stops the line
-pub stopped_none : {A B : Type 0} (n : ℕ) (r : Read A) → exactly {A = B} n (stopped r) ≡ none
-stopped_none n (whole a m) = refl
-stopped_none n more = refl
-stopped_none n (refused k) = refl
 
 pub head_at : (s : List ℕ) → (head_line form1).dec s
     ≡ after (read_at byte s 0) (λ b i. cond (eqb b 0x01) (after (read_at (big_endian 8) s i) (λ n k. whole n k)) (refused 17))
@@ -47,16 +40,21 @@ pub entry_at : (s : List ℕ) → (entry_line form1).dec s
 unfolding entry_line
 entry_at s = sym (at_front (entry_line form1) s) ∙ simp (at_type, at-seq, after-after)
 
+-- bytes with their length go by the part that their reader found
+pub limited-read : (s : List ℕ) (at lim : ℕ) {r : Read Span} → r ≡ mapped span_to (read_at (limited lim) s at)
+    → read_at (limited lim) s at ≡ after r (λ p n. whole (part_of s p) n)
+limited-read s at lim {r} e = sym (after-only (read_at (limited lim) s at)) ∙ part-by s at lim r (λ bs n. whole bs n) e
+
 -- the bytes that were decoded, as a part of the list
 pub record Digits {A : Type 0} (c : Codec A) (s new : List ℕ) (n : ℕ) : Type 0 where
   pub read : from_digits c s ≡ exactly (length (take (n - 0) (drop 0 new))) (c.dec (take (n - 0) (drop 0 new)))
   pub within : n ≤ length new
 
 module _ {A : Type 0} (c : Codec A) (s old new : List ℕ) where
-  pub digits_read : (n : ℕ) → (d.Bytes n, new) ≡ decoded s old → Digits c s new n
+  pub digits_read : (n : ℕ) → (Ok n, new) ≡ decoded s old → Digits c s new n
   unfolding from_digits
   digits_read n e =
-      let h = decodes s old (d.Bytes n) new e in
+      let h = decodes s old (Ok n) new e in
       let z : n - 0 ≡ n = omega arith in
       record { read = rw (h.0, z); within = h.1 }
 
@@ -69,18 +67,16 @@ module _ {A : Type 0} (c : Codec A) (s old new : List ℕ) where
         go none e = refl
         go (some a) e = let x = bytes_read c l bs a b e in absurd (omega (arith, ap length x.1, most.most a x.0))
 
-    digits_none : (r : Decoded) → OneOf (1 ∷ 2 ∷ []) (tag_of decoded_type.the_type r) → (r, new) ≡ decoded s old → from_digits c s ≡ none
+    digits_none : (d : DecodeError) → (Err d, new) ≡ decoded s old → from_digits c s ≡ none
     unfolding from_digits
-    digits_none r k e = go r k (decodes s old r new e)
+    digits_none d e = go d (decodes s old (Err d) new e)
       where
-        go : (r : Decoded) → OneOf (1 ∷ 2 ∷ []) (tag_of decoded_type.the_type r) → Decodes old r new (from_hex s) → from_bytes c (from_hex s) ≡ none
-        go (d.Bytes n) k h = not_whole k
-        go d.Bad k h = rw h
-        go d.Short k h = rw h.1.0 (too_long h.0 (to-from s h.0 h.1.0).1 h.1.1)
+        go : (d : DecodeError) → Decodes old (Err d) new (from_hex s) → from_bytes c (from_hex s) ≡ none
+        go NoDigits h = rw h
+        go Room h = rw h.1.0 (too_long h.0 (to-from s h.0 h.1.0).1 h.1.1)
 
 -- a line that is not of digits, or of too many, is not loaded
-pub loaded-none : (b : Bool) (s t old new : List ℕ) (r : Decoded) → 339 ≤ length old → OneOf (1 ∷ 2 ∷ []) (tag_of decoded_type.the_type r) → (r, new) ≡ decoded s old
-    → loaded form1 b s t ≡ none
+pub loaded-none : (b : Bool) (s t old new : List ℕ) (d : DecodeError) → 339 ≤ length old → (Err d, new) ≡ decoded s old → loaded form1 b s t ≡ none
 unfolding head_loaded line_loaded
-loaded-none false s t old new r h k e = rw (digits_none (head_line form1) s old new (head_laws form1) 9 (head_most form1) (omega arith) r k e)
-loaded-none true s t old new r h k e = rw (digits_none (entry_line form1) s old new (entry_laws form1) 339 (entry-most form1) h r k e)
+loaded-none false s t old new d h e = rw (digits_none (head_line form1) s old new (head_laws form1) 9 (head_most form1) (omega arith) d e)
+loaded-none true s t old new d h e = rw (digits_none (entry_line form1) s old new (entry_laws form1) 339 (entry-most form1) h d e)

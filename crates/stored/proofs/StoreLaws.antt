@@ -1,7 +1,7 @@
 -- Writing lines: each answer of the functions that write one, and that lines written one after another are the file. Assumes nothing.
-use mathlib.Core.Path.{◌≡◌, refl, ◌∙◌}
+use mathlib.Core.Path.{◌≡◌, refl, sym, ◌∙◌}
 use mathlib.Core.List.{List, []}
-use mathlib.Core.Bool.{Bool, true, false, cond}
+use mathlib.Core.Bool.{Bool, true, false, cond, not}
 use mathlib.Core.Logic.{⊎_elim}
 use Prim.Native.Nat.{ℕ, suc, ◌+◌, ◌-◌, ◌*◌, ◌≤◌, ◌<◌, ◌^◌, min}
 use native.Mathlib.Omega.{arith}
@@ -32,7 +32,7 @@ use Rattle.table.proofs.RowLaws.{entry-is}
 use Rattle.table.proofs.Answers.{held-row, no_row}
 use Rattle.stored.specs.File.{FileForm, form1, to_entry, from_entry, entry_line, head_line, line_of}
 use Rattle.stored.specs.StoreLoad.{line_at}
-use Rattle.stored.proofs.LineLaws.{fields, entry-good, entry-most}
+use Rattle.stored.proofs.LineLaws.{fields, entry-good, entry-most, head_most, head_good}
 
 -- a line written at its place: the bytes, and then their digits
 pub line-put : (s old : List ℕ) (at : ℕ) {mid new : List ℕ} {r₁ r : ℕ} → Bytes s → at + (2 * length s + 1) ≤ length old → (r₁, mid) ≡ put_at (raw (length s)) s at old
@@ -81,14 +81,14 @@ module _ (e : Entry) (v : Valid (entry_line form1) e) where
   unfolding entry_line as_type seq
   entry-size = simp (length-append, big_length) (omega arith)
 
-  pub entry_length : length (line ((entry_line form1).enc e))
+  entry_length : length (line ((entry_line form1).enc e))
       ≡ 2 * (16 + length (v_long.enc (length e.key)) + length e.key + length (v_long.enc (length e.value)) + length e.value) + 1
   entry_length =
       let k = (limited-valid key_limit e.key parts.1.1.0).0 in
       let w = (limited-valid value_limit e.value parts.1.1.1).0 in
       omega (arith, line_length ((entry_line form1).enc e), entry-size, limited_length key_limit e.key (omega arith), limited_length value_limit e.value (omega arith))
 
-  pub entry-short : length (line ((entry_line form1).enc e)) ≤ 679
+  entry-short : length (line ((entry_line form1).enc e)) ≤ 679
   entry-short = omega (arith, line_length ((entry_line form1).enc e), (entry-most form1).most e v)
 
   pub entry-wrote : {n d : ℕ} {k w o₁ o₂ o₃ o₄ o₅ : List ℕ} {r₁ r₂ r₃ r₄ : ℕ} → length o₁ ≡ 339
@@ -106,8 +106,17 @@ module _ (e : Entry) (v : Valid (entry_line form1) e) where
       let d = put-wrote (limited value_limit) e.value _ _ p.1.1.1 (omega (arith, a.long, b.long, c.long, c.next)) _ _ (rw q₄ at e₄) in
       wrote_type all to_entry from_entry fields {b = e} (wrote-seq (big_endian 8) _ a (wrote-seq (big_endian 8) _ b (wrote-seq (limited key_limit) _ c d)))
 
+-- how long the line of a row is, by its key and its value and the lengths of their numbers
+pub held-length : (t : List ℕ) (i : ℕ) → Bytes t → {k v : List ℕ} {a b : ℕ} → k ≡ (entry_at t i).key → v ≡ (entry_at t i).value
+    → a ≡ length (v_long.enc (length k)) → b ≡ length (v_long.enc (length v))
+    → (2 * (16 + a + length k + b + length v) + 1 ≡ length (line ((entry_line form1).enc (entry_at t i)))) × (2 * (16 + a + length k + b + length v) + 1 ≤ 679)
+held-length t i h p q x y =
+    let e = entry_at t i in
+    let g = held-good form1 t i h in
+    rw (x, y, p, q) (sym (entry_length e g), omega (arith, entry_length e g, entry-short e g))
+
 -- the bytes that were written to the front, as a part
-pub wrote-front : {A : Type 0} (c : Codec A) (m : ℕ) → Most c m → {a : A} {old new : List ℕ} {r : ℕ} → Valid c a → m ≤ length old → Wrote c a old new 0 r
+wrote-front : {A : Type 0} (c : Codec A) (m : ℕ) → Most c m → {a : A} {old new : List ℕ} {r : ℕ} → Valid c a → m ≤ length old → Wrote c a old new 0 r
     → (take (r - 0) (drop 0 new) ≡ c.enc a) × (r ≤ m)
 wrote-front c m k {a = a} {old = old} {new = new} {r = r} v h w =
     let l = k.most a v in
@@ -136,11 +145,30 @@ pub line-gone : (f : FileForm) (now : ℕ) (e : Entry) → expired now e ≡ tru
 unfolding line_of
 line-gone f now e h = rw h
 
+pub line-where : (f : FileForm) (t : List ℕ) (k : ℕ) {now : ℕ} {b : Bool} → k < length (state_of t).entries → now ≡ (state_of t).history.latest
+    → b ≡ not (expired now (entry_at t k)) → line_at f (state_of t) (suc k) ≡ cond b (line ((entry_line f).enc (entry_at t k))) []
+unfolding line_of
+line-where f t k l n h =
+    line-entry f t k l ∙ rw (h, n) (go (expired (state_of t).history.latest (entry_at t k)))
+  where
+    go : (x : Bool) → cond x [] (line ((entry_line f).enc (entry_at t k))) ≡ cond (not x) (line ((entry_line f).enc (entry_at t k))) []
+    go true = refl
+    go false = refl
+
 -- a row's last version fits its eight bytes
-pub last-small : (t : List ℕ) → Bytes t → (state_of t).last < 256 ^ 8
+last-small : (t : List ℕ) → Bytes t → (state_of t).last < 256 ^ 8
 unfolding state_of number_of
 last-small t b = go (eqb (length t) size) refl
   where
     go : (x : Bool) → eqb (length t) size ≡ x → (cond x (record { entries = entries_of t; last = number_of t last_index; history = history_of t }) fresh).last < 256 ^ 8
     go true e = big_small 8 t (number_at last_index) b
     go false e = omega arith
+
+-- the first bytes of the room, where a line's are written
+pub head-front : (t : List ℕ) {old new : List ℕ} {r : ℕ} → Bytes t → 339 ≤ length old → Wrote (head_line form1) (state_of t).last old new 0 r
+    → (take (r - 0) (drop 0 new) ≡ (head_line form1).enc (state_of t).last) × (r ≤ 9)
+head-front t b h w = wrote-front (head_line form1) 9 (head_most form1) (head_good form1 _ (last-small t b)) (omega arith) w
+
+pub entry-front : (t : List ℕ) (i : ℕ) {old new : List ℕ} {r : ℕ} → Bytes t → 339 ≤ length old → Wrote (entry_line form1) (entry_at t i) old new 0 r
+    → (take (r - 0) (drop 0 new) ≡ (entry_line form1).enc (entry_at t i)) × (r ≤ 339)
+entry-front t i b h w = wrote-front (entry_line form1) 339 (entry-most form1) (held-good form1 t i b) h w

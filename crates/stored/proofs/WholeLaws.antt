@@ -23,7 +23,8 @@ use Rattle.hexadecimal.specs.Number.{from_digits}
 use Rattle.hexadecimal.proofs.Values.{digits_read, digits_back}
 use Rattle.table.specs.Memory.{size, entry, state_of, Sound}
 use Rattle.table.specs.Change.{Left, is_some}
-use Rattle.table.specs.declared.Outcome.TheVariants.{Done, Refused}
+use Rattle.field.specs.declared.refusals.Refusal.TheVariants.{File}
+use Rattle.std.specs.Prelude.{Ok, Err}
 use Rattle.table.proofs.Restores.{started-is, started-says, started-long, restored-long, restored-sound, each-restored, each-mid}
 use Rattle.table.proofs.HasImage.{started-sound}
 use Rattle.stored.specs.File.{FileForm, form1, entry_line, head_line, entry_lines, lines_of, Stores}
@@ -88,7 +89,7 @@ loaded-long f true l t u e = go (from_digits (entry_line f) l) e
     go none q = never (cc)
     go (some x) q = restored-long x.key x.value x.version x.deadline t u q
 
-pub loads-long : {f : FileForm} {b c : Bool} {s t u : List ℕ} → Loads f b s t c u → length u ≡ length t
+loads-long : {f : FileForm} {b c : Bool} {s t u : List ℕ} → Loads f b s t c u → length u ≡ length t
 loads-long no_line = refl
 loads-long {f} {b} {t = t} (a-line {u = u} l o e r) = loads-long r ∙ loaded-long f b l t u e
 
@@ -262,8 +263,8 @@ whole-loaded {B = B} {p = p} st g s l =
 
 -- what `load` answers
 module _ {B new u : List ℕ} {p : Loading} (t : List ℕ) (g : LoadsLines form1 false B new p u) where
-  pub loaded_no : length new ≡ size → (p.good ≡ true → p.begun ≡ true → p.taken ≡ length B → ⊥) → Loaded form1 B t (Refused 17) t
+  pub loaded_no : length new ≡ size → (p.good ≡ true → p.begun ≡ true → p.taken ≡ length B → ⊥) → Loaded form1 B t (Err File) t
   loaded_no l n = (refl, refl, λ st s _. let a = whole-loaded st g s l in n a.1 a.0 a.2)
 
-  pub loaded_yes : (t' : List ℕ) → length t ≡ size → p.begun ≡ true → p.taken ≡ length B → t' ≡ u → Loaded form1 B t Done t'
+  pub loaded_yes : (t' : List ℕ) → length t ≡ size → p.begun ≡ true → p.taken ≡ length B → t' ≡ u → Loaded form1 B t (Ok tt) t'
   loaded_yes t' h b n e = let x = whole-stores g b n in rw e (h, x.0, x.1)

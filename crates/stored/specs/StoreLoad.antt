@@ -1,13 +1,13 @@
 -- Storing and loading a table: what the functions answer, and what they leave of the memory that they were lent.
-use Rattle.std.specs.Prelude.{◌≡◌, List, [], ◌∷◌, ◌++◌, Bool, true, false, cond, ℕ, zero, suc, ◌≤◌, length, take, drop, get_or, ltb}
+use Rattle.std.specs.Prelude.{◌≡◌, List, [], ◌∷◌, ◌++◌, Bool, true, false, cond, ℕ, zero, suc, ◌≤◌, length, take, drop, get_or, ltb, Result, Ok, Err}
 use Rattle.std.proofs.Math.Option.{Option, none, some}
 use Rattle.hexadecimal.specs.Scan.{index_of}
 use Rattle.wire.specs.Write.{Sent, kept, sent}
 use Rattle.map.specs.State.{Entry, State}
 use Rattle.table.specs.Memory.{size, entry, state_of, Sound}
 use Rattle.table.specs.Change.{started, restored}
-use Rattle.table.specs.declared.Outcome.{Outcome}
-use Rattle.table.specs.declared.Outcome.TheVariants.{Done, Refused}
+use Rattle.field.specs.declared.refusals.Refusal.{Refusal}
+use Rattle.field.specs.declared.refusals.Refusal.TheVariants as refusal
 use Rattle.hexadecimal.specs.Hex.{line}
 use Rattle.hexadecimal.specs.Number.{from_digits}
 use Rattle.stored.specs.File.{FileForm, entry_line, head_line, line_of, file, Stores}
@@ -67,6 +67,6 @@ pub record LoadsLines (f : FileForm) (begun : Bool) (chunk t : List ℕ) (r : Lo
 
 -- "loading only 17": done, the file stores the table that t holds then; refused, it stores none, or t has another length. "Else 17 and the old
 -- table stays."
-abbrev pub Loaded : FileForm → List ℕ → List ℕ → Outcome → List ℕ → Type 0
-Loaded f bytes t Done t' = (length t ≡ size) × Sound t' × Stores f bytes (state_of t')
-Loaded f bytes t (Refused k) t' = (k ≡ 17) × (t' ≡ t) × ((st : State) → Stores f bytes st → length t ≡ size → ⊥)
+abbrev pub Loaded : FileForm → List ℕ → List ℕ → Result (Unit {0}) Refusal → List ℕ → Type 0
+Loaded f bytes t (Ok u) t' = (length t ≡ size) × Sound t' × Stores f bytes (state_of t')
+Loaded f bytes t (Err k) t' = (k ≡ refusal.File) × (t' ≡ t) × ((st : State) → Stores f bytes st → length t ≡ size → ⊥)

@@ -10,19 +10,14 @@ ghost use Rattle.stored.specs.File.{form1, entry_line, head_line, line_of};
 ghost use Rattle.stored.specs.StoreLoad.{start_with, restore_to};
 
 use crate::Line;
-use field::{ByteRead, Cursor, Second, SecondRead, SpanRead, VersionRead, put};
+use field::{Cursor, Second, put};
 use message::Request;
 
 // Room for the bytes of a line.
-pub(crate) fn room() -> [u8; 339]
-    ensures { 339 ≡ length result }
-{
-    [0; 339]
-}
+pub(crate) type Room = [u8; Line::MOST];
 
 // Writes the bytes of the first line.
-pub(crate) fn write_head(t: &[u8], out: &mut [u8]) -> usize
-    requires { length out.old ≡ 339 }
+pub(crate) fn write_head(t: &[u8], out: &mut Room) -> usize
     ensures { Wrote (head_line form1) (state_of t.now).last out.old out.new 0 result }
 {
     let a = put::put_byte(out, 0, Line::FORM);
@@ -30,8 +25,7 @@ pub(crate) fn write_head(t: &[u8], out: &mut [u8]) -> usize
 }
 
 // Writes the bytes of the line of row i.
-pub(crate) fn write_entry(t: &[u8], i: usize, out: &mut [u8]) -> usize
-    requires { length out.old ≡ 339 }
+pub(crate) fn write_entry(t: &[u8], i: usize, out: &mut Room) -> usize
     ensures { Wrote (entry_line form1) (entry_at t.now i) out.old out.new 0 result }
 {
     let a = put::put_version(out, 0, table::version_at(t, i));
@@ -64,10 +58,7 @@ pub(crate) fn line_len(t: &[u8], i: usize, second: Second) -> usize
 pub(crate) fn put_line(s: &[u8], out: &mut [u8], at: usize) -> usize
     ensures { (result, out.new) ≡ laid (line s.now) at out.old }
 {
-    if out.len() <= at {
-        return at;
-    }
-    if (out.len() - at - 1) / 2 < s.len() {
+    if out.len() <= at || (out.len() - at - 1) / 2 < s.len() {
         return at;
     }
     put::put_raw(out, at, s);
@@ -78,15 +69,13 @@ pub(crate) fn put_line(s: &[u8], out: &mut [u8], at: usize) -> usize
 pub(crate) fn start(s: &[u8], t: &mut [u8]) -> bool
     ensures { Answers t.old (start_with t.old (exactly (length s.now) ((head_line form1).dec s.now))) result t.new }
 {
-    let a = field::read_byte(s, Cursor { at: 0 });
-    let ByteRead::Whole(form, at1) = a else {
+    let Some((form, at1)) = field::read_byte(s, Cursor { at: 0 }) else {
         return false;
     };
     if form != Line::FORM {
         return false;
     }
-    let b = field::read_version(s, at1);
-    let VersionRead::Whole(last, at2) = b else {
+    let Some((last, at2)) = field::read_version(s, at1) else {
         return false;
     };
     if at2.at != s.len() {
@@ -99,20 +88,16 @@ pub(crate) fn start(s: &[u8], t: &mut [u8]) -> bool
 pub(crate) fn restore(s: &[u8], t: &mut [u8]) -> bool
     ensures { Answers t.old (restore_to t.old (exactly (length s.now) ((entry_line form1).dec s.now))) result t.new }
 {
-    let a = field::read_version(s, Cursor { at: 0 });
-    let VersionRead::Whole(version, at1) = a else {
+    let Some((version, at1)) = field::read_version(s, Cursor { at: 0 }) else {
         return false;
     };
-    let b = field::read_second(s, at1);
-    let SecondRead::Whole(deadline, at2) = b else {
+    let Some((deadline, at2)) = field::read_second(s, at1) else {
         return false;
     };
-    let c = field::read_limited(s, at2, Request::KEY);
-    let SpanRead::Whole(key, at3) = c else {
+    let Ok(Some((key, at3))) = field::read_limited(s, at2, Request::KEY) else {
         return false;
     };
-    let d = field::read_limited(s, at3, Request::VALUE);
-    let SpanRead::Whole(value, at4) = d else {
+    let Ok(Some((value, at4))) = field::read_limited(s, at3, Request::VALUE) else {
         return false;
     };
     if at4.at != s.len() {

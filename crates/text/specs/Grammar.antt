@@ -1,7 +1,6 @@
 -- RFC 3629's grammar as it stands: a text is a run of characters, and a character is a first byte with the tail that the table asks for.
-use Rattle.std.specs.Prelude.{List, [], ◌∷◌, ◌++◌, ◌≡◌, ℕ, suc, ◌≤◌}
-use Rattle.text.specs.declared.Pending.TheVariants.{Bytes}
-use Rattle.text.specs.Text.{lead_of}
+use Rattle.std.specs.Prelude.{List, [], ◌∷◌, ◌++◌, ◌≡◌, ℕ, suc, ◌≤◌, Some}
+use Rattle.text.specs.Text.{pending, lead_of}
 
 -- n bytes, the first of them low .. high and the others 80 .. bf
 pub data Tail : ℕ → ℕ → ℕ → List ℕ → Type 0 where
@@ -10,4 +9,4 @@ pub data Tail : ℕ → ℕ → ℕ → List ℕ → Type 0 where
 
 pub data Text : List ℕ → Type 0 where
   end : Text []
-  char : {n low high b : ℕ} {t s : List ℕ} → lead_of b ≡ Bytes n low high → Tail n low high t → Text s → Text (b ∷ t ++ s)
+  char : {n low high b : ℕ} {t s : List ℕ} → lead_of b ≡ Some (pending n low high) → Tail n low high t → Text s → Text (b ∷ t ++ s)

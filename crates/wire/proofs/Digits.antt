@@ -1,6 +1,6 @@
 -- The digits of a number in a base: counting them, and writing them from the last to the first. Assumes nothing.
-use mathlib.Core.Path.{◌≡◌, refl, sym, ap, ◌∙◌}
-use mathlib.Core.List.{List, [], ◌∷◌, ◌++◌, append_assoc, append-nil}
+use mathlib.Core.Path.{◌≡◌, ap, ◌∙◌}
+use mathlib.Core.List.{List, [], ◌∷◌, ◌++◌, append_assoc}
 use Prim.Native.Nat.{ℕ, zero, suc, ◌+◌, ◌-◌, ◌/◌, ◌≤◌, ◌<◌}
 use native.Mathlib.Nat.{add-zero, add-suc}
 use native.Mathlib.Numerals.{one-add}
@@ -53,9 +53,6 @@ pub record Filled (base : ℕ) (digit : ℕ → ℕ) (m v at : ℕ) (old new : L
   pub within : i ≤ m
 
 module _ {base : ℕ} {digit : ℕ → ℕ} (m v at : ℕ) (old : List ℕ) where
-  pub fill_begin : Filled base digit m v at old old v m
-  fill_begin = record { tail = []; split = sym (append-nil _); list = refl; long = refl; within = omega arith }
-
   module _ (new : List ℕ) (x : ℕ) where
     fill_suc : (i : ℕ) → Filled base digit m v at old new x (suc i) → Filled base digit m v at old (set new (at + i) (digit x)) (x / base) i
     fill_suc i g =

@@ -3,13 +3,12 @@ use mathlib.Core.Path.{◌≡◌, refl, sym, ap, ◌∙◌}
 use mathlib.Core.List.{List, [], ◌∷◌, append-nil}
 use mathlib.Core.Bool.{true, false, cond}
 use Prim.Native.Nat.{ℕ, zero, suc, ◌+◌, ◌-◌, ◌*◌, ◌/◌, ◌%◌, ◌^◌, ◌≤◌, ◌<◌}
-use native.Mathlib.Nat.{add-zero, pow-suc, pow-le-pow_right}
-use native.Mathlib.Numerals.{add-one}
+use native.Mathlib.Nat.{add-zero, pow-suc}
 use native.Mathlib.Omega.{arith}
 use native.Mathlib.Decide.{dec_lt}
 use lib.ListN.{length, get_or, take, drop, length-append, drop_of_length-le}
 use lib.Seq.{drop-cons}
-use lib.Dec.{leb, ltb, eqb, lit≤}
+use lib.Dec.{leb, ltb, eqb}
 use borrow.Author.Tests.{ltb-true, lt-ltb, leb-true, le-leb, lt-leb, eqb-true, eq-eqb}
 use Rattle.wire.specs.Codec.{whole, more, refused, after, Valid, Bytes, is_bytes, empty, byte, raw, guard, seq, as_type, all, read_at}
 use Rattle.wire.specs.Number.{number, v_int, v_long}
@@ -18,7 +17,7 @@ use Rattle.wire.specs.Write.{Wrote}
 use Rattle.wire.proofs.Laws.{Laws, both, and, and_false, after-after, seq-valid, guard-valid, type_valid, seq_laws, guard_laws, type_laws, empty_laws, byte_laws, raw_laws, raw-valid, is-bytes, bytes_append, bytes-none, bytes_cons, same_read}
 use Rattle.wire.proofs.NumberLaws.{v_int_laws}
 use Rattle.wire.proofs.NumberWrite.{number-bad, int_long}
-use Rattle.wire.proofs.Digits.{digits_in, Filled, fill_end}
+use Rattle.wire.proofs.Digits.{digits_in}
 use Rattle.wire.proofs.WriteLaws.{wrote-seq, wrote-guard, wrote_type}
 use Rattle.wire.proofs.At.{at_front, at-seq, at_type, at-guard, at_raw, at_cond}
 
@@ -109,11 +108,6 @@ module _ (s : List ℕ) (at : ℕ) where
   big_begin = record { front = rw add-zero; small = omega arith }
 
   module _ (n j v : ℕ) (g : Begun s at n j v) where
-    pub big_on : j < length s → get_or s j 0 < 256 → Begun s at (n + 1) (j + 1) (v * 256 + get_or s j 0)
-    big_on h b =
-        rw add-one
-        (record { front = at_big s at n ∙ rw (g.front, at_byte s j h); small = omega (arith, g.small, pow-suc 256 n) })
-
     pub big_more : (m : ℕ) → length s ≤ j → n < m → read_at (big_endian m) s at ≡ more
     big_more zero h l = absurd (omega arith)
     big_more (suc m) h l = go (dec_lt n m) (big_more m h)
@@ -121,10 +115,6 @@ module _ (s : List ℕ) (at : ℕ) where
         go : Dec (n < m) → (n < m → read_at (big_endian m) s at ≡ more) → read_at (big_endian (suc m)) s at ≡ more
         go (yes q) ih = at_big s at m ∙ rw (ih q)
         go (no q) ih = let e : m ≡ n = omega arith in rw e (at_big s at n ∙ rw (g.front, at-byte-end s j h))
-
-    -- the number fits as long as there are more bytes to come
-    pub big_fits : (m b : ℕ) → n < m → b < 256 → v * 256 + b < 256 ^ m
-    big_fits m b l h = omega (arith, g.small, pow-suc 256 n, pow-le-pow_right {n = 256} (lit≤ tt) {i = suc n} {j = m} l)
 
 -- a length and so many bytes
 pub limited_laws : (lim : ℕ) → Laws (limited lim)
@@ -179,6 +169,3 @@ big_digits : (n v : ℕ) → (big_endian n).enc v ≡ digits_in 256 (λ x. x % 2
 unfolding big_endian seq byte as_type empty
 big_digits zero v = refl
 big_digits (suc n) v = rw (big_digits n (v / 256))
-
-pub big_filled : (m v at : ℕ) {old new : List ℕ} {x i : ℕ} → i ≡ 0 → Filled 256 (λ x. x % 256) m v at old new x i → Wrote (big_endian m) v old new at (at + m)
-big_filled m v at {old} {new} {x} {i} z g = record { next = rw (big_length m v); list = fill_end m v at old new x i z g ∙ rw (big_digits m v); long = g.long }

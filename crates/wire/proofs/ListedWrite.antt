@@ -45,9 +45,6 @@ pub record Begun {A : Type 0} (c : Codec A) (n : ℕ) (xs : List A) (old : List 
   pub long : length new ≡ length old
 
 module _ {A : Type 0} (c : Codec A) (n : ℕ) (xs : List A) where
-  pub measured_none : Measured c n xs 0 1
-  measured_none = let e : n - 0 ≡ n = omega arith in record { ok = rw e; long = rw e (omega arith) }
-
   pub begun : (old : List ℕ) (at : ℕ) → Valid (listed n c) xs → Begun c n xs old at old 0 at
   begun old at v = let e : n - 0 ≡ n = omega arith in record { list = rw e; end = rw e; good = rw e v; long = refl }
 

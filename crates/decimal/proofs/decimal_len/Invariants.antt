@@ -3,8 +3,5 @@ use Rattle.wire.proofs.Digits.{Counted}
 use Rattle.decimal.specs.Decimal.{digits_by}
 use Rattle.decimal.proofs.decimal_len.Given as goal
 
-abbrev pub invariant-loop-x : goal.invariant-loop-x
-invariant-loop-x l = Counted digits_by 18 l.v l.n l.x
-
-abbrev pub decreases-loop-x : goal.decreases-loop-x
-decreases-loop-x l = l.x
+abbrev pub invariant-loop-n : goal.invariant-loop-n
+invariant-loop-n l = Counted digits_by 18 l.v l.n l.x

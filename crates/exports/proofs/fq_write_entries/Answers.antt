@@ -13,4 +13,4 @@ sent-requires c =
 pub returns : goal.returns
 unfolding send_entries
 returns c =
-    rw c.sent.ensures (rw (c.bulk_code-op.ensures.1, c.bulk_code-op.ensures.0) at (ap coded c.write_entries.ensures))
+    rw c.sent.ensures (rw (c.bulk_code.ensures.1, c.bulk_code.ensures.0) at (ap coded c.write_entries.ensures))

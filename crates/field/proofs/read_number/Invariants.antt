@@ -1,12 +1,7 @@
--- `field::read_number` meets its contract: between two bytes the loop knows what `Going` says, for either kind. The measure is what is left of
--- the slice. Assumes nothing.
-use Prim.Native.Nat.{◌-◌}
-use lib.ListN.{length}
+-- `field::read_number` meets its contract: between two bytes the loop knows what `Going` says, for either kind. Assumes nothing.
 use Rattle.wire.proofs.NumberRead.{Going}
+use Rattle.field.specs.FieldRead.{refusal_of, top_of, most_of}
 use Rattle.field.proofs.read_number.Given as goal
 
 abbrev pub invariant-loop-i : goal.invariant-loop-i
-invariant-loop-i l = Going l.bad l.last l.s l.initial.left l.initial.i l.i l.left l.low l.p l.acc
-
-abbrev pub decreases-loop-i : goal.decreases-loop-i
-decreases-loop-i l = length l.s - l.i
+invariant-loop-i l = Going (refusal_of l.k) (top_of l.k) l.s (most_of l.k) l.fn.c.at l.i l.left l.low l.p l.acc

@@ -5,8 +5,6 @@ use native.Mathlib.Omega.{arith}
 use Rattle.files.proofs.NextLaws.{Called, refuses, serving, taken-within}
 use Rattle.files.proofs.serve_next.Goals as goal
 
--- the call before an arm of the match
-
 pub returns-then-buf-le-LONGEST : goal.returns-then-buf-le-LONGEST
 returns-then-buf-le-LONGEST c =
     record {
@@ -18,15 +16,15 @@ returns-then-buf-le-LONGEST c =
 pub go_on-requires : goal.go_on-requires
 go_on-requires c =
     let v = (let called' : let a = c.args in
-    Called a.buf.now a.table.now a.out.now a.s c.serve_lines-r.result c.serve_lines-r.new.out c.serve_lines-r.new.table = record { lies = record { order = omega arith; within = omega arith }; long = omega arith; lines = c.serve_lines-r.ensures } in called') in
-    let w = serving v _ c.in-Fed.is in record { taken_bound = taken-within w.0 w.1; held_in_bounds = v.lies.within }
+    Called a.buf.now a.table.now a.out.now a.s c.serve_lines.result c.serve_lines.new.out c.serve_lines.new.table = record { lies = record { order = omega arith; within = omega arith }; long = omega arith; lines = c.serve_lines.ensures } in called') in
+    let w = serving v _ c.in-Ok.is in record { taken_bound = taken-within w.0 w.1; held_in_bounds = v.lies.within }
 
-pub returns-in-Refused : goal.returns-in-Refused
-returns-in-Refused c = refuses ((let called' : let a = c.args in
-    Called a.buf.now a.table.now a.out.now a.s c.serve_lines-r.result c.serve_lines-r.new.out c.serve_lines-r.new.table = record { lies = record { order = omega arith; within = omega arith }; long = omega arith; lines = c.serve_lines-r.ensures } in called')) _ c.in-Refused.is
+pub returns-in-Err : goal.returns-in-Err
+returns-in-Err c = refuses ((let called' : let a = c.args in
+    Called a.buf.now a.table.now a.out.now a.s c.serve_lines.result c.serve_lines.new.out c.serve_lines.new.table = record { lies = record { order = omega arith; within = omega arith }; long = omega arith; lines = c.serve_lines.ensures } in called')) _ c.in-Err.is
 
-pub returns-in-Fed : goal.returns-in-Fed
-returns-in-Fed c =
+pub returns-in-Ok : goal.returns-in-Ok
+returns-in-Ok c =
     let w = serving ((let called' : let a = c.args in
-    Called a.buf.now a.table.now a.out.now a.s c.serve_lines-r.result c.serve_lines-r.new.out c.serve_lines-r.new.table = record { lies = record { order = omega arith; within = omega arith }; long = omega arith; lines = c.serve_lines-r.ensures } in called')) _ c.in-Fed.is in
+    Called a.buf.now a.table.now a.out.now a.s c.serve_lines.result c.serve_lines.new.out c.serve_lines.new.table = record { lies = record { order = omega arith; within = omega arith }; long = omega arith; lines = c.serve_lines.ensures } in called')) _ c.in-Ok.is in
     c.go_on.ensures _ _ _ _ w.0 w.1

@@ -1,64 +1,44 @@
 -- `reply_writer::write_reply` meets its contract: the operation and the status are judged first. Assumes nothing.
--- a reply that is awaited
-use mathlib.Core.Path.{◌≡◌, sym, ap, ◌∙◌}
+use mathlib.Core.Path.{sym, ap, ◌∙◌}
 use mathlib.Core.Bool.{◌&&◌}
 use Rattle.wire.specs.Codec.{refuse}
 use Rattle.wire.specs.Write.{send}
 use Rattle.message.specs.Request.{edition_at}
-use Rattle.message.specs.ReplyTable.{body_at, is_allowed}
-use Rattle.message.specs.Reply.{known, awaited, reply, reply_of, is_awaited, statuses_of}
-use Rattle.reply_writer.proofs.SendLaws.{send-other, send-unlisted, send-framed}
+use Rattle.message.specs.ReplyTable.{is_allowed}
+use Rattle.message.specs.Reply.{reply, reply_of, is_awaited, statuses_of}
+use Rattle.reply_writer.proofs.SendLaws.{allowed-some, send-other, send-unlisted, send-framed}
 use Rattle.reply_writer.proofs.write_reply.Goals as goal
-
--- its statuses
 
 pub returns-in_default : goal.returns-in_default
 unfolding reply refuse send
-returns-in_default c = rw (← c.awaited_by-awaited.ensures, c.in_default.is)
+returns-in_default c = rw (← c.in_default.ensures)
 
 pub returns-then-not-is_awaited : goal.returns-then-not-is_awaited
 unfolding reply
 returns-then-not-is_awaited c =
-    let i = c.before in
-    let f = i.before.before in
-    let a = f.args in
-    let o = f.in-Known.o in
-    rw ((let found' : let s = f in
-    awaited s.args.asked ≡ known (edition_at s.args.asked.version) f.in-Known.o = sym f.awaited_by-awaited.ensures ∙ rw f.in-Known.is in found'))
+    let a = c.args in
+    let o = c.in-Ok.o in
+    rw (← c.in-Ok.ensures)
     (send-other (is_awaited o) (statuses_of ((edition_at a.asked.version).old_statuses && a.asked.flag) o) a.asked.flag (reply_of a.head a.value.now a.text.now) a.out.now
-    (sym i.is_awaited.ensures ∙ c.if-not-is_awaited.true))
+    (sym c.is_awaited.ensures ∙ c.if-not-is_awaited.true))
 
-pub returns-then-not-is_allowed : goal.returns-then-not-is_allowed
+pub returns-then-is_none : goal.returns-then-is_none
 unfolding reply
-returns-then-not-is_allowed c =
-    let i = c.before in
-    let f = i.before.before.before.before.before.before in
-    let a = f.args in
-    let o = f.in-Known.o in
-    rw ((let found' : let s = f in
-    awaited s.args.asked ≡ known (edition_at s.args.asked.version) f.in-Known.o = sym f.awaited_by-awaited.ensures ∙ rw f.in-Known.is in found'))
+returns-then-is_none c =
+    let a = c.args in
+    let o = c.in-Ok.o in
+    rw (← c.in-Ok.ensures)
     (send-unlisted (is_awaited o) (statuses_of ((edition_at a.asked.version).old_statuses && a.asked.flag) o) a.asked.flag (reply_of a.head a.value.now a.text.now) a.out.now
-    ((let listed' : let f = i in let a = f.args in
-    is_allowed (body_at a.head.status (statuses_of ((edition_at a.asked.version).old_statuses && a.asked.flag) f.in-Known.o a.head.op)) ≡ i.is_allowed.result = let b = i in rw (← b.with_old-old.ensures) (ap is_allowed (sym b.body_at-b.ensures) ∙ sym i.is_allowed.ensures) in listed') ∙ c.if-not-is_allowed.true))
+    (rw (← c.with_old-old.ensures) (ap is_allowed (sym c.body_at-b.ensures) ∙ allowed-some _ ∙ c.if-is_none.ensures)))
 
 pub returns : goal.returns
 unfolding reply
 returns c =
-    let w = c.before.before in
-    let l = w.before.before.before in
-    let i = l.before in
-    let b = i.before in
-    let e = b.before.before in
-    let f = e.before.before.before in
-    let a = f.args in
-    let o = f.in-Known.o in
-    rw (
-      (let found' : let s = f in
-          awaited s.args.asked ≡ known (edition_at s.args.asked.version) f.in-Known.o = sym f.awaited_by-awaited.ensures ∙ rw f.in-Known.is in found'),
-      ← b.with_old-old.ensures,
-    )
-    (w.write_message.ensures
-    ∙ (rw (← b.with_old-old.ensures, ← b.body_at-b.ensures, ← w.form_of.ensures) at
+    let a = c.args in
+    let o = c.in-Ok.o in
+    rw (← c.in-Ok.ensures, ← c.with_old-old.ensures)
+    (c.write_formed.ensures
+    ∙ (rw (← c.with_old-old.ensures, ← c.body_at-b.ensures, ← c.form_of.ensures) at
     (send-framed (is_awaited o) (statuses_of ((edition_at a.asked.version).old_statuses && a.asked.flag) o) a.asked.flag (reply_of a.head a.value.now a.text.now) a.out.now
-    (sym e.is_awaited.ensures ∙ e.if-not-is_awaited.false) ((let listed' : let f = i in let a = f.args in
-    is_allowed (body_at a.head.status (statuses_of ((edition_at a.asked.version).old_statuses && a.asked.flag) f.in-Known.o a.head.op)) ≡ i.is_allowed.result = let b = i in rw (← b.with_old-old.ensures) (ap is_allowed (sym b.body_at-b.ensures) ∙ sym i.is_allowed.ensures) in listed') ∙ l.if-not-is_allowed.false))))
+    (sym c.is_awaited.ensures ∙ c.if-not-is_awaited.false)
+    (rw (← c.with_old-old.ensures) (ap is_allowed (sym c.body_at-b.ensures) ∙ allowed-some _ ∙ c.if-is_none.ensures)))))

@@ -11,15 +11,11 @@ use Rattle.reply_writer.proofs.write_statistics.Goals as goal
 
 pub returns-then-not-is_reply : goal.returns-then-not-is_reply
 returns-then-not-is_reply c =
-    let a = c.args in
-    send_unawaited a.asked (statistics_reply a.id (list_of a.x)) a.out.now (sym c.is_reply.ensures ∙ c.if-not-is_reply.true)
+    send_unawaited c.args.asked (statistics_reply c.args.id (list_of c.args.x)) c.args.out.now (sym c.is_reply.ensures ∙ c.if-not-is_reply.true)
 
 pub returns : goal.returns
 unfolding fields_of body_at
 returns c =
-    let w = c.before.before in
-    let e = w in
-    let a = e.args in
-    w.write_counted.ensures
-    ∙ send-awaited a.asked Stats (statistics_reply a.id (list_of a.x)) a.out.now m.statistics refl (λ with_old. refl)
-    (sym e.is_reply.ensures ∙ e.if-not-is_reply.false)
+    c.write_counted.ensures
+    ∙ send-awaited c.args.asked Stats (statistics_reply c.args.id (list_of c.args.x)) c.args.out.now m.statistics refl (λ with_old. refl)
+    (sym c.is_reply.ensures ∙ c.if-not-is_reply.false)

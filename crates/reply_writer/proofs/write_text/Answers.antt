@@ -14,11 +14,9 @@ use Rattle.reply_writer.proofs.write_text.Goals as goal
 
 pub returns : goal.returns
 unfolding error_reply reply awaited edition_of find_code
-returns c = let w = c.before.before in
-    let s = w in
-    let a = s.args in
-    let r = error_of a.id a.status a.text.now in
-    let e = ap is_allowed (sym (error-text a.status s.requires.le_status s.requires.status_bound)) in
-    w.write_reply.ensures
-    ∙ sym (send-framed (is_awaited Ping) (statuses_of false Ping) false r a.out.now refl e)
-    ∙ send-framed (λ op. eqb op error_code) (λ op. errors) false r a.out.now refl e
+returns c =
+    let r = error_of c.args.id c.args.status c.args.text.now in
+    let e = ap is_allowed (sym (error-text c.args.status c.requires.le_status c.requires.status_bound)) in
+    c.write_reply.ensures
+    ∙ sym (send-framed (is_awaited Ping) (statuses_of false Ping) false r c.args.out.now refl e)
+    ∙ send-framed (λ op. eqb op error_code) (λ op. errors) false r c.args.out.now refl e

@@ -1,13 +1,13 @@
--- `rules::body_at` meets its contract. Assumes nothing.
-use mathlib.Core.Path.{◌∙◌}
-use borrow.Author.Tests.{eq-eqb, ne_eqb}
+-- `rules::body_at` meets its contract: an error reply has statuses of its own, and any other those of the reply table. Assumes nothing.
+use native.Mathlib.Omega.{arith}
+use Rattle.rules.proofs.BodyLaws.{error-text, error-none}
 use Rattle.rules.proofs.body_at.Goals as goal
 
-pub returns-then-op-eq80 : goal.returns-then-op-eq80
-returns-then-op-eq80 c = c.in_errors.ensures ∙ rw (eq-eqb _ _ c.if-op-eq80.true)
+pub returns-in-129-to-134 : goal.returns-in-129-to-134
+returns-in-129-to-134 c = rw c.if-op-ne80.false (error-text _ (omega arith) (omega arith))
 
-pub returns-then-old : goal.returns-then-old
-returns-then-old c = c.in_table_with_old.ensures ∙ rw (ne_eqb _ _ c.if-op-eq80.false, c.if-old.true)
+pub returns-in_default : goal.returns-in_default
+returns-in_default c = rw c.if-op-ne80.false (error-none _ (λ k l h e. omega arith))
 
-pub returns-else-old : goal.returns-else-old
-returns-else-old c = c.in_table.ensures ∙ rw (ne_eqb _ _ c.if-op-eq80.false, c.if-old.false)
+pub returns-in_default-2 : goal.returns-in_default-2
+returns-in_default-2 c = rw c.if-op-ne80.false (error-none _ (λ k l h e. omega arith))

@@ -1,5 +1,4 @@
 -- `server::serve` meets its contract. Assumes nothing.
-use native.Mathlib.Omega.{arith}
 use Rattle.server.proofs.StepLaws.{serves-short, serves-unsound}
 use Rattle.table.proofs.Lists.{refuted}
 use Rattle.server.proofs.serve.Goals as goal
@@ -9,11 +8,4 @@ returns-then-reply-lt-ROOM c = serves-short _ _ _ _ c.if-reply-lt-ROOM.true c.un
 
 pub returns-then-not-is_table : goal.returns-then-not-is_table
 returns-then-not-is_table c =
-    serves-unsound _ _ _ _ c.if-reply-lt-ROOM.false (refuted c.is_table.ensures (c.if-not-is_table.true)) c.unsent-then-not-is_table.ensures
-
-pub call_at-requires : goal.call_at-requires
-call_at-requires c =
-    record { sound = c.is_table.ensures.0 (c.if-not-is_table.false); within = omega arith; sized = omega arith; room = omega (arith, c.if-reply-lt-ROOM.false) }
-
-pub returns : goal.returns
-returns c = c.call_at.ensures.serves
+    serves-unsound _ _ _ _ c.if-reply-lt-ROOM.false (refuted c.is_table.ensures c.if-not-is_table.true) c.unsent-then-not-is_table.ensures

@@ -1,5 +1,4 @@
 -- `server::serve_stream` meets its contract. Assumes nothing.
-use mathlib.Core.Logic.{inr}
 use Rattle.table.proofs.Lists.{refuted}
 use Rattle.server.proofs.StreamLaws.{short, unsound}
 use Rattle.server.proofs.serve_stream.Goals as goal
@@ -9,8 +8,4 @@ returns-then-reply-lt-ROOM c = rw c.all_calls.ensures (short _ _ _ _ c.if-reply-
 
 pub returns-then-not-is_table : goal.returns-then-not-is_table
 returns-then-not-is_table c =
-    rw c.all_calls-then-not-is_table.ensures (unsound _ _ _ _ c.if-reply-lt-ROOM.false (refuted c.is_table.ensures (c.if-not-is_table.true)))
-
-pub stream_sound-requires : goal.stream_sound-requires
-stream_sound-requires c =
-    record { sound = c.is_table.ensures.0 (c.if-not-is_table.false); roomy = inr c.if-reply-lt-ROOM.false }
+    rw c.all_calls-then-not-is_table.ensures (unsound _ _ _ _ c.if-reply-lt-ROOM.false (refuted c.is_table.ensures c.if-not-is_table.true))

@@ -1,50 +1,14 @@
--- `soundness::is_table` meets its contract: each test is one of the facts that make the memory sound. Assumes nothing.
-use native.Mathlib.Omega.{arith}
-use Rattle.table.specs.Memory.{count_index}
-use Rattle.table.proofs.Lists.{says_no, refuted}
-use Rattle.table.proofs.Answers.{header_in}
-use Rattle.table.proofs.CheckLaws.{found-order}
-use Rattle.soundness.proofs.SoundLaws.{checked, sound-within, sound_rising, sound-order, sound-counts, sound-seconds}
+-- `soundness::is_table` meets its contract. Assumes nothing.
+use mathlib.Core.Path.{subst}
+use mathlib.Core.List.{List}
+use Prim.Native.Nat.{ℕ}
+use Rattle.table.specs.Memory.{Sound}
+use Rattle.table.specs.Found.{Tells}
+use Rattle.table.proofs.Lists.{says_no}
 use Rattle.soundness.proofs.is_table.Goals as goal
 
-pub returns-then-t-ne-SIZE : goal.returns-then-t-ne-SIZE
-returns-then-t-ne-SIZE c = says_no (λ s. c.if-t-ne-SIZE.true s.layout.long)
-
-pub returns-then-header : goal.returns-then-header
-returns-then-header c = says_no (λ s. omega (arith, s.layout.counted, header_in c.args.t.now count_index s.layout.long (omega arith)))
-
-pub returns-then-last-gt-LAST_VERSION : goal.returns-then-last-gt-LAST_VERSION
-returns-then-last-gt-LAST_VERSION c = says_no (λ s. omega (arith, s.table.last))
-
-pub returns-then-not-seconds_within : goal.returns-then-not-seconds_within
-returns-then-not-seconds_within c = says_no (λ s. refuted c.seconds_within.ensures (c.if-not-seconds_within.true) (sound-seconds _ s))
-
-pub returns-then-not-counts_within : goal.returns-then-not-counts_within
-returns-then-not-counts_within c = says_no (λ s. refuted c.counts_within.ensures (c.if-not-counts_within.true) (sound-counts _ s))
-
-pub returns-then-not-is_permutation : goal.returns-then-not-is_permutation
-returns-then-not-is_permutation c = says_no (λ s. refuted c.is_permutation.ensures (c.if-not-is_permutation.true) s.layout.places)
-
-pub returns-then-not-all_within : goal.returns-then-not-all_within
-returns-then-not-all_within c = says_no (λ s. refuted c.all_within.ensures (c.if-not-all_within.true) (sound-within _ s))
-
-pub returns-then-not-rising : goal.returns-then-not-rising
-returns-then-not-rising c = says_no (λ s. refuted c.rising.ensures (c.if-not-rising.true) (sound_rising _ s))
+pub returns-in_default : goal.returns-in_default
+returns-in_default c = says_no (λ s. c.in_default.ensures.cases s.layout.long)
 
 pub returns : goal.returns
-returns c =
-    let r = c in
-    let a = r in
-    let p = a in
-    let n = p in
-    let m = n in
-    let x = m in
-    let z = x in
-    let e = z in
-    let t = e.args.t.now in (
-      λ d. checked t e.if-t-ne-SIZE.false (omega (arith, header_in t count_index e.if-t-ne-SIZE.false (omega arith), z.header.ensures, z.if-header.false)) (omega (arith, x.last.ensures, x.if-last-gt-LAST_VERSION.false)) (p.is_permutation.ensures.0 (a.if-not-is_permutation.false))
-          (a.all_within.ensures.0 (r.if-not-all_within.false)) (r.rising.ensures.0 (c.if-not-rising.false))
-          (found-order t (p.is_permutation.ensures.0 (a.if-not-is_permutation.false)) (c.is_in_order.ensures.0 d)) (n.counts_within.ensures.0 (p.if-not-counts_within.false)) (m.seconds_within.ensures.0 (n.if-not-seconds_within.false))
-          (λ i. omega (arith, e.shared_slice_known-1.given i)),
-      λ s. c.is_in_order.ensures.1 (sound-order t s),
-    )
+returns c = subst (λ (u : List ℕ). Tells c.is_sound.result (Sound u)) c.in-Some.ensures.cases.same c.is_sound.ensures

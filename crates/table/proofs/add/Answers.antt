@@ -1,10 +1,10 @@
 -- `table::add` meets its contract. Assumes nothing.
--- the tests that were passed
-use mathlib.Core.Path.{◌≡◌, sym, ap, ◌∙◌}
-use mathlib.Core.Bool.{true}
+use mathlib.Core.Path.{sym, subst, ◌∙◌}
+use mathlib.Core.List.{List}
+use Prim.Native.Nat.{ℕ, ◌<◌}
 use native.Mathlib.Omega.{arith}
-use Rattle.table.specs.Write.{lowered}
-use Rattle.table.specs.Change.{fits_row, has_room}
+use Rattle.map.specs.Step.{most_keys, last_version}
+use Rattle.table.specs.Memory.{last_index, number_of, count_of}
 use Rattle.table.proofs.RowLaws.{length_entries, last-is}
 use Rattle.table.proofs.Answers.{row_fits, room-is, added_yes, added-unfit, added_full, added-last}
 use Rattle.table.proofs.add.Goals as goal
@@ -18,21 +18,20 @@ returns-then-not-has_room c = added_full _ _ _ _ (sym c.has_room.ensures ∙ c.i
 pub returns-then-last-ge-LAST_VERSION : goal.returns-then-last-ge-LAST_VERSION
 returns-then-last-ge-LAST_VERSION c = added-last _ _ _ _ (omega arith)
 
-pub append-requires : goal.append-requires
-append-requires c = let e = c.before.before.before.before.before in
-    let t = e.args.t.now in
-    let h = room-is t ((let room' : has_room e.args.t.now ≡ true = sym e.has_room.ensures ∙ e.if-not-has_room.false in room')) in record { t_len = (h.0, omega (arith, h.1, length_entries t h.0), omega (arith, last-is t h.0)); k_len_bound = row_fits _ _ ((let fits' : let s = e.args in fits_row s.key.now s.value.now ≡ true = sym e.fits_row.ensures ∙ e.if-not-fits_row.false in fits')) }
+pub returns-in_default : goal.returns-in_default
+returns-in_default c = absurd (c.in_default.ensures.cases (room-is c.args.t.now (sym c.has_room.ensures ∙ c.if-not-has_room.false)).0)
 
-pub lower_bound-requires : goal.lower_bound-requires
-lower_bound-requires c = let a = c.before.before.before in
-    let e = a.before.before.before.before.before.before in
-    let t = e.args.t.now in
-    omega (arith, (room-is t ((let room' : has_room e.args.t.now ≡ true = sym e.has_room.ensures ∙ e.if-not-has_room.false in room'))).0)
+pub append-requires : goal.append-requires
+append-requires c =
+    let t = c.args.t.now in
+    let h = room-is t (sym c.has_room.ensures ∙ c.if-not-has_room.false) in
+    record {
+      room = subst (λ (u : List ℕ). (count_of u < most_keys) × (number_of u last_index < last_version)) (sym c.in-Some.ensures.cases.0) (omega (arith, h.1, length_entries t h.0), omega (arith, last-is t h.0));
+      k_len_bound = row_fits _ _ (sym c.fits_row.ensures ∙ c.if-not-fits_row.false);
+    }
 
 pub returns : goal.returns
-returns c = let l = c.before.before in
-    let a = l.before.before.before.before in
-    let e = a.before.before.before.before.before.before in
-    let s = e.args in
-    added_yes _ _ _ _ _ ((let fits' : let s = e.args in fits_row s.key.now s.value.now ≡ true = sym e.fits_row.ensures ∙ e.if-not-fits_row.false in fits')) ((let room' : has_room e.args.t.now ≡ true = sym e.has_room.ensures ∙ e.if-not-has_room.false in room')) (omega arith)
-    (rw (last-is s.t.now (room-is s.t.now ((let room' : has_room e.args.t.now ≡ true = sym e.has_room.ensures ∙ e.if-not-has_room.false in room'))).0) (l.lower_bound.ensures ∙ ap (lowered s.deadline.0) a.append.ensures))
+returns c = let s = c.args in
+    let room = sym c.has_room.ensures ∙ c.if-not-has_room.false in
+    added_yes _ _ _ _ _ (sym c.fits_row.ensures ∙ c.if-not-fits_row.false) room (omega arith)
+    (rw (last-is s.t.now (room-is s.t.now room).0, c.lower_bound.ensures, c.append.ensures, c.in-Some.ensures.cases.0))

@@ -3,9 +3,9 @@ use native.Mathlib.Omega.{arith}
 use Rattle.table.proofs.Answers.{arrived_yes, arrived-sized, arrived-late, latest-is}
 use Rattle.table.proofs.arrive.Goals as goal
 
-pub returns-then-t-ne-SIZE : goal.returns-then-t-ne-SIZE
-returns-then-t-ne-SIZE c = let s = c.args in
-    arrived-sized s.op s.absent s.second.0 s.t.now c.if-t-ne-SIZE.true
+pub returns-in_default : goal.returns-in_default
+returns-in_default c = let s = c.args in
+    arrived-sized s.op s.absent s.second.0 s.t.now c.in_default.ensures.cases
 
 pub returns-then-second-gt-LAST_SECOND : goal.returns-then-second-gt-LAST_SECOND
 returns-then-second-gt-LAST_SECOND c = let s = c.args in
@@ -13,11 +13,6 @@ returns-then-second-gt-LAST_SECOND c = let s = c.args in
 
 pub returns : goal.returns
 returns c =
-    let h = c.before.before in
-    let a = h.before.before.before.before in
-    let b = a.before.before.before.before in
-    let w = b.before.before.before.before in
-    let p = w.before.before in
-    let l = p in
-    let s = l.args in
-    arrived_yes s.op s.absent s.second.0 s.t.now _ l.if-t-ne-SIZE.false (omega arith) (rw (h.set_header.ensures, a.tally.ensures, b.begin.ensures, w.sweep.ensures, p.present-present.ensures, latest-is s.t.now l.if-t-ne-SIZE.false))
+    let s = c.args in
+    let h = c.in-Some.ensures.cases.1 in
+    arrived_yes s.op s.absent s.second.0 s.t.now _ h (omega arith) (rw (c.set_header.ensures, c.tally.ensures, c.begin.ensures, c.sweep.ensures, c.present-present.ensures, latest-is s.t.now h, c.in-Some.ensures.cases.0))

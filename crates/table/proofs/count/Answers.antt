@@ -1,11 +1,12 @@
 -- `table::count` meets its contract. Assumes nothing.
-use mathlib.Core.Path.{sym, ◌∙◌}
+use mathlib.Core.Path.{sym, ap, ◌∙◌}
+use Rattle.table.specs.Memory.{count_of}
 use Rattle.table.proofs.RowLaws.{length_entries}
 use Rattle.table.proofs.Answers.{other_entries}
 use Rattle.table.proofs.count.Goals as goal
 
-pub returns-then-t-ne-SIZE : goal.returns-then-t-ne-SIZE
-returns-then-t-ne-SIZE c = sym (other_entries c.args.t.now c.if-t-ne-SIZE.true)
+pub returns-in_default : goal.returns-in_default
+returns-in_default c = sym (other_entries c.args.t.now c.in_default.ensures)
 
 pub returns : goal.returns
-returns c = c.count.ensures.0 ∙ sym (length_entries c.args.t.now c.if-t-ne-SIZE.false)
+returns c = c.count.ensures.0 ∙ ap count_of c.in-Some.ensures.0 ∙ sym (length_entries c.args.t.now c.in-Some.ensures.1)

@@ -5,13 +5,11 @@ use Rattle.table.specs.Memory.{size}
 use Rattle.table.specs.Sweep.{is_due}
 use Rattle.table.proofs.is_due.Goals as goal
 
-pub returns-then-t-ne-SIZE : goal.returns-then-t-ne-SIZE
+pub returns-in_default : goal.returns-in_default
 unfolding is_due
-returns-then-t-ne-SIZE c = rw (ne_eqb (length c.args.t.now) size c.if-t-ne-SIZE.true)
+returns-in_default c = rw (ne_eqb (length c.args.t.now) size c.in_default.ensures)
 
 pub returns : goal.returns
 unfolding is_due
 returns c =
-    let h = c.before in
-    let i = h in
-    rw (eq-eqb (length i.args.t.now) size i.if-t-ne-SIZE.false, h.header.ensures)
+    rw (eq-eqb (length c.args.t.now) size c.in-Some.ensures.1, c.header.ensures, c.in-Some.ensures.0)

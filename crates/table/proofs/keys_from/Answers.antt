@@ -2,8 +2,5 @@
 use Rattle.table.proofs.KeyWalk.{none_named}
 use Rattle.table.proofs.keys_from.Goals as goal
 
-pub returns-then-t-ne-SIZE : goal.returns-then-t-ne-SIZE
-returns-then-t-ne-SIZE c = none_named _ _ _ c.if-t-ne-SIZE.true
-
-pub returns : goal.returns
-returns c = c.collect.ensures
+pub returns-in_default : goal.returns-in_default
+returns-in_default c = none_named _ _ _ c.in_default.ensures

@@ -6,10 +6,7 @@ use Rattle.map.specs.Deadline.{standing}
 use Rattle.table.proofs.Answers.{other_length}
 use Rattle.table.proofs.standing.Goals as goal
 
-pub returns-then-t-ne-SIZE : goal.returns-then-t-ne-SIZE
+pub returns-in_default : goal.returns-in_default
 unfolding without
-returns-then-t-ne-SIZE c = let s = c.args in
-    sym (ap (λ (st : State). length (standing s.second.0 st.entries)) (other_length s.t.now c.if-t-ne-SIZE.true))
-
-pub returns : goal.returns
-returns c = c.count_standing.ensures
+returns-in_default c = let s = c.args in
+    sym (ap (λ (st : State). length (standing s.second.0 st.entries)) (other_length s.t.now c.in_default.ensures))

@@ -3,9 +3,9 @@ use mathlib.Core.Path.{sym}
 use Rattle.table.proofs.Answers.{statistics-none, statistics_are}
 use Rattle.table.proofs.statistics.Goals as goal
 
-pub returns-then-t-ne-SIZE : goal.returns-then-t-ne-SIZE
-returns-then-t-ne-SIZE c = let s = c.args in
-    statistics-none s.second.0 s.t.now c.if-t-ne-SIZE.true
+pub returns-in_default : goal.returns-in_default
+returns-in_default c = let s = c.args in
+    statistics-none s.second.0 s.t.now c.in_default.ensures
 
 pub returns : goal.returns
 returns c =
@@ -18,7 +18,6 @@ returns c =
     let n = h2.before in
     let d = n.before in
     let h = d.before in
-    let l = h in
-    let s = l.args in
-    rw (c.header-8.ensures, h7.header-7.ensures, h6.header-6.ensures, h5.header-5.ensures, h4.header-4.ensures, h3.header-3.ensures, h2.header-2.ensures, n.count.ensures.0, d.since.ensures, h.header.ensures)
-    (sym (statistics_are s.second.0 s.t.now l.if-t-ne-SIZE.false))
+    let s = c.args in
+    rw (c.header-8.ensures, h7.header-7.ensures, h6.header-6.ensures, h5.header-5.ensures, h4.header-4.ensures, h3.header-3.ensures, h2.header-2.ensures, n.count.ensures.0, d.since.ensures, h.header.ensures, c.in-Some.ensures.0)
+    (sym (statistics_are s.second.0 s.t.now c.in-Some.ensures.1))

@@ -1,23 +1,27 @@
 -- `table::value_at` meets its contract. Assumes nothing.
 use mathlib.Core.Path.{sym, ap, ◌∙◌}
+use mathlib.Core.List.{List}
+use Prim.Native.Nat.{ℕ}
 use native.Mathlib.Omega.{arith}
 use Rattle.map.specs.State.{Entry}
-use Rattle.table.specs.Memory.{entry}
-use Rattle.table.proofs.RowLaws.{entry-is, count_most}
-use Rattle.table.proofs.Answers.{held-row, no_row}
+use Rattle.table.specs.Memory.{entry, entry_of, count_of, row_at}
+use Rattle.table.proofs.RowLaws.{entry-is, length_entries}
+use Rattle.table.proofs.Answers.{other_entries, no_row}
 use Rattle.table.proofs.value_at.Goals as goal
 
-pub value-requires : goal.value-requires
-value-requires c = let t = c.args.t.now in
-    let h = held-row t c.args.i (omega arith) in
-    (h.0, omega (arith, h.1, count_most t))
+pub returns-in_default : goal.returns-in_default
+unfolding entry
+returns-in_default c = let s = c.args in
+    sym (ap (λ (e : Entry). e.value) (no_row s.t.now s.i (omega (arith, other_entries s.t.now c.in_default.ensures))))
 
 pub returns-then-i-count : goal.returns-then-i-count
-returns-then-i-count c = let s = c in
-    let h = held-row s.args.t.now s.args.i (omega arith) in
-    c.value.ensures ∙ ap (λ (e : Entry). e.value) (sym (entry-is s.args.t.now h.0 s.args.i h.1))
+returns-then-i-count c = let s = c.args in
+    let h = c.in-Some.ensures in
+    c.value.ensures ∙ ap (λ (u : List ℕ). (entry_of u (row_at u s.i)).value) h.0
+    ∙ ap (λ (e : Entry). e.value) (sym (entry-is s.t.now h.1 s.i (omega (arith, c.count.ensures.0, ap count_of h.0))))
 
 pub returns : goal.returns
 unfolding entry
-returns c = let s = c in
-    sym (ap (λ (e : Entry). e.value) (no_row s.args.t.now s.args.i (omega arith)))
+returns c = let s = c.args in
+    let h = c.in-Some.ensures in
+    sym (ap (λ (e : Entry). e.value) (no_row s.t.now s.i (omega (arith, length_entries s.t.now h.1, c.count.ensures.0, ap count_of h.0))))

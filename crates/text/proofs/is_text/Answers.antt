@@ -1,28 +1,15 @@
--- `text::is_text` meets its contract: at each byte, what is still wanted decides of the rest. Assumes nothing.
-use mathlib.Core.Path.{refl, sym, ◌∙◌}
-use Prim.Native.Nat.{ℕ}
-use native.Mathlib.Numerals.{add-one}
-use lib.ListN.{drop_of_length-le}
-use lib.Seq.{drop-cons}
-use Rattle.text.specs.Text.{is_text, text_after}
+-- `text::is_text` meets its contract: once nothing can follow, the rest does not matter. Assumes nothing.
+use Rattle.std.proofs.Common.{◌≡◌, ℕ, ◌+◌, ◌<◌, List, length, get_or, drop, false, sym, ap, ◌∙◌, Option, Some, None}
+use Rattle.std.proofs.lemmas.List.{at_drop_more}
+use Rattle.text.specs.declared.Pending.{Pending}
+use Rattle.text.specs.Text.{step_of, text_after}
+use Rattle.text.proofs.GrammarLaws.{lost}
 use Rattle.text.proofs.is_text.Goals as goal
 
-pub loop-i-init : goal.loop-i-init
-unfolding is_text
-loop-i-init c = refl
-
-pub loop-i-preserved : goal.loop-i-preserved
+stopped : (w : Pending) (s : List ℕ) (i : ℕ) → i < length s → step_of (Some w) (get_or s i 0) ≡ None → text_after (Some w) (drop i s) ≡ false
 unfolding text_after
-loop-i-preserved c =
-    let l = c in
-    l.loop-i.invariant ∙ rw (add-one, drop-cons {A = ℕ} _ l.loop-i.i 0 c.loop-i-test.true, ← c.step-w.ensures)
+stopped w s i h e = at_drop_more (text_after (Some w)) s i 0 h ∙ ap (λ (x : Option Pending). text_after x (drop (i + 1) s)) e ∙ lost (drop (i + 1) s)
 
 pub returns-in_default : goal.returns-in_default
-unfolding text_after
-returns-in_default c = sym (c.loop-i.invariant ∙ rw (drop_of_length-le _ c.loop-i-test.false, c.in_default.is))
-
-pub returns : goal.returns
-unfolding text_after
-returns c =
-    let e = c in
-    sym (e.loop-i.invariant ∙ rw (drop_of_length-le _ e.loop-i-test.false, c.in-Bytes.is))
+returns-in_default c =
+    sym (c.loop-b.invariant ∙ stopped c.loop-b.w c.args.s.now c.loop-b.b-index c.loop-b-test.true (sym c.step.ensures ∙ c.in_default.is))

@@ -7,10 +7,10 @@ use Rattle.std.proofs.Common.{◌≡◌, ◌-◌, ℕ, length}
 use Rattle.board.proofs.FileLaws.{read-chunk}
 use Rattle.board.proofs.file.read_on.Goals as goal
 
-pub returns-in-Ok : goal.returns-in-Ok
-returns-in-Ok g c =
+pub returns : goal.returns
+returns g c =
     let s = c.args.s in
     let buf = c.args.buf.now in
     let k : ℕ = length buf - s.held in
     let l : length c.read.new.buf ≡ k = c.read.auto.buf ∙ length-take-le k (drop s.held buf) (omega (arith, length-drop s.held buf)) in
-    read-chunk buf c.read.new.buf s _ c.in-Ok.n (omega arith) l c.in-Ok.ensures.bound.0 (omega arith) c.after_read.ensures
+    read-chunk buf c.read.new.buf s _ c.in_ok-n.n (omega arith) l c.in_ok-n.ensures.bound.0 (omega arith) c.after_read.ensures

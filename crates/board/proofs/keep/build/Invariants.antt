@@ -1,5 +1,4 @@
--- `board::keep::build` meets its contract: between two turns the loop knows what a run from there on adds to. The measure is the number of turns that
--- are left. Assumes nothing.
+-- `board::keep::build` meets its contract: between two turns the loop knows what a run from there on adds to.  Assumes nothing.
 use mathlib.Core.Path.{◌≡◌}
 use lib.ListN.{length}
 use Rattle.files.specs.Window.{begin}
@@ -7,8 +6,5 @@ use Rattle.files.specs.Loading.{LoadAhead}
 use Rattle.board.specs.Turn.{LoadReady}
 use Rattle.board.proofs.keep.build.Given as goal
 
-abbrev pub invariant-loop-turns : goal.invariant-loop-turns
-invariant-loop-turns l = (length l.t ≡ length l.initial.t) × (length l.input ≡ 65536) × LoadAhead l.initial.input l.initial.t begin l.input l.t l.s × LoadReady l.input l.s
-
-abbrev pub decreases-loop-turns : goal.decreases-loop-turns
-decreases-loop-turns l = l.turns
+abbrev pub invariant-loop : goal.invariant-loop
+invariant-loop l = (length l.t ≡ length l.initial.t) × (length l.input ≡ 65536) × LoadAhead l.initial.input l.initial.t begin l.input l.t l.s × LoadReady l.input l.s

@@ -5,35 +5,19 @@ use Rattle.exports.proofs.CodeLaws.{entry-from, entry-behind, entry-fits}
 use Rattle.exports.proofs.calls.next_entry.Goals as goal
 
 pub overflow_sub-n : goal.overflow_sub-n
-overflow_sub-n c =
-    omega (arith, entry-behind _ _ _ _ _ (rw c.in-Whole.is at c.next_entry-a.ensures))
+overflow_sub-n c = omega (arith, entry-behind _ _ _ _ _ (rw (c.in-Ok-Some.is, c.in-Ok-Some.field-0-is) at c.next_entry.ensures))
 
 pub overflow_add-result : goal.overflow_add-result
-overflow_add-result c =
-    record { fits = entry-fits _ _ _ _ _ (rw c.in-Whole.is at c.next_entry-a.ensures) (omega (arith, c.well_formed.0.1)) }
+overflow_add-result c = record { fits = entry-fits _ _ _ _ _ (rw (c.in-Ok-Some.is, c.in-Ok-Some.field-0-is) at c.next_entry.ensures) (omega (arith, c.well_formed.0.1)) }
 
-pub overflow_sub-n-in-End : goal.overflow_sub-n-in-End
-overflow_sub-n-in-End c =
-    omega (arith, entry-behind _ _ _ _ _ (rw c.in-End.is at c.next_entry-a.ensures))
-
-pub overflow_add-result-in-End : goal.overflow_add-result-in-End
-overflow_add-result-in-End c =
-    record { fits = entry-fits _ _ _ _ _ (rw c.in-End.is at c.next_entry-a.ensures) (omega (arith, c.well_formed.0.1)) }
-
-pub returns-in-Whole : goal.returns-in-Whole
+pub returns-in-Ok-Some : goal.returns-in-Ok-Some
 unfolding told
-returns-in-Whole c =
-    rw (← (entry-from _ _ _ _ c.next_entry-a.ensures), c.in-Whole.is, c.entry.ensures)
+returns-in-Ok-Some c = rw (← (entry-from _ _ _ _ c.next_entry.ensures), c.in-Ok-Some.is, c.in-Ok-Some.field-0-is, c.entry.ensures)
 
-pub returns-in-End : goal.returns-in-End
+pub returns-in-Ok-None : goal.returns-in-Ok-None
 unfolding told
-returns-in-End c =
-    rw (← (entry-from _ _ _ _ c.next_entry-a.ensures), c.in-End.is, c.end.ensures)
+returns-in-Ok-None c = rw (← (entry-from _ _ _ _ c.next_entry.ensures), c.in-Ok-None.is, c.in-Ok-None.field-0-is)
 
-pub returns-in-More : goal.returns-in-More
+pub returns-in-Err : goal.returns-in-Err
 unfolding told
-returns-in-More c = rw (← (entry-from _ _ _ _ c.next_entry-a.ensures), c.in-More.is)
-
-pub returns-in-Refused : goal.returns-in-Refused
-unfolding told
-returns-in-Refused c = rw (← (entry-from _ _ _ _ c.next_entry-a.ensures), c.in-Refused.is)
+returns-in-Err c = rw (← (entry-from _ _ _ _ c.next_entry.ensures), c.in-Err.is, c.from.ensures)

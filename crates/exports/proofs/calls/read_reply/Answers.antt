@@ -7,36 +7,16 @@ use Rattle.exports.proofs.CodeLaws.{whole-fits}
 use Rattle.exports.proofs.calls.read_reply.Goals as goal
 
 pub overflow_add-result : goal.overflow_add-result
-overflow_add-result c =
-    record { fits = whole-fits _ (reply_laws _) _ (omega (arith, c.well_formed.0.1)) reply_at _ _ (rw c.in-Whole.is at c.read_reply-a.ensures) }
+overflow_add-result c = record { fits = whole-fits _ (reply_laws _) _ (omega (arith, c.well_formed.0.1)) reply_at _ _ (rw (c.in-Ok-Some.is, c.in-Ok-Some.field-0-is) at c.read_reply.ensures) }
 
-pub overflow_add-result-in-Statistics : goal.overflow_add-result-in-Statistics
-overflow_add-result-in-Statistics c =
-    record { fits = whole-fits _ (reply_laws _) _ (omega (arith, c.well_formed.0.1)) reply_at _ _ (rw c.in-Statistics.is at c.read_reply-a.ensures) }
-
-pub overflow_add-result-in-Entries : goal.overflow_add-result-in-Entries
-overflow_add-result-in-Entries c =
-    record { fits = whole-fits _ (reply_laws _) _ (omega (arith, c.well_formed.0.1)) reply_at _ _ (rw c.in-Entries.is at c.read_reply-a.ensures) }
-
-pub returns-in-Whole : goal.returns-in-Whole
+pub returns-in-Ok-Some : goal.returns-in-Ok-Some
 unfolding told
-returns-in-Whole c =
-    rw (← c.read_reply-a.ensures, c.in-Whole.is, c.reply.ensures)
+returns-in-Ok-Some c = rw (← c.read_reply.ensures, c.in-Ok-Some.is, c.in-Ok-Some.field-0-is, c.reply.ensures)
 
-pub returns-in-Statistics : goal.returns-in-Statistics
+pub returns-in-Ok-None : goal.returns-in-Ok-None
 unfolding told
-returns-in-Statistics c =
-    rw (← c.read_reply-a.ensures, c.in-Statistics.is, c.statistics.ensures)
+returns-in-Ok-None c = rw (← c.read_reply.ensures, c.in-Ok-None.is, c.in-Ok-None.field-0-is)
 
-pub returns-in-Entries : goal.returns-in-Entries
+pub returns-in-Err : goal.returns-in-Err
 unfolding told
-returns-in-Entries c =
-    rw (← c.read_reply-a.ensures, c.in-Entries.is, c.entries.ensures)
-
-pub returns-in-More : goal.returns-in-More
-unfolding told
-returns-in-More c = rw (← c.read_reply-a.ensures, c.in-More.is)
-
-pub returns-in-Refused : goal.returns-in-Refused
-unfolding told
-returns-in-Refused c = rw (← c.read_reply-a.ensures, c.in-Refused.is)
+returns-in-Err c = rw (← c.read_reply.ensures, c.in-Err.is, c.from.ensures)

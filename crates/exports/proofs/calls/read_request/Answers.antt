@@ -7,18 +7,16 @@ use Rattle.exports.proofs.CodeLaws.{whole-fits}
 use Rattle.exports.proofs.calls.read_request.Goals as goal
 
 pub overflow_add-result : goal.overflow_add-result
-overflow_add-result c =
-    record { fits = whole-fits _ request_laws _ (omega (arith, c.well_formed.0.1)) request_at _ _ (rw c.in-Whole.is at c.read_request-a.ensures) }
+overflow_add-result c = record { fits = whole-fits _ request_laws _ (omega (arith, c.well_formed.0.1)) request_at _ _ (rw (c.in-Ok-Some.is, c.in-Ok-Some.field-0-is) at c.read_request.ensures) }
 
-pub returns-in-Whole : goal.returns-in-Whole
+pub returns-in-Ok-Some : goal.returns-in-Ok-Some
 unfolding told
-returns-in-Whole c =
-    rw (← c.read_request-a.ensures, c.in-Whole.is, c.request.ensures)
+returns-in-Ok-Some c = rw (← c.read_request.ensures, c.in-Ok-Some.is, c.in-Ok-Some.field-0-is, c.request.ensures)
 
-pub returns-in-More : goal.returns-in-More
+pub returns-in-Ok-None : goal.returns-in-Ok-None
 unfolding told
-returns-in-More c = rw (← c.read_request-a.ensures, c.in-More.is)
+returns-in-Ok-None c = rw (← c.read_request.ensures, c.in-Ok-None.is, c.in-Ok-None.field-0-is)
 
-pub returns-in-Refused : goal.returns-in-Refused
+pub returns-in-Err : goal.returns-in-Err
 unfolding told
-returns-in-Refused c = rw (← c.read_request-a.ensures, c.in-Refused.is)
+returns-in-Err c = rw (← c.read_request.ensures, c.in-Err.is, c.from.ensures)

@@ -1,22 +1,29 @@
 -- `exports::calls::serve_lines` meets its contract. Assumes nothing.
--- the call before an arm of the match
 use mathlib.Core.Path.{◌≡◌, refl, sym, ap, ◌∙◌}
 use mathlib.Core.List.{List}
+use mathlib.Core.Bool.{Bool, true, false}
+use mir.Val.{bool_byte}
 use Prim.Native.Nat.{ℕ}
-use Rattle.server.specs.declared.Served.{Served}
-use Rattle.exports.specs.Calls.{served_code, served_told}
+use Rattle.std.specs.Prelude.{Result}
+use Rattle.field.specs.declared.refusals.Refusal.{Refusal}
+use Rattle.server.specs.declared.Fed.{Fed}
+use Rattle.exports.specs.Calls.{bit, done_code, served_told}
 use Rattle.exports.proofs.CodeLaws.{told_third}
 use Rattle.exports.proofs.calls.serve_lines.Goals as goal
 
 -- its answer, told
-tells : (a : Served) {b : Served} → a ≡ b → (old new : List ℕ) → new ≡ served_told b old → new ≡ served_told a old
-tells a e old new t =
-    t ∙ sym (ap (λ (c : Served). served_told c old) e)
+tells : (a : Result Fed Refusal) {b : Result Fed Refusal} → a ≡ b → (old new : List ℕ) → new ≡ served_told b old → new ≡ served_told a old
+tells a e old new t = t ∙ sym (ap (λ (c : Result Fed Refusal). served_told c old) e)
 
-pub returns-in-Fed : goal.returns-in-Fed
-returns-in-Fed c =
-    record { answer = _; serves = c.serve_lines-r.ensures; told = tells _ c.in-Fed.is _ _ (told_third _ _ _ c.bit-p.ensures c.numbers.ensures); code = sym (ap served_code c.in-Fed.is) }
+-- a flag as a byte
+byte-bit : (b : Bool) → bool_byte b ≡ bit b
+byte-bit true = refl
+byte-bit false = refl
 
-pub returns-in-Refused : goal.returns-in-Refused
-returns-in-Refused c =
-    record { answer = _; serves = c.serve_lines-r.ensures; told = tells _ c.in-Refused.is _ _ refl; code = sym (ap served_code c.in-Refused.is) }
+pub returns-in-Ok : goal.returns-in-Ok
+returns-in-Ok c =
+    record { answer = _; serves = c.serve_lines.ensures; told = tells _ c.in-Ok.is _ _ (told_third _ _ _ (c.from-passing.ensures ∙ byte-bit _) c.numbers.ensures); code = sym (ap done_code c.in-Ok.is) }
+
+pub returns-in-Err : goal.returns-in-Err
+returns-in-Err c =
+    record { answer = _; serves = c.serve_lines.ensures; told = tells _ c.in-Err.is _ _ refl; code = c.from.ensures ∙ sym (ap done_code c.in-Err.is) }

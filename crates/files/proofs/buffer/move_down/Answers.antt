@@ -1,21 +1,9 @@
--- `files::buffer::move_down` meets its contract. The loop's invariant: the bytes up to i are moved. Assumes nothing.
-use mathlib.Core.Path.{◌≡◌, refl}
-use Prim.Native.Nat.{◌+◌, ◌-◌}
+-- `files::buffer::move_down` meets its contract. Assumes nothing.
+use mathlib.Core.Path.{◌∙◌}
+use Prim.Native.Nat.{◌-◌}
 use native.Mathlib.Omega.{arith}
-use lib.ListN.{length-set}
-use Rattle.table.proofs.Parts.{shift_more}
+use Rattle.table.proofs.Shifts.{moved}
 use Rattle.files.proofs.buffer.move_down.Goals as goal
 
-pub loop-i-init : goal.loop-i-init
-loop-i-init c = (omega arith, refl, refl)
-
-pub loop-i-preserved : goal.loop-i-preserved
-loop-i-preserved c =
-    let s = c.args in
-    let e : 0 + c.loop-i.i ≡ c.loop-i.i = omega arith in
-    (omega arith, simp length-set (omega arith), cc (shift_more s.buf.now 0 s.from c.loop-i.i (omega arith) (omega arith)))
-
-pub returns : goal.returns
-returns c =
-    let e : c.loop-i.i ≡ c.args.held - c.args.from = omega arith in
-    record { value = refl; buf_after = cc }
+pub returns-clause-buf_after : goal.returns-clause-buf_after
+returns-clause-buf_after c = c.copy_within.ensures.after ∙ moved c.args.buf.now c.args.from (c.args.held - c.args.from) 0 (omega (arith, c.requires.from_le_held, c.requires.held_in_bounds)) (omega (arith, c.requires.from_le_held, c.requires.held_in_bounds))

@@ -1,39 +1,34 @@
 -- `hexadecimal::scan::find` meets its contract: the bytes passed are none of them b. Assumes nothing.
-use mathlib.Core.Path.{◌≡◌, refl, ◌∙◌}
-use mathlib.Core.List.{List}
-use Prim.Native.Nat.{ℕ, suc, ◌+◌, ◌<◌}
-use native.Mathlib.Omega.{arith}
-use native.Mathlib.Numerals.{add-one}
-use lib.ListN.{length, drop, get_or, drop_of_length-le}
-use lib.Seq.{drop-cons}
-use lib.Dec.{eqb}
+use Rattle.std.proofs.Common.{◌≡◌, ℕ, ◌+◌, ◌-◌, List, [], ◌∷◌, length, take, drop, length-drop, refl, rules, tests, arith}
+use lib.Seq.{take_all}
 use borrow.Author.Tests.{eq-eqb, ne_eqb}
+use Rattle.std.proofs.lemmas.List.{at_drop_all}
+use Rattle.std.proofs.lemmas.Iterator.{YieldsList-from_slice, IsFirst-from_position, index_from_first}
 use Rattle.hexadecimal.specs.Scan.{index_of, index_after}
 use Rattle.hexadecimal.proofs.scan.find.Goals as goal
 
-at_index : (v : ℕ) (s : List ℕ) (i : ℕ) → i < length s → index_of v (drop i s) ≡ index_after (eqb (get_or s i 0) v) (index_of v (drop (suc i) s))
+none : (b : ℕ) → index_of b [] ≡ 0
 unfolding index_of
-at_index v s i h = rw (drop-cons {A = ℕ} s i 0 h)
+none b = refl
 
-pub loop-i-init : goal.loop-i-init
-loop-i-init c = refl
+hit : (b x : ℕ) (xs : List ℕ) → x ≡ b → index_of b (x ∷ xs) ≡ 0
+unfolding index_of index_after
+hit b x xs e = rw (eq-eqb x b e)
 
-pub returns-then-s-i : goal.returns-then-s-i
-unfolding index_after
-returns-then-s-i c =
-    let e : index_of c.args.b (drop c.loop-i.i c.args.s.now) ≡ 0 = at_index _ _ _ c.loop-i-test.true ∙ rw (eq-eqb _ _ c.if-s-i.true) in
-    omega (arith, c.loop-i.invariant, e)
+miss : (b x : ℕ) (xs : List ℕ) → (x ≡ b → ⊥) → index_of b (x ∷ xs) ≡ index_of b xs + 1
+unfolding index_of index_after
+miss b x xs e = rw (ne_eqb x b e) (omega arith)
 
-pub loop-i-preserved : goal.loop-i-preserved
-unfolding index_after
-loop-i-preserved c =
-    let i = c.loop-i.i in
-    let e : index_of c.args.b (drop i c.args.s.now) ≡ suc (index_of c.args.b (drop (i + 1) c.args.s.now)) =
-    at_index _ _ _ c.loop-i-test.true ∙ rw (ne_eqb _ _ c.if-s-i.false, add-one) in
-    omega (arith, c.loop-i.invariant, e)
+from_rest : (b from n : ℕ) (s rest : List ℕ) → rest ≡ take (length s - from) (drop from s) → index_of b rest ≡ n → from + n ≡ from + index_of b (drop from s)
+from_rest b from n s rest r e = rw (← e, r, take_all (length s - from) (drop from s) (simp length-drop (omega arith)))
+
+pub returns-in_default : goal.returns-in_default
+returns-in_default c =
+    let h = c.in_default.ensures.lookup.0 in
+    omega (arith, none c.args.b, at_drop_all (index_of c.args.b) c.args.s.now c.args.from (omega arith))
 
 pub returns : goal.returns
-unfolding index_of
 returns c =
-    let e : index_of c.args.b (drop c.loop-i.i c.args.s.now) ≡ 0 = rw (drop_of_length-le _ c.loop-i-test.false) in
-    omega (arith, c.loop-i.invariant, e)
+    let p = IsFirst-from_position _ _ _ (λ x. x ≡ c.args.b) (λ x. x ≡ c.args.b → ⊥) c.position.ensures.ran (YieldsList-from_slice c.in-Some.rest.now cc) (λ x q k. search (rules, tests)) (λ x q k. search (rules, tests)) in
+    let e = index_from_first (index_of c.args.b) (λ x. x ≡ c.args.b) (λ x. x ≡ c.args.b → ⊥) (none c.args.b) (hit c.args.b) (miss c.args.b) c.in-Some.rest.now c.position.result p in
+    rw c.unwrap_or.ensures (from_rest c.args.b c.args.from _ c.args.s.now c.in-Some.rest.now c.in-Some.ensures.lookup.0.2 e)

@@ -1,10 +1,6 @@
 -- `listing::put::all_short` meets its contract. The loop's invariant: those before i have a written form. Assumes nothing.
-use Prim.Native.Nat.{◌-◌, ◌≤◌}
 use Rattle.listing.proofs.Writing.{Judged}
 use Rattle.listing.proofs.put.all_short.Given as goal
 
 abbrev pub invariant-loop-i : goal.invariant-loop-i
-invariant-loop-i l = Judged l.numbers l.i × (l.i ≤ l.n)
-
-abbrev pub decreases-loop-i : goal.decreases-loop-i
-decreases-loop-i l = l.n - l.i
+invariant-loop-i l = Judged l.numbers l.i

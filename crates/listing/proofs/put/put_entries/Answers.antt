@@ -1,69 +1,36 @@
 -- `listing::put::put_entries` meets its contract: it judges, measures where that is needed, and then writes. Assumes nothing.
--- the numbers tell that they have a written form and room
-use mathlib.Core.Path.{◌≡◌, sym, ap, ◌∙◌}
 use native.Mathlib.Omega.{arith}
-use lib.ListN.{length}
-use Rattle.wire.specs.Codec.{Valid}
-use Rattle.wire.specs.Write.{Room}
 use Rattle.wire.proofs.WriteLaws.{put-broken, put-short, put-done}
 use Rattle.message.specs.Listing.{listing}
-use Rattle.listing.specs.EntryWrite.{listed_in, as_size}
 use Rattle.listing.proofs.Writing.{length_some, length_none, sure}
 use Rattle.listing.proofs.put.put_entries.Goals as goal
 
--- they have a written form, of so many bytes
-
-pub put_all-requires : goal.put_all-requires
-put_all-requires c = let t = (let told' : let a = c.args in
-    let xs = listed_in a.bytes.now a.numbers.now in
-    Valid (listing a.values) xs × Room (listing a.values) xs a.at a.out.now = let a = c.args in
-    sure a.bytes.now a.numbers.now a.values a.at a.out.now (λ i. omega (arith, c.shared_slice_known-1.given i)) (c.is_sure.ensures c.if-is_sure.true) in told') in record { valid = t.0; room = t.1 }
+pub put_all-requires-clause-room : goal.put_all-requires-clause-room
+put_all-requires-clause-room c = (sure _ _ _ _ _ (λ i. omega (arith, c.type_inv.bytes i)) (c.is_sure.ensures c.if-is_sure.true)).1
 
 pub returns-then-is_sure : goal.returns-then-is_sure
-returns-then-is_sure c = let t = (let told' : let a = c.args in
-    let xs = listed_in a.bytes.now a.numbers.now in
-    Valid (listing a.values) xs × Room (listing a.values) xs a.at a.out.now = let a = c.args in
-    sure a.bytes.now a.numbers.now a.values a.at a.out.now (λ i. omega (arith, c.shared_slice_known-1.given i)) (c.is_sure.ensures c.if-is_sure.true) in told') in
+returns-then-is_sure c =
+    let t = sure c.args.bytes.now c.args.numbers.now c.args.values c.args.at c.args.out.now (λ i. omega (arith, c.type_inv.bytes i)) (c.is_sure.ensures c.if-is_sure.true) in
     put-done (listing _) _ _ _ t.0 t.1 _ _ c.put_all.ensures
 
 pub returns-in_default : goal.returns-in_default
-returns-in_default c = put-broken (listing _) _ _ _ (length_none (listing _) _ (ap as_size (sym c.in_default.is) ∙ c.entries_len-s.ensures))
+returns-in_default c = put-broken (listing _) _ _ _ (length_none (listing _) _ c.in_default.ensures)
 
 pub returns-then-out-at : goal.returns-then-out-at
-returns-then-out-at c = put-short (listing _) _ _ _ ((let good' : let a = c.args in
-    let xs = listed_in a.bytes.now a.numbers.now in
-    Valid (listing a.values) xs × (length ((listing a.values).enc xs) ≡ c.in-Bytes.size) = length_some (listing _) _ _ (ap as_size (sym c.in-Bytes.is) ∙ c.entries_len-s.ensures) in good')).0 (omega arith)
+returns-then-out-at c = put-short (listing _) _ _ _ (length_some (listing _) _ _ c.in-Some.ensures).0 (omega arith)
 
 pub returns-then-out-at-2 : goal.returns-then-out-at-2
-returns-then-out-at-2 c = let g = (let good' : let a = c.args in
-    let xs = listed_in a.bytes.now a.numbers.now in
-    Valid (listing a.values) xs × (length ((listing a.values).enc xs) ≡ c.in-Bytes.size) = length_some (listing _) _ _ (ap as_size (sym c.in-Bytes.is) ∙ c.entries_len-s.ensures) in good') in put-short (listing _) _ _ _ g.0 (omega (arith, g.1, c.if-out-at-2.true, c.if-out-at.false))
+returns-then-out-at-2 c =
+    let g = length_some (listing c.args.values) _ _ c.in-Some.ensures in
+    put-short (listing _) _ _ _ g.0 (omega (arith, g.1))
 
-pub put_all-requires-2 : goal.put_all-requires-2
-put_all-requires-2 c = record {
-  valid = ((let good' : let a = c.args in
-      let xs = listed_in a.bytes.now a.numbers.now in
-      Valid (listing a.values) xs × (length ((listing a.values).enc xs) ≡ c.in-Bytes.size) = length_some (listing _) _ _ (ap as_size (sym c.in-Bytes.is) ∙ c.entries_len-s.ensures) in good')).0;
-  room = (let room' : let a = c.args in
-      Room (listing a.values) (listed_in a.bytes.now a.numbers.now) a.at a.out.now = omega (
-        arith,
-        ((let good' : let a = c.args in
-            let xs = listed_in a.bytes.now a.numbers.now in
-            Valid (listing a.values) xs × (length ((listing a.values).enc xs) ≡ c.in-Bytes.size) = length_some (listing _) _ _ (ap as_size (sym c.in-Bytes.is) ∙ c.entries_len-s.ensures) in good')).1,
-        c.if-out-at-2.false,
-        c.if-out-at.false,
-      ) in room');
-}
+pub put_all-requires-2-clause-valid : goal.put_all-requires-2-clause-valid
+put_all-requires-2-clause-valid c = (length_some (listing _) _ _ c.in-Some.ensures).0
+
+pub put_all-requires-2-clause-room : goal.put_all-requires-2-clause-room
+put_all-requires-2-clause-room c = omega (arith, (length_some (listing c.args.values) _ _ c.in-Some.ensures).1)
 
 pub returns : goal.returns
-returns c = put-done (listing _) _ _ _ ((let good' : let a = c.args in
-    let xs = listed_in a.bytes.now a.numbers.now in
-    Valid (listing a.values) xs × (length ((listing a.values).enc xs) ≡ c.in-Bytes.size) = length_some (listing _) _ _ (ap as_size (sym c.in-Bytes.is) ∙ c.entries_len-s.ensures) in good')).0 ((let room' : let a = c.args in
-    Room (listing a.values) (listed_in a.bytes.now a.numbers.now) a.at a.out.now = omega (
-      arith,
-      ((let good' : let a = c.args in
-          let xs = listed_in a.bytes.now a.numbers.now in
-          Valid (listing a.values) xs × (length ((listing a.values).enc xs) ≡ c.in-Bytes.size) = length_some (listing _) _ _ (ap as_size (sym c.in-Bytes.is) ∙ c.entries_len-s.ensures) in good')).1,
-      c.if-out-at-2.false,
-      c.if-out-at.false,
-    ) in room')) _ _ c.put_all-2.ensures
+returns c =
+    let g = length_some (listing c.args.values) _ _ c.in-Some.ensures in
+    put-done (listing _) _ _ _ g.0 (omega (arith, g.1, c.if-out-at.false, c.if-out-at-2.false)) _ _ c.put_all-2.ensures

@@ -11,7 +11,7 @@ use Rattle.table.specs.Memory.{state_of}
 use Rattle.table.proofs.Changes.{cleared-changed}
 use Rattle.plan.specs.Plan.{as_change}
 use Rattle.server.specs.Act.{Agreed}
-use Rattle.server.proofs.StepLaws.{storable, replaced-is, same-table, version-left}
+use Rattle.server.proofs.StepLaws.{storable, replaced-is, version-left}
 use Rattle.server.proofs.act.change.Goals as goal
 
 pub deadline-until-requires : goal.deadline-until-requires
@@ -24,9 +24,6 @@ store-requires c =
     -- the store that was agreed on
     let g : Agreed c.args.t.now q c.args.held store = rw (ap as_change c.in-Store.is) at c.requires in
     rw (c.key_in.ensures, c.value_in.ensures) (storable q _ g.sound g.valid g.left g.holds (version-left _ _ g.free))
-
-pub returns-in-Keep : goal.returns-in-Keep
-returns-in-Keep c = rw c.in-Keep.is (same-table _ c.requires.sound)
 
 pub returns-in-Store : goal.returns-in-Store
 returns-in-Store c =

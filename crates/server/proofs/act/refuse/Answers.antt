@@ -4,4 +4,4 @@ use Rattle.server.proofs.act.refuse.Goals as goal
 
 pub returns : goal.returns
 returns c =
-    error-sent c.args.k c.args.id c.requires.le_k c.requires.k_bound c.requires.id_bound c.requires.room_in_bounds c.write_error-w.ensures c.ended.ensures
+    error-sent c.args.refusal c.args.id c.requires.refusal_bound c.requires.id_bound c.requires.room_in_bounds (rw c.from.ensures at c.write_error-w.ensures) c.ended.ensures

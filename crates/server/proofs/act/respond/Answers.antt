@@ -5,4 +5,4 @@ use Rattle.server.proofs.act.respond.Goals as goal
 
 pub returns : goal.returns
 returns c name key value g =
-    reply-sent (as_context c.args.context) g _ c.requires.admissible c.requires.op_in_bounds (c.write-w.ensures name key value c.requires.op_in_bounds g) c.ended.ensures
+    reply-sent (as_context c.args.context) g _ c.args.context.admissible c.requires.room_in_bounds (c.write-w.ensures name key value c.requires.room_in_bounds g) c.ended.ensures

@@ -1,8 +1,7 @@
 -- `server::act::serve_sound` meets its contract: what is read says what the call does. Assumes nothing.
-use mathlib.Core.Path.{◌≡◌, refl}
+use mathlib.Core.Path.{refl}
 use native.Mathlib.Omega.{arith}
-use Rattle.wire.specs.Codec.{Bytes, whole, refused}
-use Rattle.message.specs.Request.{request, request_in}
+use borrow.Author.Rules.{rules}
 use Rattle.message.proofs.RequestLaws.{request_laws}
 use Rattle.message.proofs.Refusals.{refusals}
 use Rattle.request_reader.proofs.Spans.{request-in}
@@ -11,26 +10,31 @@ use Rattle.service.proofs.Ids.{id-small}
 use Rattle.server.proofs.StepLaws.{does, does-still, serves-read}
 use Rattle.server.proofs.act.serve_sound.Goals as goal
 
--- what is read
+pub perform_within-requires-clause-valid : goal.perform_within-requires-clause-valid
+perform_within-requires-clause-valid c =
+    (request_laws.exact _ _ _ (λ i. search rules) (request-in _ (λ i. search rules) _ _ c.read_request.ensures (rw c.in-Ok-Some.field-0-is at c.in-Ok-Some.is))).good
 
-pub perform_within-requires : goal.perform_within-requires
-perform_within-requires c = record { given = record { sound = c.requires.sound; room = c.requires.room_in_bounds; context = c.requires.admissible }; valid = (request_laws.exact _ _ _ ((let bytes' : Bytes c.args.input.now = λ i. omega (arith, c.shared_slice_known-1.given i) in bytes')) ((let found' : request.dec c.args.input.now ≡ whole (request_in c.args.input.now c.in-Whole.r) c.in-Whole.n = request-in _ ((let bytes' : Bytes c.args.input.now = λ i. omega (arith, c.shared_slice_known-1.given i) in bytes')) _ _ c.read_request-q.ensures c.in-Whole.is in found'))).good }
+pub refuse-requires-clause-id_bound : goal.refuse-requires-clause-id_bound
+refuse-requires-clause-id_bound c = rw c.read_id.ensures (id-small c.args.input.now (λ i. search rules))
 
-pub returns-in-Whole : goal.returns-in-Whole
+pub refuse-requires-clause-refusal_bound : goal.refuse-requires-clause-refusal_bound
+refuse-requires-clause-refusal_bound c =
+    let small = refusals _ _ (request-in _ (λ i. search rules) _ _ c.read_request.ensures c.in-Err.is) in omega (arith, small.1)
+
+pub returns-in-Ok-Some : goal.returns-in-Ok-Some
 unfolding on_read within
-returns-in-Whole c =
-    serves-read _ _ _ _ c.requires.sound c.requires.room_in_bounds ((let found' : request.dec c.args.input.now ≡ whole (request_in c.args.input.now c.in-Whole.r) c.in-Whole.n = request-in _ ((let bytes' : Bytes c.args.input.now = λ i. omega (arith, c.shared_slice_known-1.given i) in bytes')) _ _ c.read_request-q.ensures c.in-Whole.is in found')) c.perform_within.ensures
+returns-in-Ok-Some c =
+    serves-read _ _ _ _ c.requires.sound c.requires.room_in_bounds
+    (request-in _ (λ i. search rules) _ _ c.read_request.ensures (rw c.in-Ok-Some.field-0-is at c.in-Ok-Some.is)) c.perform_within.ensures
 
-pub returns-in-More : goal.returns-in-More
+pub returns-in-Ok-None : goal.returns-in-Ok-None
 unfolding on_read within
-returns-in-More c =
-    serves-read _ _ _ _ c.requires.sound c.requires.room_in_bounds (request-in _ ((let bytes' : Bytes c.args.input.now = λ i. omega (arith, c.shared_slice_known-1.given i) in bytes')) _ _ c.read_request-q.ensures c.in-More.is) (does-still c.unsent.ensures)
+returns-in-Ok-None c =
+    serves-read _ _ _ _ c.requires.sound c.requires.room_in_bounds
+    (request-in _ (λ i. search rules) _ _ c.read_request.ensures (rw c.in-Ok-None.field-0-is at c.in-Ok-None.is)) (does-still c.unsent.ensures)
 
-pub refuse-requires : goal.refuse-requires
-refuse-requires c =
-    let k = refusals _ _ ((let refusal' : request.dec c.args.input.now ≡ refused c.in-Refused.k = request-in _ ((let bytes' : Bytes c.args.input.now = λ i. omega (arith, c.shared_slice_known-1.given i) in bytes')) _ _ c.read_request-q.ensures c.in-Refused.is in refusal')) in record { room_in_bounds = c.requires.room_in_bounds; id_bound = rw c.read_id.ensures (id-small _ ((let bytes' : Bytes c.args.input.now = λ i. omega (arith, c.shared_slice_known-1.given i) in bytes'))); le_k = k.0; k_bound = omega (arith, k.1) }
-
-pub returns-in-Refused : goal.returns-in-Refused
+pub returns-in-Err : goal.returns-in-Err
 unfolding on_read within
-returns-in-Refused c =
-    serves-read _ _ _ _ c.requires.sound c.requires.room_in_bounds ((let refusal' : request.dec c.args.input.now ≡ refused c.in-Refused.k = request-in _ ((let bytes' : Bytes c.args.input.now = λ i. omega (arith, c.shared_slice_known-1.given i) in bytes')) _ _ c.read_request-q.ensures c.in-Refused.is in refusal')) (does (rw c.read_id.ensures at c.refuse.ensures) refl)
+returns-in-Err c =
+    serves-read _ _ _ _ c.requires.sound c.requires.room_in_bounds (request-in _ (λ i. search rules) _ _ c.read_request.ensures c.in-Err.is)
+    (does (rw c.read_id.ensures at c.refuse.ensures) refl)

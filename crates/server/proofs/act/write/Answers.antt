@@ -2,8 +2,7 @@
 use mathlib.Core.Bool.{true, false}
 use Rattle.message.proofs.RequestParts.{parts}
 use Rattle.server.specs.CallDone.{as_context}
-use Rattle.server.proofs.SendLaws.{plain-tags, stats-sent, bulk-sent, bulk-room}
-use borrow.Enum.Refused.{opened}
+use Rattle.server.proofs.SendLaws.{plain-op, stats-sent, bulk-sent, bulk-room}
 use Rattle.server.proofs.act.write.Goals as goal
 
 pub returns-in-Stats : goal.returns-in-Stats
@@ -21,5 +20,4 @@ returns-in-BulkGetKeys c name key value l g =
     (c.write_bulk-in-BulkGetKeys.ensures g.sound (parts _ g.valid).id (bulk-room false c.args.h.op c.in-BulkGetKeys.is l))
 
 pub returns-in_default : goal.returns-in_default
-returns-in_default c name key value l g =
-    c.write_held.ensures (as_context c.args.context) name key value (plain-tags c.args.h.op (opened c.in_default.in_default-own.keys4)) g
+returns-in_default c name key value l g = c.write_held.ensures (as_context c.args.context) name key value (plain-op _ c.in_default.not-Stats c.in_default.not-BulkGet c.in_default.not-BulkGetKeys) g

@@ -5,7 +5,6 @@ use mathlib.Core.Bool.{Bool}
 use Prim.Native.Nat.{ℕ, ◌≤◌, ◌<◌}
 use native.Mathlib.Omega.{arith}
 use lib.ListN.{length, get_or}
-use borrow.Author.Rules.{rules}
 use Rattle.wire.specs.Codec.{byte}
 use Rattle.wire.proofs.ListedEnc.{listed-few}
 use Rattle.wire.proofs.ListedWrite.{begun, on-valid, on_room, on, end-room, written}
@@ -32,31 +31,27 @@ module _ {values : Bool} {n m : ℕ} {t : List ℕ} {at : ℕ} {old : List ℕ} 
 
 pub loop-i-init : goal.loop-i-init
 unfolding listing
-loop-i-init c = ((λ n g. begun _ _ _ _ _ g.valid), (omega arith, refl))
+loop-i-init c n g = begun _ _ _ _ _ g.valid
 
 pub loop-i-preserved : goal.loop-i-preserved
 unfolding listing
-loop-i-preserved c =
+loop-i-preserved c n g =
     let a = c.args in
     let i = c.loop-i.i in
-    let d = pair_of a.values (entry [] [] 0 0) in (
-      (λ n g.
-          let b = c.loop-i.invariant.0 n g in
-          let f = few a.values n _ _ _ _ g in
-          let w = within g i c.loop-i-test.true in
-          let p = pair g i c.loop-i-test.true in
-          let v = on-valid (item_of a.values) 128 _ f d i w _ _ _ _ b in
-          let r = on_room (item_of a.values) 128 _ f d i w _ _ _ _ b g.room in
-          on (item_of a.values) 128 _ f d i w _ _ _ _ b _ _
-          (rw p (c.put_entry-here.ensures (rw p at v) (rw p at r)))),
-      (omega (arith, c.loop-i-test.true), search rules),
-    )
+    let d = pair_of a.values (entry [] [] 0 0) in
+    let b = c.loop-i.invariant n g in
+    let f = few a.values n _ _ _ _ g in
+    let w = within g i c.loop-i-test.true in
+    let p = pair g i c.loop-i-test.true in
+    let v = on-valid (item_of a.values) 128 _ f d i w _ _ _ _ b in
+    let r = on_room (item_of a.values) 128 _ f d i w _ _ _ _ b g.room in
+    on (item_of a.values) 128 _ f d i w _ _ _ _ b _ _ (rw p (c.put_entry-here.ensures (rw p at v) (rw p at r)))
 
 pub returns : goal.returns
 unfolding listing byte
 returns c n g =
     let a = c.args in
-    let b = c.loop-i.invariant.0 n g in
-    let i : c.loop-i.i ≡ length (listed_pairs a.values n (state_of a.t.now)) = omega (arith, c.loop-i-test.false, c.loop-i.invariant.1.0, g.many, listed-long n a.t.now a.values) in
+    let b = c.loop-i.invariant n g in
+    let i : c.loop-i.i ≡ length (listed_pairs a.values n (state_of a.t.now)) = omega (arith, c.loop-i-test.false, c.loop-i.auto.i-end, g.many, listed-long n a.t.now a.values) in
     let r = end-room (item_of a.values) 128 _ c.loop-i.i i _ _ _ _ b g.room in
     written (item_of a.values) 128 _ c.loop-i.i i _ _ _ _ b _ _ (put-wrote byte 0 _ _ refl r _ _ c.put_byte.ensures)

@@ -6,7 +6,7 @@ use Rattle.server.proofs.TurnLaws.{Going}
 use Rattle.server.proofs.lines.feed.Given as goal
 
 abbrev pub invariant-loop-out : goal.invariant-loop-out
-invariant-loop-out l = Going l.last l.passing l.input l.initial.t l.initial.out l.t l.out l.taken l.size l.pass
+invariant-loop-out l = Going l.last l.fn.passing l.input l.initial.t l.initial.out l.t l.out l.taken l.size l.passing
 
 abbrev pub decreases-loop-out : goal.decreases-loop-out
 decreases-loop-out l = length l.input - l.taken

@@ -1,20 +1,9 @@
 -- `server::lines::line_sound` meets its contract: the form of the line, then its bytes. Assumes nothing.
-use mathlib.Core.Path.{subst}
-use Rattle.server.specs.Lines.{Formed}
-use Rattle.server.specs.declared.lines.LineRead.TheVariants as f
 use Rattle.server.proofs.LineLaws.{gives_as, gives_same, line-asks}
 use Rattle.server.proofs.lines.line_sound.Goals as goal
 
--- the form that was found
+pub returns-in-Some : goal.returns-in-Some
+returns-in-Some c = gives_as (line-asks _ _ (rw c.in-Some.is at c.read_form.ensures.form)) c.serve_frame.ensures
 
-pub serve_frame-requires : goal.serve_frame-requires
-serve_frame-requires c = record { sound = c.requires.sound; line_room_in_bounds = c.requires.line_room_in_bounds; admissible = ((let formed' : Formed c.args.line.now c.read_form-f.new.frame (f.Frame c.in-Frame.second c.in-Frame.n) = subst (Formed _ _) c.in-Frame.is c.read_form-f.ensures in formed')).within.1 }
-
-pub returns-in-Frame : goal.returns-in-Frame
-returns-in-Frame c =
-    gives_as (line-asks _ _ ((let formed' : Formed c.args.line.now c.read_form-f.new.frame (f.Frame c.in-Frame.second c.in-Frame.n) = subst (Formed _ _) c.in-Frame.is c.read_form-f.ensures in formed')).form) c.serve_frame.ensures
-
-pub returns-in-Bad : goal.returns-in-Bad
-returns-in-Bad c =
-    let e = subst (Formed _ _) c.in-Bad.is c.read_form-f.ensures in
-    gives_same (line-asks _ _ e.form) c.put_text.ensures
+pub returns-in-None : goal.returns-in-None
+returns-in-None c = gives_same (line-asks _ _ (rw c.in-None.is at c.read_form.ensures.form)) c.put_text.ensures

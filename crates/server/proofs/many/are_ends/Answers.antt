@@ -1,27 +1,22 @@
--- `server::many::are_ends` meets its contract: what is left of the list decides as the whole. The measure is what is left. Assumes nothing.
-use mathlib.Core.Path.{refl, sym, ◌∙◌}
-use native.Mathlib.Numerals.{add-one}
-use native.Mathlib.Omega.{arith}
-use Rattle.server.proofs.PartLaws.{ends_on, ends-below, ends_above, ends-end}
+-- `server::many::are_ends` meets its contract: each end is tested as the definition does. Assumes nothing.
+use mathlib.Core.Path.{sym, ◌∙◌}
+use borrow.Author.Tests.{le-leb, lt-leb}
+use Rattle.server.proofs.PartLaws.{ends_at, ends-end}
 use Rattle.server.proofs.many.are_ends.Goals as goal
-
-pub loop-i-init : goal.loop-i-init
-loop-i-init c = (omega arith, refl)
+use Rattle.server.proofs.many.are_ends.Goals.{then-end-start-via-then-end-start, then-end-start-via-else-end-start+then-n-end}
 
 pub returns-then-end-start : goal.returns-then-end-start
 returns-then-end-start c =
-    sym (c.loop-i.invariant.1 ∙ ends-below c.loop-i.start c.args.n c.loop-i.i c.args.ends.now c.loop-i-test.true c.if-end-start.true)
+    sym
+    (c.loop-end.invariant
+    ∙ (ends_at _ _ _ _ c.loop-end-test.true
+    ∙ elim c.then-end-start.branch [
+      | then-end-start-via-then-end-start w ↦ rw (lt-leb _ _ w.if-end-start.true)
+      | then-end-start-via-else-end-start+then-n-end w ↦ rw (le-leb _ _ w.if-end-start.false, lt-leb _ _ w.if-n-end.true)
+    ]))
 
-pub returns-then-n-end : goal.returns-then-n-end
-returns-then-n-end c =
-    sym (c.loop-i.invariant.1 ∙ ends_above c.loop-i.start c.args.n c.loop-i.i c.args.ends.now c.loop-i-test.true c.if-end-start.false c.if-n-end.true)
-
-pub loop-i-preserved : goal.loop-i-preserved
-loop-i-preserved c = (
-  omega (arith, c.loop-i-test.true),
-  rw add-one (c.loop-i.invariant.1 ∙ ends_on c.loop-i.start c.args.n c.loop-i.i c.args.ends.now c.loop-i-test.true c.if-end-start.false c.if-n-end.false),
-)
+pub loop-end-preserved : goal.loop-end-preserved
+loop-end-preserved c = c.loop-end.invariant ∙ (ends_at _ _ _ _ c.loop-end-test.true ∙ rw (le-leb _ _ c.if-end-start.false, le-leb _ _ c.if-n-end.false))
 
 pub returns : goal.returns
-returns c =
-    sym (c.loop-i.invariant.1 ∙ ends-end c.loop-i.start c.args.n c.loop-i.i c.args.ends.now c.loop-i-test.false)
+returns c = sym (c.loop-end.invariant ∙ ends-end _ _ _ _ c.loop-end-test.false)

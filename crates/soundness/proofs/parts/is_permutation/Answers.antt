@@ -1,5 +1,4 @@
 -- `soundness::parts::is_permutation` meets its contract. The loop's invariant: the rows marked are those that the places passed name. Assumes nothing.
-use Prim.Native.Nat.{◌+◌}
 use native.Mathlib.Omega.{arith}
 use Rattle.table.specs.Memory.{place_of}
 use Rattle.table.proofs.Lists.{says_yes, says_no}
@@ -8,9 +7,6 @@ use Rattle.soundness.proofs.parts.is_permutation.Goals as goal
 
 pub loop-i-init : goal.loop-i-init
 loop-i-init c = (omega arith, seen_none c.args.t.now)
-
-pub overflow_cast-row : goal.overflow_cast-row
-overflow_cast-row c = omega (arith, c.shared_slice_known-1.given (96 + c.loop-i.i))
 
 pub returns-then-row-ge-KEYS : goal.returns-then-row-ge-KEYS
 unfolding place_of

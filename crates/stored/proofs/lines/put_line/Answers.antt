@@ -10,11 +10,7 @@ pub returns-then-out-at : goal.returns-then-out-at
 returns-then-out-at c = let s = c.args in
     laid-short (line s.s.now) s.at s.out.now (omega (arith, line_length s.s.now))
 
-pub returns-then-out-at-2 : goal.returns-then-out-at-2
-returns-then-out-at-2 c = let s = c.args in
-    laid-short (line s.s.now) s.at s.out.now (omega (arith, line_length s.s.now))
-
 pub returns : goal.returns
 returns c =
     let s = c.args in
-    line-put s.s.now s.out.now s.at (λ i. omega (arith, c.shared_slice_known-1.given i)) (omega arith) c.put_raw.ensures c.make_line.ensures
+    line-put s.s.now s.out.now s.at (λ i. omega (arith, c.type_inv.s i)) (omega arith) c.put_raw.ensures c.make_line.ensures

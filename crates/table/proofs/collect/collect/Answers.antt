@@ -16,21 +16,6 @@ use Rattle.table.proofs.collect.collect.Goals.{then-row_stands, else-row_stands}
 pub loop-p-init : goal.loop-p-init
 loop-p-init c = walked_none _ _ _ (insertion_is c.place_for-p.ensures).within
 
-pub row_by_key-row-requires : goal.row_by_key-row-requires
-row_by_key-row-requires c = (omega arith, omega (arith, c.count-n.ensures.1))
-
-pub bounds-numbers-at : goal.bounds-numbers-at
-bounds-numbers-at c = let l = c in
-    omega (arith, l.loop-p.invariant.few, c.loop-p-test.true, l.count-n.ensures.0, l.count-n.ensures.1)
-
-pub bounds-numbers-at-then-row_stands : goal.bounds-numbers-at-then-row_stands
-bounds-numbers-at-then-row_stands c = let l = c in
-    omega (arith, l.loop-p.invariant.few, c.loop-p-test.true, l.count-n.ensures.0, l.count-n.ensures.1)
-
-pub overflow_add-many : goal.overflow_add-many
-overflow_add-many c = let l = c in
-    omega (arith, l.loop-p.invariant.few, c.loop-p-test.true, l.count-n.ensures.0, l.count-n.ensures.1)
-
 pub loop-p-preserved : goal.loop-p-preserved
 loop-p-preserved c =
     let l = c in
@@ -39,7 +24,7 @@ loop-p-preserved c =
     let p = l.loop-p.p in
     let now = s.args.second.0 in
     let first = l.place_for-p.result in
-    let q : p < count_of t = omega (arith, c.loop-p-test.true, l.count-n.ensures.0) in
+    let q : p < count_of t = omega (arith, c.loop-p-test.true, l.count-p-end.ensures.0) in
     let r = c.row_by_key-row.ensures.0 in
     let e = c.row_stands.ensures in
     let x = ap (λ (i : ℕ). expired now (row_entry t i)) (sym r) in
@@ -55,7 +40,4 @@ loop-p-preserved c =
 
 pub returns : goal.returns
 returns c = let l = c in
-    walked_all _ _ _ _ _ _ l.loop-p.invariant _ l.requires (omega (arith, l.count-n.ensures.0)) l.place_for-p.ensures
-
-pub row_stands-requires : goal.row_stands-requires
-row_stands-requires c = (omega arith, omega arith)
+    walked_all _ _ _ _ _ _ l.loop-p.invariant _ l.told-t (omega (arith, l.count-p-end.ensures.0)) l.place_for-p.ensures

@@ -28,4 +28,4 @@ returns c =
     let l = c in
     let n = l in
     let s = n in
-    l.loop-i.invariant.2 ∙ ap (standing_of s.args.second.0 s.args.t.now) (omega (arith, n.count-n.ensures.0)) ∙ standing-held s.args.second.0 s.args.t.now s.requires
+    l.loop-i.invariant.2 ∙ ap (standing_of s.args.second.0 s.args.t.now) (omega (arith, n.count-i-end.ensures.0)) ∙ standing-held s.args.second.0 s.args.t.now s.told-t

@@ -10,17 +10,11 @@ deadline-requires c = omega (arith, count_most c.args.t.now)
 
 pub returns-then-not-in_time : goal.returns-then-not-in_time
 returns-then-not-in_time c =
-    let r = c.before.before in
-    let i = r.before.before in
-    let a = i.before in
-    let d = a in
-    let s = d.args in
-    r.remove_row.ensures
-    ∙ sym (less_yes s.second.0 s.i s.t.now (gone_at s.second.0 s.t.now s.i _ _ d.deadline.ensures a.in_time.ensures (i.if-not-in_time.true)))
+    let s = c.args in
+    c.remove_row.ensures
+    ∙ sym (less_yes s.second.0 s.i s.t.now (gone_at s.second.0 s.t.now s.i _ _ c.deadline.ensures c.in_time.ensures (c.if-not-in_time.true)))
 
 pub returns-else-not-in_time : goal.returns-else-not-in_time
 returns-else-not-in_time c =
-    let a = c.before in
-    let d = a in
-    let s = d.args in
-    sym (less_no s.second.0 s.i s.t.now (stands_at s.second.0 s.t.now s.i _ _ d.deadline.ensures a.in_time.ensures (c.if-not-in_time.false)))
+    let s = c.args in
+    sym (less_no s.second.0 s.i s.t.now (stands_at s.second.0 s.t.now s.i _ _ c.deadline.ensures c.in_time.ensures (c.if-not-in_time.false)))

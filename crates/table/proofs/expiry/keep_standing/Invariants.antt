@@ -1,10 +1,6 @@
 -- `table::expiry::keep_standing` meets its contract. The loop's invariant: the rows passed that stand are kept. Assumes nothing.
-use Prim.Native.Nat.{◌-◌}
 use Rattle.table.proofs.KeepStanding.{Sifted}
 use Rattle.table.proofs.expiry.keep_standing.Given as goal
 
 abbrev pub invariant-loop-p : goal.invariant-loop-p
 invariant-loop-p l = Sifted l.second.0 l.initial.t l.t l.kept l.p
-
-abbrev pub decreases-loop-p : goal.decreases-loop-p
-decreases-loop-p l = l.n - l.p

@@ -6,6 +6,3 @@ use Rattle.table.proofs.expiry.row_stands.Goals as goal
 pub returns : goal.returns
 unfolding expired entry_of entry
 returns c = rw c.get64-d.ensures at c.in_time.ensures
-
-pub in_time-requires : goal.in_time-requires
-in_time-requires c = tt

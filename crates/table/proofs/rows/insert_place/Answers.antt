@@ -7,7 +7,7 @@ use Rattle.table.proofs.rows.insert_place.Goals as goal
 pub insert-requires : goal.insert-requires
 insert-requires c =
     let n = c.count-held.ensures.0 in
-    (omega arith, omega (arith, n, (insertion_is c.place_for-p.ensures).within), omega (arith, n))
+    (omega (arith, n, (insertion_is c.place_for-p.ensures).within), omega (arith, n))
 
 pub returns : goal.returns
 unfolding place_of

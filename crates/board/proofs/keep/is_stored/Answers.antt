@@ -1,6 +1,0 @@
--- `board::keep::is_stored` meets its contract. Assumes nothing.
-use Rattle.wire.proofs.Laws.{never}
-use Rattle.board.proofs.keep.is_stored.Goals as goal
-
-pub returns-in_default : goal.returns-in_default
-returns-in_default c e = never (cc)

@@ -1,8 +1,0 @@
--- `rules::old_form` meets its contract. Assumes nothing.
-use Rattle.rules.proofs.old_form.Goals as goal
-
-pub returns-then-flag : goal.returns-then-flag
-returns-then-flag c = rw c.if-flag.true
-
-pub returns-else-flag : goal.returns-else-flag
-returns-else-flag c = rw c.if-flag.false

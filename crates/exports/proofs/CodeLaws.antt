@@ -7,7 +7,7 @@ use mathlib.Core.Logic.{⊎_elim}
 use Prim.Native.Nat.{ℕ, ◌+◌, ◌-◌, ◌≤◌, ◌<◌, ◌^◌}
 use native.Mathlib.Omega.{arith}
 use lib.ListN.{length, drop, get_or, length-drop}
-use lib.Dec.{leb}
+use lib.Dec.{leb, eqb}
 use borrow.Author.Tests.{leb-true, le-leb, lt-leb}
 use Rattle.wire.specs.Codec.{Read, whole, more, refused, after, mapped, read_at, Codec}
 use Rattle.wire.specs.Listed.{item}
@@ -16,6 +16,8 @@ use Rattle.wire.proofs.Laws.{Laws, both, after-whole, sized}
 use Rattle.wire.proofs.ListedLaws.{item_laws}
 use Rattle.field.specs.declared.Span.{Span}
 use Rattle.message.specs.Listing.{item_of}
+use Rattle.message.specs.Operation.{code_of}
+use Rattle.message.specs.Reply.{bulk_operation}
 use Rattle.message.proofs.ListingLaws.{item_of_laws}
 use Rattle.listing.specs.EntryRead.{item_at}
 use Rattle.table.specs.Memory.{state_of}
@@ -143,3 +145,8 @@ module _ (k : ℕ) (old : List ℕ) where
   pub if-room : (still done : Type 0) → k ≤ length old → done → IfRoom k old still done
   unfolding IfRoom
   if-room still done h d = rw (le-leb k (length old) h) d
+
+-- entries are asked for with their values, or by their keys, by the operation's code
+pub asks-values : (values : Bool) → eqb (code_of (bulk_operation values)) 0x19 ≡ values
+asks-values true = refl
+asks-values false = refl

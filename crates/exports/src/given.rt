@@ -1,7 +1,5 @@
 // The numbers of a message that the caller gives.
-ghost use Rattle.std.specs.Prelude.{◌≡◌, eqb};
-ghost use Rattle.message.specs.Operation.{code_of};
-ghost use Rattle.message.specs.Reply.{bulk_operation};
+ghost use Rattle.std.specs.Prelude.{◌≡◌};
 ghost use Rattle.exports.specs.Messages.{is_head, head_with, HeadFits, is_reply_head, reply_head_with, ReplyHeadFits};
 
 use field::EntryVersion;
@@ -50,11 +48,4 @@ pub(crate) fn reply_head(ns: &[u64]) -> ReplyHead
         status: ns[2] as u8,
         entry: EntryVersion(ns[3]),
     }
-}
-
-// The code of bulkGet, or of bulkGetKeys where values are not asked for.
-pub(crate) fn bulk_code(values: bool) -> u8
-    ensures { (result ≡ code_of (bulk_operation values)) × (eqb result 0x19 ≡ values) }
-{
-    if values { 0x19 } else { 0x1d }
 }

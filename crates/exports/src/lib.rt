@@ -157,7 +157,7 @@ pub extern "C" fn fq_write_entries(
 {
     let a = Asked {
         version,
-        op: given::bulk_code(values),
+        op: u8::from(Operation::bulk(values)),
         flag: false,
     };
     tell::sent(reply_writer::write_entries(out, a, id, bytes, numbers))

@@ -28,11 +28,11 @@ pub struct Span {
 
 // The version of an entry: a serial number.
 // It and `Second` are two structs of a number, as the papers name them, so that neither is taken for the other.
-#[derive(Clone, Copy)]
+#[derive(Clone, Copy, PartialEq, Eq, PartialOrd, Ord)]
 pub struct EntryVersion(pub u64);
 
 // A second: a time.
-#[derive(Clone, Copy)]
+#[derive(Clone, Copy, PartialEq, Eq, PartialOrd, Ord)]
 pub struct Second(pub u64);
 
 // The two kinds of number on the wire.

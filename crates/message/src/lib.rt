@@ -5,6 +5,7 @@ ghost use Rattle.field.specs.FieldRead.{part_of};
 ghost use Rattle.message.specs.Operation.{code_of, found_by, find_code};
 ghost use Rattle.message.specs.Arguments.{name_limit, key_limit, value_limit};
 ghost use Rattle.message.specs.Payload.{text_limit};
+ghost use Rattle.message.specs.Reply.{bulk_operation};
 
 use field::{EntryVersion, Refusal, Span};
 
@@ -160,6 +161,19 @@ impl Reply {
         ensures { result.now ≡ part_of s.now self.text }
     {
         field::part(s, self.text)
+    }
+}
+
+impl Operation {
+    // The operation that asks for the entries, with their values or by their keys alone.
+    pub fn bulk(values: bool) -> Operation
+        ensures { result ≡ bulk_operation values }
+    {
+        if values {
+            Operation::BulkGet
+        } else {
+            Operation::BulkGetKeys
+        }
     }
 }
 

@@ -73,7 +73,7 @@ fn if_same(held: Option<Held>, asked: EntryVersion, change: Change) -> Plan
     let Some(held) = held else {
         return planned(0x02, Change::Keep);
     };
-    if held.version.0 == asked.0 {
+    if held.version == asked {
         planned(0x00, change)
     } else {
         planned(0x01, Change::Keep)
@@ -138,7 +138,7 @@ pub fn refusal_of(
     if is_full(t, held, second) {
         return Err(Refusal::Full);
     }
-    if Table::LAST_VERSION <= table::last(t).0 {
+    if Table::LAST_VERSION <= table::last(t) {
         return Err(Refusal::Versions);
     }
     Ok(())

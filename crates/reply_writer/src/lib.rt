@@ -18,7 +18,7 @@ ghost use Rattle.message.specs.Refusal.{refusal};
 ghost use Rattle.reply_writer.specs.Frame.{framed, error_of, answers_to, sent_head};
 
 use field::{EntryVersion, Refusal};
-use message::{Asked, Form, ReplyHead};
+use message::{Asked, Form, Operation, ReplyHead};
 use statistics::Statistics;
 use write::Answer;
 
@@ -102,7 +102,7 @@ pub fn write_entries(
 ) -> Result<usize, Refusal>
     ensures { (as_sent result, out.new) ≡ send (reply asked) (entries_reply asked id (listed_in bytes.now numbers.now)) out.old }
 {
-    let values = asked.op == 0x19;
+    let values = asked.op == u8::from(Operation::BulkGet);
     if !is_reply(asked, listed::bulk_code(values)) {
         return Err(Refusal::Message);
     }
@@ -113,7 +113,7 @@ pub fn write_entries(
 pub fn write_bulk_head(out: &mut [u8], asked: Asked, id: u64) -> Result<usize, Refusal>
     ensures { (as_sent result, out.new) ≡ sent_head asked id out.old }
 {
-    let values = asked.op == 0x19;
+    let values = asked.op == u8::from(Operation::BulkGet);
     if !is_reply(asked, listed::bulk_code(values)) {
         return Err(Refusal::Message);
     }

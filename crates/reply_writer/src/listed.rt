@@ -10,12 +10,13 @@ ghost use Rattle.reply_writer.specs.Frame.{framed};
 
 use crate::header;
 use field::Refusal;
+use message::Operation;
 
 // The operation of a reply to bulkGet, or to bulkGetKeys.
 pub(crate) fn bulk_code(values: bool) -> u8
     ensures { result ≡ code_of (bulk_operation values) + 1 }
 {
-    if values { 0x1a } else { 0x1e }
+    u8::from(Operation::bulk(values)) + 1
 }
 
 // The header alone.

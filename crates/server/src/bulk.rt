@@ -13,7 +13,7 @@ ghost use Rattle.service.specs.Serve as stream;
 ghost use Rattle.server.specs.Bulk.{entry_pair, listed_pairs, Listable, sent_listed};
 
 use field::{Refusal, put};
-use message::{Asked, Request};
+use message::{Asked, Operation, Request};
 
 // How many entries are listed where n are asked for: all where n is 0.
 fn many(t: &[u8], n: u64) -> usize
@@ -63,5 +63,6 @@ pub(crate) fn write_bulk(
     ensures { Sound t.now → Valid v_long id → stream.bulk_room ≤ length out.old → (as_sent result, out.new) ≡ sent_listed asked id n (state_of t.now) out.old }
 {
     let at = reply_writer::write_bulk_head(out, asked, id)?;
-    Ok(put_entries(out, at, t, many(t, n), asked.op == 0x19))
+    let values = asked.op == u8::from(Operation::BulkGet);
+    Ok(put_entries(out, at, t, many(t, n), values))
 }

@@ -3,7 +3,7 @@ use mathlib.Core.Path.{ap}
 use native.Mathlib.Omega.{arith}
 use Rattle.exports.specs.Codes.{coded}
 use Rattle.exports.specs.Messages.{send_entries}
-use Rattle.exports.proofs.CodeLaws.{sent-fits}
+use Rattle.exports.proofs.CodeLaws.{sent-fits, asks-values}
 use Rattle.exports.proofs.fq_write_entries.Goals as goal
 
 pub sent-requires : goal.sent-requires
@@ -13,4 +13,4 @@ sent-requires c =
 pub returns : goal.returns
 unfolding send_entries
 returns c =
-    rw c.sent.ensures (rw (c.bulk_code.ensures.1, c.bulk_code.ensures.0) at (ap coded c.write_entries.ensures))
+    rw c.sent.ensures (rw (asks-values c.args.values) at (rw (c.from.ensures, c.bulk.ensures) at (ap coded c.write_entries.ensures)))

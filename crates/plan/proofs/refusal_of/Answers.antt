@@ -1,6 +1,6 @@
 -- `plan::refusal_of` meets its contract. Assumes nothing.
 use mathlib.Core.Path.{sym, ◌∙◌}
-use native.Mathlib.Omega.{arith}
+use Rattle.std.proofs.Common.{rules}
 use borrow.Author.Tests.{lt-ltb, le-ltb}
 use Rattle.map.specs.Step.{last_version}
 use Rattle.table.specs.Memory.{state_of}
@@ -16,13 +16,13 @@ pub returns-then-is_full : goal.returns-then-is_full
 unfolding refusal_of
 returns-then-is_full c = let f = c in rw (f.in-Store.is, sym f.is_full.ensures ∙ c.if-is_full.true)
 
-pub returns-then-last-ge-LAST_VERSION : goal.returns-then-last-ge-LAST_VERSION
+pub returns-then-le : goal.returns-then-le
 unfolding refusal_of
-returns-then-last-ge-LAST_VERSION c =
+returns-then-le c =
     let l = c in
     let e = l in
     let f = e.before in
-    rw (f.in-Store.is, sym f.is_full.ensures ∙ e.if-is_full.false, le-ltb ((state_of c.args.t.now).last) last_version (omega (arith, l.last.ensures)))
+    rw (f.in-Store.is, sym f.is_full.ensures ∙ e.if-is_full.false, le-ltb ((state_of c.args.t.now).last) last_version (search (rules, l.last.ensures)))
 
 pub returns : goal.returns
 unfolding refusal_of
@@ -30,4 +30,4 @@ returns c =
     let l = c in
     let e = l in
     let f = e.before in
-    rw (f.in-Store.is, sym f.is_full.ensures ∙ e.if-is_full.false, lt-ltb ((state_of c.args.t.now).last) last_version (omega (arith, l.last.ensures)))
+    rw (f.in-Store.is, sym f.is_full.ensures ∙ e.if-is_full.false, lt-ltb ((state_of c.args.t.now).last) last_version (search (rules, l.last.ensures)))

@@ -1,5 +1,6 @@
 -- `soundness::is_sound` meets its contract: each test is one of the facts that make the memory sound. Assumes nothing.
 use native.Mathlib.Omega.{arith}
+use Rattle.std.proofs.Common.{rules}
 use Rattle.table.specs.Memory.{count_index}
 use Rattle.table.proofs.Lists.{says_no, refuted}
 use Rattle.table.proofs.Answers.{header_in}
@@ -10,8 +11,8 @@ use Rattle.soundness.proofs.is_sound.Goals as goal
 pub returns-then-header : goal.returns-then-header
 returns-then-header c = says_no (λ s. omega (arith, s.layout.counted, header_in c.args.t.now count_index s.layout.long (omega arith)))
 
-pub returns-then-last-gt-LAST_VERSION : goal.returns-then-last-gt-LAST_VERSION
-returns-then-last-gt-LAST_VERSION c = says_no (λ s. omega (arith, s.table.last))
+pub returns-then-gt : goal.returns-then-gt
+returns-then-gt c = says_no (λ s. search (rules, s.table.last))
 
 pub returns-then-not-seconds_within : goal.returns-then-not-seconds_within
 returns-then-not-seconds_within c = says_no (λ s. refuted c.seconds_within.ensures (c.if-not-seconds_within.true) (sound-seconds _ s))
@@ -31,7 +32,7 @@ returns-then-not-rising c = says_no (λ s. refuted c.rising.ensures (c.if-not-ri
 pub returns : goal.returns
 returns c =
     let t = c.args.t.now in (
-      λ d. checked t c.told-t (omega (arith, header_in t count_index c.told-t (omega arith), c.header.ensures, c.if-header.false)) (omega (arith, c.last.ensures, c.if-last-gt-LAST_VERSION.false)) (c.is_permutation.ensures.0 (c.if-not-is_permutation.false))
+      λ d. checked t c.told-t (omega (arith, header_in t count_index c.told-t (omega arith), c.header.ensures, c.if-header.false)) (search (rules, c.last.ensures, c.if-gt.false)) (c.is_permutation.ensures.0 (c.if-not-is_permutation.false))
           (c.all_within.ensures.0 (c.if-not-all_within.false)) (c.rising.ensures.0 (c.if-not-rising.false))
           (found-order t (c.is_permutation.ensures.0 (c.if-not-is_permutation.false)) (c.is_in_order.ensures.0 d)) (c.counts_within.ensures.0 (c.if-not-counts_within.false)) (c.seconds_within.ensures.0 (c.if-not-seconds_within.false))
           (λ i. omega (arith, c.fits-t i)),

@@ -27,6 +27,7 @@ returns c s v h =
     let es = listed_pairs values a.n (state_of a.t.now) in
     let g = listed-valid a.n a.t.now values s in
     let q = head_sent a.asked a.id a.out.now c.write_bulk_head.ensures _ (ap as_sent c.in_ok-at.was) in
+    let p = rw c.from.ensures at c.put_entries.ensures in
     bulk-behind values a.id es a.out.now v g (omega (arith, h, v_long-most.most a.id v, listed-most a.n a.t.now values s)) q.1
-    (λ r. c.put_entries.ensures a.n (record { many = c.many.ensures; valid = g; room = r }))
+    (λ r. p a.n (record { many = c.many.ensures; valid = g; room = r }))
     ∙ send-bulk a.asked values a.id es a.out.now q.0

@@ -62,12 +62,17 @@ def programs(path):
         yield Program(name[1] if name else path.split('/')[-1].rsplit('.', 1)[0], part)
 
 
+def word_of(kind):
+    """A type in one word, as the folders of proofs have it: `u8` is `U8`, and an array is one of what it is of and how many."""
+    return 'Array' * kind.startswith('[') + ''.join(word[:1].upper() + word[1:] for word in re.findall(r'\w+', kind))
+
+
 def impl_of(text):
     """The folder of the functions of an `impl` that begins with this line: the type's name, or for one of a trait the type, the trait and its argument in one word."""
-    start = re.match(r'impl(?:<[^>]*>)? (\w+)(?:<(\w*)[^>]*>)?(?: for (\w+))?', text)
-    if not start or not start[3]:
-        return start and start[1]
-    return ''.join(word[:1].upper() + word[1:] for word in (start[3], start[1], start[2] or ''))
+    start = re.match(r'impl(?:<[^>]*>)? (?:(\w+)(?:<(.*)>)? for )?(\w+|\[.*\])', text)
+    if not start or not start[1]:
+        return start and start[3]
+    return word_of(start[3]) + word_of(start[1]) + word_of(start[2] or '')
 
 
 def function_at(crate, module, line):

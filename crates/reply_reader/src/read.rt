@@ -86,6 +86,8 @@ fn read_listed(s: &[u8], c: Cursor, head: ReplyHead, values: bool) -> Found
 
 // The body behind a header, whose entry version is not read yet.
 // A match on the form, each of which has a reader with a contract of its own.
+// Compiled into its caller, as `field::read_number` is: a reply without a body would take a quarter longer to read.
+#[inline(always)]
 fn read_body(s: &[u8], c: Cursor, head: ReplyHead, form: Form) -> Found
     requires a_value { head.entry.0 ≡ 0 }
     requires op_value { bulk_of head.op ≡ listed_of form }

@@ -47,11 +47,9 @@ fn limited_len(s: &[u8], lim: u64) -> Option<usize>
 fn text_len(s: &[u8], lim: u64) -> Option<usize>
     ensures { result ≡ size_of (limited_text lim) s.now }
 {
-    if text::is_text(s) {
-        limited_len(s, lim)
-    } else {
-        None
-    }
+    // The length first, so that no byte of a text that is too long is looked at.
+    let n = limited_len(s, lim)?;
+    if text::is_text(s) { Some(n) } else { None }
 }
 
 impl Answer<'_> {

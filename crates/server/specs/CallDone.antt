@@ -1,6 +1,7 @@
 -- What the answers of a call and of a stream of calls say: what was taken and sent, and what the call left.
 use Rattle.std.specs.Prelude.{◌≡◌, List, ℕ, ◌-◌, ◌≤◌, length, take, drop}
 use Rattle.std.proofs.lemmas.List.Edits.{sets}
+use Rattle.field.specs.declared.refusals.Refusal.{Refusal}
 use Rattle.field.specs.Refusal.{number_of}
 use Rattle.map.specs.Reply.{Piece, flat}
 use Rattle.service.specs.Serve as stream
@@ -14,11 +15,15 @@ use Rattle.server.specs.declared.Verdict.TheVariants as v
 use Rattle.server.specs.declared.Answer.{Answer}
 use Rattle.server.specs.declared.Streamed.{Streamed}
 
-abbrev pub as_verdict : Verdict → stream.Verdict
-as_verdict v.Served = stream.served
-as_verdict v.More = stream.more
-as_verdict (v.Refused k) = stream.refused (number_of k)
-as_verdict v.Full = stream.full
+-- how a call of the code ended, by the number that a refusal has
+abbrev pub as_verdict_by : {R : Type 0} → (R → ℕ) → Verdict R → stream.Verdict
+as_verdict_by number v.Served = stream.served
+as_verdict_by number v.More = stream.more
+as_verdict_by number (v.Refused k) = stream.refused (number k)
+as_verdict_by number v.Full = stream.full
+
+abbrev pub as_verdict : Verdict Refusal → stream.Verdict
+as_verdict v = as_verdict_by number_of v
 
 abbrev pub as_answer : Answer → stream.Answer
 as_answer a = record { taken = a.taken; verdict = as_verdict a.verdict }

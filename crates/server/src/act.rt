@@ -27,7 +27,7 @@ use plan::{Change, Held};
 use table::Table;
 
 // Nothing sent.
-pub(crate) fn unsent(taken: usize, verdict: Verdict) -> Answer
+pub(crate) fn unsent(taken: usize, verdict: Verdict<Refusal>) -> Answer
     ensures { Says taken 0 (as_verdict verdict) result }
 {
     Answer {
@@ -38,7 +38,7 @@ pub(crate) fn unsent(taken: usize, verdict: Verdict) -> Answer
 }
 
 // The answer with a reply that was written.
-fn ended(w: Result<usize, Refusal>, taken: usize, verdict: Verdict) -> Answer
+fn ended(w: Result<usize, Refusal>, taken: usize, verdict: Verdict<Refusal>) -> Answer
     ensures { (n : ℕ) → as_sent w ≡ written n → Says taken n (as_verdict verdict) result }
 {
     Answer {

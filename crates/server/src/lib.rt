@@ -11,34 +11,55 @@ ghost use Rattle.map.specs.Step.{context_of};
 ghost use Rattle.service.specs.Stream.{Serves};
 ghost use Rattle.service.specs.Many.{is_short, at, Streams};
 ghost use Rattle.service.specs.Shares.{verdict_code};
-ghost use Rattle.server.specs.CallDone.{as_verdict, done_of, total_of, Ready, CallsAt};
+ghost use Rattle.server.specs.CallDone.{as_verdict, as_verdict_by, done_of, total_of, Ready, CallsAt};
 ghost use Rattle.server.specs.Lines.{ServesLines};
 ghost use Rattle.server.specs.Gives.{Begun, ServesMany};
 
 use context::Context;
 use field::{Refusal, Second};
 
-// How a call ended, or a stream: full is a stream that needs an emptied reply buffer.
+// How a call ended, or a stream: full is a stream that needs an emptied reply buffer. A refusal is one of `Refusal`, or any number.
 // The four ends are those of the service, each with a number of its own for C callers: no `Option` or `Result` has as many.
 #[derive(Clone, Copy)]
-pub enum Verdict {
+pub enum Verdict<R> {
     Served,
     More,
-    Refused(Refusal),
+    Refused(R),
     Full,
 }
 
-// The same as a number: 256 for served, 0 for more needed, the refusal's, or 257 for full.
-impl From<Verdict> for u64 {
+// The same as a number: 256 for served, 0 for more needed, the refusal's, whatever number that is, or 257 for full.
+// A function beside the conversion of a `Verdict<Refusal>`, since it answers for every number and not for those of `Refusal` alone.
+pub fn verdict_code(v: Verdict<u64>) -> u64
+    ensures { result ≡ verdict_code (as_verdict_by (λ k. k) v) }
+{
+    match v {
+        Verdict::Served => 256,
+        Verdict::More => 0,
+        Verdict::Refused(k) => k,
+        Verdict::Full => 257,
+    }
+}
+
+impl Verdict<Refusal> {
+    // The same with the refusal's number.
+    fn numbered(self) -> Verdict<u64>
+        ensures { as_verdict_by (λ k. k) result ≡ as_verdict self }
+    {
+        match self {
+            Verdict::Served => Verdict::Served,
+            Verdict::More => Verdict::More,
+            Verdict::Refused(refusal) => Verdict::Refused(u16::from(refusal) as u64),
+            Verdict::Full => Verdict::Full,
+        }
+    }
+}
+
+impl From<Verdict<Refusal>> for u64 {
     ghost from_gives = { λ v n. n ≡ verdict_code (as_verdict v) };
 
-    fn from(verdict: Verdict) -> u64 {
-        match verdict {
-            Verdict::Served => 256,
-            Verdict::More => 0,
-            Verdict::Refused(refusal) => u16::from(refusal) as u64,
-            Verdict::Full => 257,
-        }
+    fn from(verdict: Verdict<Refusal>) -> u64 {
+        verdict_code(verdict.numbered())
     }
 }
 
@@ -47,7 +68,7 @@ impl From<Verdict> for u64 {
 pub struct Answer {
     pub taken: usize,
     pub size: usize,
-    pub verdict: Verdict,
+    pub verdict: Verdict<Refusal>,
 }
 
 impl Answer {
@@ -76,10 +97,10 @@ pub struct Streamed {
     pub taken: usize,
     pub size: usize,
     pub calls: usize,
-    pub verdict: Verdict,
+    pub verdict: Verdict<Refusal>,
 }
 
-fn all_calls(taken: usize, size: usize, calls: usize, verdict: Verdict) -> Streamed
+fn all_calls(taken: usize, size: usize, calls: usize, verdict: Verdict<Refusal>) -> Streamed
     ensures { result ≡ record { taken = taken; size = size; calls = calls; verdict = verdict } }
 {
     Streamed {
@@ -113,7 +134,7 @@ fn call_at(
 }
 
 // Whether a call that ended so is refused because what is sent already has left too little room.
-fn waits(v: Verdict, used: bool, size: usize) -> bool
+fn waits(v: Verdict<Refusal>, used: bool, size: usize) -> bool
     ensures { result ≡ (is_short (as_verdict v) && (used || ltb 0 size)) }
 {
     matches!(v, Verdict::Refused(Refusal::Room)) && (used || 0 < size)

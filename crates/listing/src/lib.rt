@@ -41,6 +41,8 @@ fn read_pair(s: &[u8], c: Cursor, values: bool) -> Read<Entry>
 }
 
 // The entry at the cursor, or none at the end of the list.
+// Compiled into its callers, as `field::read_number` is: the end of a list would take twice as long.
+#[inline(always)]
 pub fn next_entry(s: &[u8], c: Cursor, values: bool) -> Read<Option<Entry>>
     ensures { as_entry result ≡ mapped (item_at c.at) (read_at (item (item_of values)) s.now c.at) }
 {

@@ -137,6 +137,10 @@ module _ (c : Codec Payload) (r : Reply) where
   After old (Ok u) = Judged old
   After old (Err k) = (kept (number_of k), old) ≡ send (framed c) r old
 
+  -- an id that has no written form is refused, whatever the body
+  pub unsent-id : r.op < 256 → r.status < 256 → 0x7fff_ffff_ffff_ffff < r.id → (old : List ℕ) → (kept 16, old) ≡ send (framed c) r old
+  unsent-id h l f old = send-broken (framed c) r old (sym (framed-ok h l) ∙ rw (id-bad r.id f))
+
   pub judgement : r.op < 256 → r.status < 256 → (b : rust.Option ℕ) → b ≡ size_of c r.payload → (old : List ℕ) (x : Result (Unit {0}) Refusal)
       → x ≡ judged r.id b (length old) → After old x
   judgement h l b e old x q = body (c.ok r.payload) refl (q ∙ rw e)
@@ -147,8 +151,7 @@ module _ (c : Codec Payload) (r : Reply) where
       fits : Valid c r.payload → (u w : Bool) → ltb 0x7fff_ffff_ffff_ffff r.id ≡ u → leb n (length old) ≡ w
           → x ≡ cond u (Err k.Message) (cond w (Ok tt) (Err k.Room)) → After old x
       fits v true w f g y =
-          subst (After old) (sym y)
-          (send-broken (framed c) r old (sym (framed-ok h l) ∙ rw (id-bad r.id (ltb-true 0x7fff_ffff_ffff_ffff r.id f))))
+          subst (After old) (sym y) (unsent-id h l (ltb-true 0x7fff_ffff_ffff_ffff r.id f) old)
       fits v false w f g y =
           let i : r.id ≤ 0x7fff_ffff_ffff_ffff = ltb-false 0x7fff_ffff_ffff_ffff r.id f in
           let d : Valid (framed c) r = sym (framed-ok h l) ∙ and (id-good r.id i) v in

@@ -14,6 +14,10 @@ use statistics::Statistics;
 pub(crate) fn write_counted(out: &mut [u8], id: u64, x: Statistics) -> Result<usize, Refusal>
     ensures { (as_sent result, out.new) ≡ send (framed statistics_body) (statistics_reply id (list_of x)) out.old }
 {
+    // The id first, as in `Answer::write`.
+    if 0x7fff_ffff_ffff_ffff < id {
+        return Err(Refusal::Message);
+    }
     if !statistics::put::can_send(x) {
         return Err(Refusal::Message);
     }

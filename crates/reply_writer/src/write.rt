@@ -95,6 +95,10 @@ impl Answer<'_> {
         ensures { (as_sent result, out.new) ≡ send (framed (fields_of self.entry.form)) (reply_in self.entry) out.old }
     {
         let h = self.head;
+        // The id first: where it has no written form, nothing else is looked at.
+        if 0x7fff_ffff_ffff_ffff < h.id {
+            return Err(Refusal::Message);
+        }
         header::judge(h.id, self.body_len(), out.len())?;
         let at = header::put_header(out, h.id, h.op, h.status);
         Ok(self.put_body(out, at))

@@ -9,8 +9,12 @@ use Rattle.statistics.specs.Statistics.{list_of}
 use Rattle.message.specs.Sent.{as_sent}
 use Rattle.message.specs.Payload.{statistics_body}
 use Rattle.message.specs.Reply.{statistics_reply}
-use Rattle.reply_writer.proofs.SendLaws.{judgement, behind-header, framed-sent, counted-sized, counted-unsized, put-counted}
+use Rattle.reply_writer.proofs.SendLaws.{unsent-id, judgement, behind-header, framed-sent, counted-sized, counted-unsized, put-counted}
 use Rattle.reply_writer.proofs.counted.write_counted.Goals as goal
+
+pub returns-then-id-gt9223372036854775807 : goal.returns-then-id-gt9223372036854775807
+returns-then-id-gt9223372036854775807 c =
+    unsent-id statistics_body (statistics_reply c.args.id (list_of c.args.x)) (lit< tt) (lit< tt) c.if-id-gt9223372036854775807.true c.args.out.now
 
 pub returns-then-not-can_send : goal.returns-then-not-can_send
 returns-then-not-can_send c =

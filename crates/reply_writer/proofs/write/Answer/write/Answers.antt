@@ -5,8 +5,12 @@ use native.Mathlib.Omega.{arith}
 use borrow.Author.Rules.{rules}
 use Rattle.message.specs.Payload.{fields_of}
 use Rattle.reply_writer.specs.Answer.{reply_in}
-use Rattle.reply_writer.proofs.SendLaws.{judgement, behind-header, framed-sent, sized}
+use Rattle.reply_writer.proofs.SendLaws.{unsent-id, judgement, behind-header, framed-sent, sized}
 use Rattle.reply_writer.proofs.write.Answer.write.Goals as goal
+
+pub returns-then-h-gt9223372036854775807 : goal.returns-then-h-gt9223372036854775807
+returns-then-h-gt9223372036854775807 c =
+    unsent-id (fields_of c.args.self.form) (reply_in c.args.self) (omega arith) (omega arith) c.if-h-gt9223372036854775807.true c.args.out.now
 
 pub returns-in_err-judge : goal.returns-in_err-judge
 returns-in_err-judge c =
